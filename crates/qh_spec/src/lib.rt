@@ -1,0 +1,9 @@
+//! What the promises of this repository are made of: `specs/` has the definitions, in the words of RFC 9000, RFC 9114
+//! and RFC 9204, and this file the few types of which they speak. The crates above hand these types on.
+#![tactic(auto)]
+
+mod link;
+mod sides;
+
+pub use link::{Event, Select, Upset};
+pub use sides::{Dir, Side, Space};

@@ -1,0 +1,26 @@
+/// An end of a connection.
+#[derive(Clone, Copy, Debug, PartialEq, Eq, PartialOrd, Ord, Hash)]
+pub enum Side {
+    /// The end that opened the connection.
+    Client,
+    /// The end that accepted it.
+    Server,
+}
+
+/// Whether a stream carries bytes both ways or from its initiator alone (RFC 9000, section 2.1).
+#[derive(Clone, Copy, Debug, PartialEq, Eq, PartialOrd, Ord, Hash)]
+pub enum Dir {
+    /// Both ends send.
+    Bi,
+    /// The initiator alone sends.
+    Uni,
+}
+
+/// A packet number space (RFC 9000, section 12.3). There is no Handshake space: the session has no handshake keys.
+#[derive(Clone, Copy, Debug, PartialEq, Eq, PartialOrd, Ord, Hash)]
+pub enum Space {
+    /// That of Initial packets.
+    Initial,
+    /// That of 1-RTT packets.
+    Data,
+}
