@@ -1,0 +1,6 @@
+use Rattle.std.proofs.Common.{◌∙◌}
+use Rattle.std.proofs.lemmas.List.{take_all}
+use Rattle.qh_base.proofs.text.Name.copied.Goals as goal
+
+pub returns : goal.returns
+returns c = c.of.ensures ∙ take_all 255 _ c.bytes.ensures.short ∙ c.bytes.ensures.value

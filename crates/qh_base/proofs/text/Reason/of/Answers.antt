@@ -1,0 +1,7 @@
+use Rattle.std.proofs.lemmas.List.{take_min}
+use Rattle.qh_base.proofs.text.Reason.of.Goals as goal
+
+pub returns : goal.returns
+returns c =
+    let kept = rw c.unwrap.ensures at c.try_extend_from_slice.ensures.ok in
+    rw (kept, c.new-kept.ensures, c.min.ensures) (take_min 128 c.args.bytes.now)

@@ -1,0 +1,4 @@
+pub mod ConnectionId
+pub mod ConnectionIdInverse
+pub mod Io
+pub mod Varint

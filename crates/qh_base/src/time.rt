@@ -1,0 +1,34 @@
+ghost use Rattle.std.specs.Prelude.{◌≡◌, ◌+◌, ◌-◌, ◌*◌, ◌^◌, min};
+
+/// A moment, in whole nanoseconds since a start that whoever hands in the times has chosen.
+#[derive(Clone, Copy, Debug, PartialEq, Eq, PartialOrd, Ord, Hash)]
+pub struct Moment(pub u64);
+
+/// A length of time, in whole nanoseconds.
+#[derive(Clone, Copy, Debug, PartialEq, Eq, PartialOrd, Ord, Hash)]
+pub struct Span(pub u64);
+
+impl Moment {
+    /// The moment that much later, or the last one that there is.
+    pub fn plus(self, span: Span) -> Moment
+        ensures { result.0 ≡ min (2 ^ 64 - 1) (self.0 + span.0) }
+    {
+        Moment(self.0.saturating_add(span.0))
+    }
+
+    /// The time from an earlier moment to this one, none where that one isn't earlier.
+    pub fn since(self, earlier: Moment) -> Span
+        ensures { result.0 ≡ self.0 - earlier.0 }
+    {
+        Span(self.0.saturating_sub(earlier.0))
+    }
+}
+
+impl Span {
+    /// That many milliseconds, or the greatest length that there is.
+    pub fn from_millis(millis: u64) -> Span
+        ensures { result.0 ≡ min (2 ^ 64 - 1) (millis * 1000000) }
+    {
+        Span(millis.saturating_mul(1_000_000))
+    }
+}
