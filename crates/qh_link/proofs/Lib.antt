@@ -1,0 +1,5 @@
+pub mod Events
+pub mod Due
+pub mod Late
+pub mod Kept
+pub mod Sizes

@@ -1,0 +1,3 @@
+pub mod Link
+pub mod ScriptLink
+pub mod Ways
