@@ -1,0 +1,13 @@
+pub mod FramesRead
+pub mod FramesWritten
+pub mod Heads
+pub mod HeadsWritten
+pub mod LineAgain
+pub mod LineTakes
+pub mod LinesRead
+pub mod Places
+pub mod Requests
+pub mod Rows
+pub mod Weights
+pub mod Writing
+pub mod WrittenLines

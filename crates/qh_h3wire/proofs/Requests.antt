@@ -1,0 +1,132 @@
+-- The authority and the target of a request.
+use Rattle.std.proofs.Common.{◌≡◌, ◌≢◌, ℕ, true, false, List, refl, sym, ap, ◌∙◌, subst, Option, Some, None, Ok, Err, ◌↔◌, Bor, inl, inr}
+use Rattle.std.specs.Prelude.{bytes_eq, IsSome, IsErrOf}
+use Rattle.std.specs.Option.{option_map, option_copied}
+use Rattle.std.proofs.lemmas.Bool.{cases_Bool}
+use Rattle.std.proofs.lemmas.Slice.Eq.{bytes_eq-Decides}
+use Rattle.http_header.specs.FieldValue.{FieldValue}
+use Rattle.http_uri.specs.Uri.{PartsFit, IsUriOfParts}
+use Rattle.http_uri.specs.declared.uri.Parts.{Parts}
+use Rattle.http_uri.specs.declared.uri.Uri.{Uri as Target}
+use Rattle.qh_spec.specs.Message.{PlainTarget, target_of}
+use Rattle.qh_h3wire.specs.Header.{host_of, IsAuthorityOf, IsTargetOf}
+use Rattle.qh_h3wire.specs.HeaderFault.{authority_fault, IsHostAnswer, IsAuthorityAnswer, IsRequestFault}
+use Rattle.qh_h3wire.specs.PlainHeader.{PlainHeader}
+use Rattle.qh_h3wire.specs.declared.headers.HeaderError.{HeaderError}
+use Rattle.qh_h3wire.specs.declared.headers.HeaderError.TheVariants.{InvalidHeaderName, InvalidHeaderValue, InvalidRequest, MissingMethod, MissingStatus, MissingAuthority, ContradictedAuthority, Undecodable, Memory}
+
+-- the bytes of a value behind a reference
+pub host_bytes : (r : Option (Bor FieldValue)) → option_map (λ (v : Bor FieldValue). v.now.bytes) r ≡ option_map (λ (v : FieldValue). v.bytes) (option_copied r)
+host_bytes None = refl
+host_bytes (Some v) = refl
+
+abbrev pub Unlike : Option (List ℕ) → Option (List ℕ) → Type 0
+Unlike own host = (a : List ℕ) × (b : List ℕ) × (own ≡ Some a) × (host ≡ Some b) × (a ≢ b)
+
+-- both ways, for the two faults
+pub record Faulty (T : Type 0) (own host : Option (List ℕ)) (e : HeaderError) : Type 0 where
+  pub missing : IsErrOf {T = T} (Err e) MissingAuthority ↔ ((own ≡ None) × (host ≡ None))
+  pub contradicted : IsErrOf {T = T} (Err e) ContradictedAuthority ↔ Unlike own host
+
+missing_both : (T : Type 0) (own host : Option (List ℕ)) (e : HeaderError) → own ≡ None → host ≡ None → e ≡ MissingAuthority → Faulty T own host e
+missing_both T own host e o h f = record {
+  missing = (λ _. (o, h), λ _. ap (λ (z : HeaderError). Err z) f);
+  contradicted = (λ g. let same : e ≡ ContradictedAuthority = cc in let both : MissingAuthority ≡ ContradictedAuthority = sym f ∙ same in cc, λ u. let both : ◌≡◌ {A = Option (List ℕ)} None (Some u.0) = sym o ∙ u.2 in cc);
+}
+
+unlike_both : (T : Type 0) (own host : Option (List ℕ)) (a b : List ℕ) (e : HeaderError) → own ≡ Some a → host ≡ Some b → bytes_eq a b ≡ false → e ≡ ContradictedAuthority → Faulty T own host e
+unlike_both T own host a b e o h t f = record {
+  missing = (λ g. let same : e ≡ MissingAuthority = cc in let both : ContradictedAuthority ≡ MissingAuthority = sym f ∙ same in cc, λ u. let both : ◌≡◌ {A = Option (List ℕ)} (Some a) None = sym o ∙ u.0 in cc);
+  contradicted = (λ _. (a, b, o, h, λ q. let same : bytes_eq a b ≡ true = (bytes_eq-Decides a b).1 q in let both : true ≡ false = sym same ∙ t in cc), λ _. ap (λ (z : HeaderError). Err z) f);
+}
+
+pub faulty : (T : Type 0) (own host : Option (List ℕ)) (e : HeaderError) → Some e ≡ authority_fault own host → Faulty T own host e
+faulty T None None e h = let f : e ≡ MissingAuthority = cc in missing_both T None None e refl refl f
+faulty T None (Some b) e h = cc
+faulty T (Some a) None e h = cc
+faulty T (Some a) (Some b) e h =
+    elim (cases_Bool (bytes_eq a b)) [
+      | inl t ↦ let g = rw t at h in cc
+      | inr t ↦ let g = rw t at h in let f : e ≡ ContradictedAuthority = cc in unlike_both T (Some a) (Some b) a b e refl refl t f
+    ]
+
+-- the fault that was found is the one that is there
+answer_unlike : (T : Type 0) (own host : Option (List ℕ)) (e : HeaderError) → IsAuthorityAnswer (Err e) own host → IsErrOf {T = T} (Err e) ContradictedAuthority ↔ Unlike own host
+answer_unlike T None None e h =
+    let f : e ≡ MissingAuthority = cc in
+    (missing_both T None None e refl refl f).contradicted
+answer_unlike T (Some a) None e h = cc
+answer_unlike T (Some a) (Some b) e h =
+    elim (cases_Bool (bytes_eq a b)) [
+      | inl t ↦ let g = rw t at h in cc
+      | inr t ↦ let g = rw t at h in let f : e ≡ ContradictedAuthority = cc in (unlike_both T (Some a) (Some b) a b e refl refl t f).contradicted
+    ]
+answer_unlike T None (Some b) ContradictedAuthority h = absurd h
+answer_unlike T None (Some b) InvalidRequest h = (λ g. cc, λ u. let both : ◌≡◌ {A = Option (List ℕ)} None (Some u.0) = u.2 in cc)
+answer_unlike T None (Some b) Memory h = (λ g. cc, λ u. let both : ◌≡◌ {A = Option (List ℕ)} None (Some u.0) = u.2 in cc)
+answer_unlike T None (Some b) InvalidHeaderName h = absurd h
+answer_unlike T None (Some b) InvalidHeaderValue h = absurd h
+answer_unlike T None (Some b) MissingMethod h = absurd h
+answer_unlike T None (Some b) MissingStatus h = absurd h
+answer_unlike T None (Some b) MissingAuthority h = absurd h
+answer_unlike T None (Some b) Undecodable h = absurd h
+
+pub unlike_clause : (T : Type 0) (method own host : Option (List ℕ)) (e : HeaderError) → IsSome method → IsAuthorityAnswer (Err e) own host
+    → IsErrOf {T = T} (Err e) ContradictedAuthority ↔ (IsSome method × Unlike own host)
+unlike_clause T method own host e m h = let c = answer_unlike T own host e h in (λ g. (m, c.0 g), λ u. c.1 u.1)
+
+authority_found : (own host : Option (List ℕ)) (a : List ℕ) → IsAuthorityAnswer (Ok a) own host → IsAuthorityOf own host a
+authority_found None None a h = cc
+authority_found None (Some b) a h = h
+authority_found (Some own) None a h = let e : a ≡ own = cc in e
+authority_found (Some own) (Some b) a h =
+    elim (cases_Bool (bytes_eq own b)) [
+      | inl t ↦ let g = rw t at h in let e : a ≡ own = cc in (e, (bytes_eq-Decides own b).0 t)
+      | inr t ↦ let g = rw t at h in cc
+    ]
+
+-- a scheme and a path, or neither
+fit_both : (p : Parts) → IsSome p.authority → PartsFit p → IsSome p.scheme ↔ IsSome p.path_and_query
+fit_both p a f = (λ s. (f.0 s).1, λ d. f.1 (a, d))
+
+both_fit : (p : Parts) → IsSome p.authority → (IsSome p.scheme ↔ IsSome p.path_and_query) → PartsFit p
+both_fit p a b = (λ s. (a, b.0 s), λ d. b.1 d.1)
+
+abbrev parts : Option (List ℕ) → List ℕ → Option (List ℕ) → Parts
+parts scheme authority path = record { scheme = scheme; authority = Some authority; path_and_query = path }
+
+pub target_made : (h : PlainHeader) (authority : List ℕ) (u : Target) → IsAuthorityAnswer (Ok authority) h.authority (host_of h.fields) → PartsFit (parts h.scheme authority h.path) → IsUriOfParts (parts h.scheme authority h.path) u
+    → IsTargetOf h (target_of u)
+target_made h authority u a f is = record {
+  name = authority;
+  authority = authority_found h.authority (host_of h.fields) authority a;
+  authority_kept = is.1;
+  both = fit_both (parts h.scheme authority h.path) refl f;
+  scheme_kept = is.0;
+  path_kept = is.2;
+}
+
+pub no_target : (h : PlainHeader) (authority : List ℕ) → (PartsFit (parts h.scheme authority h.path) → ⊥) → (t : PlainTarget) → IsTargetOf h t → ⊥
+no_target h authority f t is = f (both_fit (parts h.scheme authority h.path) refl is.both)
+
+host_fault : (host : List ℕ) (e : HeaderError) → IsHostAnswer (Err e) host → IsRequestFault e
+host_fault host InvalidRequest h = tt
+host_fault host Memory h = tt
+host_fault host InvalidHeaderName h = absurd h
+host_fault host InvalidHeaderValue h = absurd h
+host_fault host MissingMethod h = absurd h
+host_fault host MissingStatus h = absurd h
+host_fault host MissingAuthority h = absurd h
+host_fault host ContradictedAuthority h = absurd h
+host_fault host Undecodable h = absurd h
+
+-- a fault of the authority is one of a request
+pub request_fault : (own host : Option (List ℕ)) (e : HeaderError) → IsAuthorityAnswer (Err e) own host → IsRequestFault e
+request_fault None None e h = let f : e ≡ MissingAuthority = cc in subst IsRequestFault (sym f) tt
+request_fault (Some a) None e h = cc
+request_fault None (Some b) e h = host_fault b e h
+request_fault (Some a) (Some b) e h =
+    elim (cases_Bool (bytes_eq a b)) [
+      | inl t ↦ let g = rw t at h in cc
+      | inr t ↦ let g = rw t at h in let f : e ≡ ContradictedAuthority = cc in subst IsRequestFault (sym f) tt
+    ]

@@ -1,0 +1,13 @@
+pub mod Chain
+pub mod Frame
+pub mod FrameAt
+pub mod FrameBytes
+pub mod Grown
+pub mod HeadFields
+pub mod Header
+pub mod HeaderFault
+pub mod HeaderField
+pub mod PlainHeader
+pub mod PseudoName
+pub mod Refused
+pub mod SectionAt
