@@ -1,0 +1,5 @@
+pub mod Connection
+pub mod Event
+pub mod Frame
+pub mod Session
+pub mod View
