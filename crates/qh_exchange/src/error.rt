@@ -1,0 +1,55 @@
+use qh_base::{ConnectionError, Memory};
+use qh_link::LinkFault;
+use thiserror::Error;
+
+/// Why an exchange ended without all its answers.
+#[derive(Debug, PartialEq, Eq, Drop, Error)]
+pub enum ExchangeError {
+    /// The request at this index breaks a rule, or is one too many. Nothing was sent. It isn't answered yet.
+    #[error("request {index} isn't valid")]
+    Invalid { index: usize },
+    /// The link failed.
+    #[error("the link failed")]
+    Link,
+    /// An end heard nothing for its idle time. It isn't answered yet.
+    #[error("timed out")]
+    TimedOut,
+    /// All rounds were made, and some answer is missing.
+    #[error("out of rounds")]
+    OutOfRounds,
+    /// An end lost its connection. It isn't answered yet.
+    #[error(transparent)]
+    Protocol(ConnectionError),
+    /// The allocator had no memory.
+    #[error("out of memory")]
+    Memory,
+    /// This stage carries one small request without fields, body and trailers, and an answer without fields and
+    /// trailers.
+    #[error("not built yet")]
+    Unbuilt,
+}
+
+impl From<LinkFault> for ExchangeError {
+    ghost use Rattle.std.specs.Prelude.{◌≡◌};
+    ghost use Rattle.qh_exchange.specs.Error.{error_of};
+
+    ghost from_gives = { λ fault error. error ≡ error_of fault };
+
+    fn from(fault: LinkFault) -> ExchangeError {
+        match fault {
+            LinkFault::Failed => ExchangeError::Link,
+            LinkFault::Memory => ExchangeError::Memory,
+        }
+    }
+}
+
+impl From<Memory> for ExchangeError {
+    ghost use Rattle.std.specs.Prelude.{◌≡◌};
+    ghost use Rattle.qh_exchange.specs.declared.error.ExchangeError.TheVariants.{Memory as OutOfMemory};
+
+    ghost from_gives = { λ _ error. error ≡ OutOfMemory };
+
+    fn from(_: Memory) -> ExchangeError {
+        ExchangeError::Memory
+    }
+}
