@@ -1,4 +1,4 @@
-ghost use Rattle.std.specs.Prelude.{◌≡◌, ℕ, ◌+◌, ◌-◌, ◌≤◌, ◌++◌, [], List, true, false, Some, None, Ok, is_some, length, slice_range, OnOk, OnErr, IfSome, IfNone};
+ghost use Rattle.std.specs.Prelude.{◌≡◌, ℕ, ◌+◌, ◌-◌, ◌≤◌, ◌++◌, [], List, true, false, Some, None, Ok, is_some, length, slice_range, OnOk, OnErr, IfSome, IfNone, IsOk};
 ghost use Rattle.std.specs.Int.{w32, to_be_bytes};
 ghost use Rattle.qh_spec.specs.Link.{other};
 ghost use Rattle.qh_spec.specs.Packet.{short_packet};
@@ -113,7 +113,8 @@ impl<S: Session> Connection<S> {
     pub fn send_plain(&mut self, payload: Bytes) -> Result<(), Memory>
         requires once { self.old.written ≡ None }
         requires short { length payload ≤ MAX_PLAIN }
-        ensures { OnOk result (self.new ≡ record self.old { written = Some payload }) }
+        ensures succeeds { IsOk result }
+        ensures after { self.new ≡ record self.old { written = Some payload } }
     {
         self.written = Some(payload);
         Ok(())

@@ -21,6 +21,9 @@ pub trait Session {
     /// Whether a tag is taken for that of a packet by this sender, in this space, with this number.
     ghost accepts: { Self → End → NumberSpace → ℕ → List ℕ → Bool };
 
+    /// The server name that it holds.
+    ghost name: { Self → List ℕ };
+
     /// Makes the tag of a packet.
     fn tag(&self, from: Side, space: Space, number: u64) -> [u8; 32]
         ensures value { result ≡ sealed self.now from space number }
@@ -32,15 +35,20 @@ pub trait Session {
         ensures named { IsTrue result → number < 2 ^ 62 → IsTag tag.now from space number };
 
     /// Takes the id from which the tags are made after a Retry.
-    fn rekey(&mut self, id: ConnectionId);
+    fn rekey(&mut self, id: ConnectionId)
+        ensures kept { name self.new ≡ name self.old };
 
     /// Takes the server name that a client's hello bears. A server calls it once.
     fn learn(&mut self, server_name: &[u8])
-        requires { length server_name.now ≤ 255 };
+        requires { length server_name.now ≤ 255 }
+        ensures value { name self.new ≡ server_name.now }
+        ensures sealed_kept { sealed self.new ≡ sealed self.old }
+        ensures accepts_kept { accepts self.new ≡ accepts self.old };
 
     /// The server name that a client's hello bears.
     fn server_name(&self) -> &[u8]
-        ensures { length result.now ≤ 255 };
+        ensures value { result.now ≡ name self.now }
+        ensures short { length result.now ≤ 255 };
 
     /// What the handshake tells the application, where it is known.
     fn handshake_data(&self) -> Option<Self::HandshakeData>;
@@ -91,6 +99,8 @@ impl Session for PlainSession {
 
     ghost accepts = { λ s from space number tag. bytes_eq tag (tag_bytes s.key_id from space number) };
 
+    ghost name = { λ s. s.server_name };
+
     fn tag(&self, from: Side, space: Space, number: u64) -> [u8; 32] {
         tag_of(&self.key_id, from, space, number)
     }
@@ -100,14 +110,14 @@ impl Session for PlainSession {
     }
 
     fn rekey(&mut self, id: ConnectionId)
-        ensures { self.new ≡ record self.old { key_id = id } }
+        ensures after { self.new ≡ record self.old { key_id = id } }
     {
         self.key_id = id;
     }
 
     fn learn(&mut self, server_name: &[u8])
         requires { length server_name.now ≤ 255 }
-        ensures { self.new ≡ record self.old { server_name = server_name.now; knows_name = true } }
+        ensures after { self.new ≡ record self.old { server_name = server_name.now; knows_name = true } }
     {
         self.server_name = Name::of(server_name);
         self.knows_name = true;
