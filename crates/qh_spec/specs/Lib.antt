@@ -1,5 +1,9 @@
+pub mod Acknowledged
+pub mod Carried
+pub mod Datagram
 pub mod Fault
 pub mod Fields
+pub mod FrameViews
 pub mod HttpFrame
 pub mod Link
 pub mod Lists
@@ -7,6 +11,7 @@ pub mod Message
 pub mod Packet
 pub mod PrefixInteger
 pub mod QuicFrame
+pub mod QuicFrames
 pub mod Record
 pub mod Schedule
 pub mod Section
@@ -16,3 +21,4 @@ pub mod StaticTable
 pub mod StreamId
 pub mod Tag
 pub mod Varint
+pub mod WireRows

@@ -1,7 +1,9 @@
 //! What the promises of this repository are made of: `specs/` has the definitions, in the words of RFC 9000, RFC 9114
-//! and RFC 9204, and this file the few types of which they speak. The crates above hand these types on.
+//! and RFC 9204, `laws` shows what they mean, and this file has the few types of which they speak. The crates above hand
+//! these types on.
 #![tactic(auto)]
 
+pub mod laws;
 mod link;
 mod sides;
 

@@ -1,0 +1,17 @@
+pub mod AckRows
+pub mod CarriedLaws
+pub mod CarriedRows
+pub mod Cuts
+pub mod FrameLaws
+pub mod FrameRows
+pub mod HttpFrameLaws
+pub mod Members
+pub mod PacketLaws
+pub mod PacketRows
+pub mod SectionLaws
+pub mod SectionRows
+pub mod StreamViews
+pub mod Varints
+pub mod WireNumbers
+pub mod WrittenFrames
+pub mod WrittenSections

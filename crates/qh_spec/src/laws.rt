@@ -1,0 +1,3 @@
+//! Laws of the definitions. Each function does nothing: its contract is the law.
+
+pub mod wire;
