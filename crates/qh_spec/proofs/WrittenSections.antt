@@ -4,11 +4,13 @@ use Rattle.std.specs.Prelude.{◌&&◌, bytes_eq, position, flat_map}
 use Rattle.std.specs.List.{AllByRecursion}
 use Rattle.std.proofs.lemmas.Bool.{cases_lt, lt-ltb, le-ltb}
 use Rattle.std.proofs.lemmas.List.Quantifiers.{position-Some}
+use Rattle.std.proofs.lemmas.List.Sums.{sum_by-cons}
 use Rattle.std.proofs.lemmas.Option.{slice_get-get_or}
 use Rattle.std.proofs.lemmas.Slice.Eq.{bytes_eq-Decides}
 use Rattle.qh_spec.specs.Fields.{Field}
 use Rattle.qh_spec.specs.PrefixInteger.{IsContinued, IsPrefixed, short, long, continued_within, prefixed}
 use Rattle.qh_spec.specs.Section.{Indexed, Named, Literal, IsString, IsLine, AreLines, IsSection, string_bytes, same_name, same_field, named_line, indexed_line, line_bytes, section_bytes}
+use Rattle.qh_spec.specs.Size.{section_size}
 use Rattle.qh_spec.specs.StaticTable.{static_table}
 use Rattle.qh_spec.proofs.SectionLaws.{field_is}
 use Rattle.qh_spec.proofs.SectionRows.{table_size}
@@ -108,3 +110,13 @@ written_lines (f ∷ fs) all =
 -- the section that is written
 pub section_written : (fs : List Field) → AllByRecursion IsShortField fs → IsSection (section_bytes fs) fs
 section_written fs all = (flat_map line_bytes fs, refl, written_lines fs all)
+
+short_fields : (fs : List Field) → section_size fs < 2 ^ 62 → AllByRecursion IsShortField fs
+short_fields [] h = tt
+short_fields (f ∷ fs) h =
+    let parts : section_size (f ∷ fs) ≡ (length f.name + length f.value + 32) + section_size fs = sum_by-cons (λ (g : Field). length g.name + length g.value + 32) f fs in
+    ((omega (arith, parts, h), omega (arith, parts, h)), short_fields fs (omega (arith, parts, h)))
+
+-- the same of fields whose size isn't too great
+pub sized_section_written : (fs : List Field) → section_size fs < 2 ^ 62 → IsSection (section_bytes fs) fs
+sized_section_written fs h = section_written fs (short_fields fs h)
