@@ -1,13 +1,17 @@
 pub mod Acknowledged
 pub mod Carried
+pub mod Config
 pub mod Datagram
 pub mod EventRows
 pub mod Fault
 pub mod Fields
 pub mod FrameViews
 pub mod Growth
+pub mod Headline
 pub mod Honest
 pub mod HttpFrame
+pub mod Lawful
+pub mod Lines
 pub mod Link
 pub mod Lists
 pub mod Meaning
@@ -19,8 +23,11 @@ pub mod QuicFrame
 pub mod QuicFrames
 pub mod Record
 pub mod Refusal
+pub mod Report
 pub mod Same
 pub mod Schedule
+pub mod Script
+pub mod ScriptLine
 pub mod Section
 pub mod Service
 pub mod Size
@@ -32,5 +39,7 @@ pub mod Transcript
 pub mod Turns
 pub mod Validity
 pub mod Varint
+pub mod Whole
+pub mod WholeRows
 pub mod WireRows
 pub mod Written

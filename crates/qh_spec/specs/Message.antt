@@ -45,6 +45,10 @@ abbrev pub IsRequest : PlainHead → Type 0
 IsRequest (Request method target) = Unit {0}
 IsRequest (Response status) = ⊥
 
+abbrev pub IsResponse : PlainHead → Type 0
+IsResponse (Request method target) = ⊥
+IsResponse (Response status) = Unit {0}
+
 pub record PlainMessage : Type 0 where
   pub head : PlainHead
   pub fields : Entries FieldValue

@@ -46,6 +46,11 @@ abbrev pub finishes : ℕ → Act → Bool
 finishes id (Finished s) = s == id
 finishes id _ = false
 
+-- the act reset this stream (own)
+abbrev pub resets : ℕ → Act → Bool
+resets id (Reset s code) = s == id
+resets id _ = false
+
 -- the bytes that an act gave to a reader of this stream, with their offset (own)
 abbrev pub pieces_of : ℕ → Act → List (ℕ × List ℕ)
 pieces_of id (ReadBytes s offset bytes) = if_same_stream id s ((offset, bytes) ∷ []) []
@@ -75,6 +80,11 @@ written (a ∷ t) id = written_of id a ++ written t id
 abbrev pub finished : List Act → ℕ → Bool
 finished [] id = false
 finished (a ∷ t) id = finishes id a || finished t id
+
+-- a writer reset the stream (own)
+abbrev pub was_reset : List Act → ℕ → Bool
+was_reset [] id = false
+was_reset (a ∷ t) id = resets id a || was_reset t id
 
 -- the pieces that readers of a stream were given, with their offsets, in the order in which they were given (own)
 abbrev pub pieces_read : List Act → ℕ → List (ℕ × List ℕ)

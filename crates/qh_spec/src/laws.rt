@@ -1,9 +1,15 @@
 //! Laws of the definitions. Each function does nothing: its contract is the law.
 
+pub mod bridges;
 pub mod links;
 pub mod messages;
+pub mod owing;
+pub mod promises;
 pub mod records;
 pub mod refusals;
+pub mod reports;
 pub mod requests;
+pub mod scripts;
 pub mod transcripts;
+pub mod wholes;
 pub mod wire;

@@ -5,7 +5,9 @@
 
 pub mod laws;
 mod link;
+mod script;
 mod sides;
 
 pub use link::{Event, Select, Upset};
+pub use script::Setting;
 pub use sides::{Dir, Side, Space};
