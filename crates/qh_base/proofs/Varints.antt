@@ -44,23 +44,6 @@ spelled_read bytes rest n (eight bound e) =
     let back : from_be_bytes w64 (to_be_bytes w64 m) - (2 ^ 63 + 2 ^ 62) ≡ n = omega (arith, from_be_bytes-to_be_bytes_8 m (omega arith)) in
     rw (e, u, a, b, d, v, back)
 
--- the shortest form is a form
-pub varint_spelled : (n : ℕ) → n < 2 ^ 62 → IsVarint (varint n) n
-unfolding varint
-varint_spelled n bound =
-    elim (cases_lt n (2 ^ 6)) [
-      | inl h ↦ let t : nat_lt n (2 ^ 6) ≡ true = lt-ltb n (2 ^ 6) h in rw t (one h refl)
-      | inr g ↦ let t : nat_lt n (2 ^ 6) ≡ false = le-ltb n (2 ^ 6) g in
-          elim (cases_lt n (2 ^ 14)) [
-            | inl h ↦ let u : nat_lt n (2 ^ 14) ≡ true = lt-ltb n (2 ^ 14) h in rw (t, u) (two h refl)
-            | inr g ↦ let u : nat_lt n (2 ^ 14) ≡ false = le-ltb n (2 ^ 14) g in
-                elim (cases_lt n (2 ^ 30)) [
-                  | inl h ↦ let v : nat_lt n (2 ^ 30) ≡ true = lt-ltb n (2 ^ 30) h in rw (t, u, v) (four h refl)
-                  | inr g ↦ let v : nat_lt n (2 ^ 30) ≡ false = le-ltb n (2 ^ 30) g in rw (t, u, v) (eight bound refl)
-                ]
-          ]
-    ]
-
 abbrev pub IsBytes : List ℕ → Type 0
 IsBytes bytes = (i : ℕ) → get_or bytes i 0 < 256
 
@@ -160,13 +143,3 @@ none_spelled bytes h n k spelled =
     let whole_is : take k bytes ++ drop k bytes ≡ bytes = take-append-drop k bytes in
     let e' : varint_at bytes ≡ Some (n, length (take k bytes)) = rw whole_is at e in
     cc
-
--- no form begins another
-pub one_form : (a b x y : List ℕ) (m n : ℕ) → IsVarint a m → IsVarint b n → a ++ x ≡ b ++ y → (a ≡ b) × (m ≡ n)
-one_form a b x y m n p q e =
-    let r = spelled_read a x m p in
-    let s = spelled_read b y n q in
-    let both : ◌≡◌ {A = Option (ℕ × ℕ)} (Some (m, length a)) (Some (n, length b)) = sym r ∙ ap varint_at e ∙ s in
-    let pair : (m, length a) ≡ (n, length b) = cc in
-    let len : length a ≡ length b = ap (λ (z : ℕ × ℕ). z.1) pair in
-    (sym (take_at a x (length a) refl) ∙ ap (take (length a)) e ∙ take_at b y (length a) (sym len), ap (λ (z : ℕ × ℕ). z.0) pair)

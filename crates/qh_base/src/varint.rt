@@ -126,13 +126,6 @@ fn varint_of(bytes: &[u8]) -> Option<(VarInt, usize)>
     Some((VarInt { value }, size))
 }
 
-/// What is written is read back, whatever follows, and no form begins another.
-pub fn forms_are_told_apart()
-    ensures shortest { (n : ℕ) → n < 2 ^ 62 → IsVarint (varint n) n }
-    ensures prefix_free { (a b x y : List ℕ) (m n : ℕ) → IsVarint a m → IsVarint b n → a ++ x ≡ b ++ y
-        → (a ≡ b) × (m ≡ n) }
-{}
-
 #[cfg(test)]
 mod tests {
     use super::*;

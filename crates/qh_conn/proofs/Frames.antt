@@ -4,7 +4,8 @@ use Rattle.std.specs.Bool.{MatchBool}
 use Rattle.std.proofs.lemmas.Bool.{cases_Bool, cases_lt, lt-ltb, le-ltb, eqb-true, eq-eqb}
 use Rattle.std.proofs.lemmas.List.{get_or-drop, take-append-drop, take_at, drop_at, append-nil, length-take-le}
 use Rattle.qh_base.specs.Varint.{varint_at}
-use Rattle.qh_base.proofs.Varints.{IsBytes, read_spelled, spelled_read, varint_spelled}
+use Rattle.qh_base.proofs.Varints.{IsBytes, read_spelled, spelled_read}
+use Rattle.qh_spec.proofs.Varints.{varint_spelled}
 use Rattle.qh_spec.specs.Varint.{IsVarint, varint, one}
 use Rattle.qh_spec.specs.QuicFrame.{StreamFrame, HasStreamFrame, IsStreamFrame, stream_frame, has_bit}
 use Rattle.qh_conn.specs.Frame.{◌>>=◌, number_at, optional_at, counted, payload_at, fields_at, frame_at}

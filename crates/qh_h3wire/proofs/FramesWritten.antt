@@ -2,7 +2,7 @@
 use Rattle.std.proofs.Common.{◌≡◌, ℕ, ◌+◌, ◌<◌, ◌^◌, nat_lt, false, List, ◌++◌, length, take, drop, refl, sym, ap, ◌∙◌, arith, Some, Result, Ok, append_assoc, length-append}
 use Rattle.std.proofs.lemmas.Bool.{le-ltb}
 use Rattle.std.proofs.lemmas.List.{take_at, drop_at}
-use Rattle.qh_base.proofs.Varints.{varint_spelled}
+use Rattle.qh_spec.proofs.Varints.{varint_spelled}
 use Rattle.qh_spec.specs.Varint.{varint}
 use Rattle.qh_h3wire.specs.FrameAt.{preface_at, frame_after, frame_at}
 use Rattle.qh_h3wire.specs.FrameBytes.{IsWritable, frame_bytes, as_read, used_bytes}
