@@ -1,10 +1,12 @@
-ghost use Rattle.std.specs.Prelude.{◌≡◌, ℕ, ◌+◌, ◌-◌, ◌≤◌, ◌++◌, [], List, true, false, Some, None, Ok, is_some, length, slice_range, OnOk, OnErr, IfSome, IfNone, IsOk};
+ghost use Rattle.std.specs.Prelude.{◌≡◌, ℕ, ◌+◌, ◌-◌, ◌<◌, ◌≤◌, ◌++◌, [], ◌∷◌, List, true, false, Some, None, Ok, is_some, length, get_or, slice_range, OnOk, OnErr, IfSome, IfNone, IsOk};
 ghost use Rattle.std.specs.Int.{w32, to_be_bytes};
 ghost use Rattle.qh_spec.specs.Link.{other};
 ghost use Rattle.qh_spec.specs.Packet.{short_packet};
 ghost use Rattle.qh_spec.specs.QuicFrame.{IsStreamFrame, stream_frame};
+ghost use Rattle.qh_spec.specs.Transcript.{Act, HandedIn, Wrote, Finished, written, finished, pieces_read};
 ghost use Rattle.qh_conn.specs.Connection.{ConnectionState, IsPlainPacket, Receives, Transmitted, failed, queued, whole_stream};
 ghost use Rattle.qh_conn.specs.Event.{payload_of};
+ghost use Rattle.qh_conn.specs.Follows.{Follows, IsSameEnd, taken_acts, transmit_acts};
 
 use crate::frame::{Stream, get_stream, put_stream};
 use crate::packet::{TAG_LEN, get_packet, number_of, put_packet};
@@ -70,7 +72,8 @@ impl<S: Session> Connection<S> {
         remote_id: ConnectionId,
         addresses: FourTuple,
     ) -> Connection<S>
-        ensures { result ≡ record { side = side; session = session; local_id = local_id; remote_id = remote_id; addresses = addresses; written = None; sent = false; received = false; waiting = None; failed = false } }
+        ensures value { result ≡ record { side = side; session = session; local_id = local_id; remote_id = remote_id; addresses = addresses; written = None; sent = false; received = false; waiting = None; failed = false } }
+        ensures follows { Follows result [] }
     {
         Connection {
             alloc,
@@ -115,6 +118,9 @@ impl<S: Session> Connection<S> {
         requires short { length payload ≤ MAX_PLAIN }
         ensures succeeds { IsOk result }
         ensures after { self.new ≡ record self.old { written = Some payload } }
+        ensures follows { (t : List Act) → Follows self.old t → Follows self.new (t ++ Wrote 0 payload ∷ Finished 0 ∷ []) }
+        ensures first { (t : List Act) → Follows self.old t → (written t 0 ≡ []) × (finished t 0 ≡ false) }
+        ensures same_end { IsSameEnd self.old self.new }
     {
         self.written = Some(payload);
         Ok(())
@@ -124,6 +130,9 @@ impl<S: Session> Connection<S> {
     pub fn take_plain(&mut self) -> Option<Bytes>
         ensures value { result ≡ self.old.waiting }
         ensures after { self.new ≡ record self.old { waiting = None } }
+        ensures follows { (t : List Act) → Follows self.old t → Follows self.new (t ++ taken_acts result) }
+        ensures once { (t : List Act) → Follows self.old t → IfSome result (λ _. pieces_read t 0 ≡ []) }
+        ensures same_end { IsSameEnd self.old self.new }
     {
         self.waiting.take()
     }
@@ -135,7 +144,9 @@ impl<S: Session> Connection<S> {
         now: Moment,
         buf: &mut Vec<u8>,
     ) -> Result<Option<Transmit>, Memory>
-        ensures { Transmitted S.sealed self.old buf.old.items (queued self.old) result self.new buf.new.items }
+        ensures value { Transmitted S.sealed self.old buf.old.items (queued self.old) result self.new buf.new.items }
+        ensures follows { (t : List Act) → Follows self.old t → Follows self.new (t ++ transmit_acts buf.old.items buf.new.items result) }
+        ensures same_end { IsSameEnd self.old self.new }
     {
         let _now = now;
         if self.failed {
@@ -168,6 +179,8 @@ impl<S: Session> Connection<S> {
     pub fn handle_event(&mut self, event: ConnectionEvent) -> Result<(), Memory>
         ensures ok { OnOk result (Receives (S.accepts self.old.session) self.old (payload_of event) self.new) }
         ensures err { OnErr result (self.new ≡ failed self.old) }
+        ensures follows { (t : List Act) → Follows self.old t → Follows self.new (t ++ HandedIn (payload_of event) ∷ []) }
+        ensures same_end { IsSameEnd self.old self.new }
     {
         match event {
             ConnectionEvent::Datagram { payload, .. } => self.handle_datagram(payload),
@@ -177,6 +190,7 @@ impl<S: Session> Connection<S> {
     fn handle_datagram(&mut self, datagram: Bytes) -> Result<(), Memory>
         ensures ok { OnOk result (Receives (S.accepts self.old.session) self.old datagram self.new) }
         ensures err { OnErr result (self.new ≡ failed self.old) }
+        ensures follows { (t : List Act) → Follows self.old t → Follows self.new (t ++ HandedIn datagram ∷ []) }
     {
         if self.failed {
             return Ok(());
@@ -200,6 +214,7 @@ impl<S: Session> Connection<S> {
 
     // How many bytes a datagram carries in front of its tag, where it is one packet with the peer's whole stream 0.
     fn plain_payload(&self, datagram: &[u8]) -> Option<usize>
+        ensures bytes { (i : ℕ) → get_or datagram.now i 0 < 256 }
         ensures found { IfSome result (λ n. (n + 32 ≤ length datagram.now) × IsPlainPacket (S.accepts self.now.session) self.now.local_id (other self.now.side) datagram.now (slice_range datagram.now (length datagram.now - 32 - n) (length datagram.now - 32))) }
         ensures none { IfNone result ((payload : List ℕ) → IsPlainPacket (S.accepts self.now.session) self.now.local_id (other self.now.side) datagram.now payload → ⊥) }
     {
@@ -252,6 +267,7 @@ fn put_plain(
     requires { length payload.now ≤ MAX_PLAIN }
     ensures ok { OnOk result (buf.new.items ≡ buf.old.items ++ short_packet (record { destination = destination.now; number = to_be_bytes w32 0; frames = stream_frame (whole_stream payload.now); tag = tag.now })) }
     ensures err { OnErr result (buf.new.items ≡ buf.old.items) }
+    ensures tag { length tag.now ≡ 32 }
 {
     let zero = VarInt::from_u32(0);
     let frame = Stream {
@@ -281,6 +297,7 @@ fn other_side(side: Side) -> Side
 mod tests {
     use super::*;
     use crate::session::PlainSession;
+    use crate::transcript::faithful;
     use std::net::{IpAddr, Ipv4Addr};
     use std::test::Fail;
 
@@ -346,6 +363,7 @@ mod tests {
             b"hi".as_slice()
         );
         assert!(rt; came(alloc, &mut server, &buf)?.is_none());
+        faithful::<PlainSession>();
         Ok(())
     }
 

@@ -8,7 +8,9 @@ mod connection;
 mod frame;
 mod packet;
 mod session;
+mod transcript;
 
 pub use connection::{Connection, ConnectionEvent, MAX_PLAIN};
 pub use qh_base::{Side, Space};
 pub use session::{PlainData, PlainSession, Session};
+pub use transcript::faithful;
