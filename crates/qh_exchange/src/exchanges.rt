@@ -1,5 +1,5 @@
 ghost use Rattle.std.specs.Prelude.{◌<◌, ◌^◌};
-ghost use Rattle.qh_exchange.specs.Config.{Fits};
+ghost use Rattle.qh_spec.specs.Config.{Fits};
 
 use crate::valid::are_requests_built;
 use crate::{Config, ExchangeError, Link, Message, Pair, Service};

@@ -1,9 +1,10 @@
 ghost use Rattle.std.specs.Prelude.{◌≤◌, length};
+ghost use Rattle.qh_spec.specs.Config.{Fits};
 
-use crate::report::{put_record, put_report};
-use crate::script::{MAX_SCRIPT, ScriptError, read_script};
-use crate::{Echo, ExchangeError, ScriptLink, default_config, enough, exchange};
+use crate::script::unbuilt_line;
+use crate::{Echo, ExchangeError, ScriptLink, enough, exchange};
 use qh_base::{Memory, Sink, Source};
+use qh_script::{MAX_SCRIPT, Script, ScriptError, put_entries, put_report, read_script};
 use std::alloc::Global;
 
 /// A service and a link, which a run uses and leaves to be looked at.
@@ -124,19 +125,34 @@ fn run_exchange<S: Source>(
     let Some(text) = read_all(alloc, source)? else {
         return line(alloc, 10, "read fault\n");
     };
-    let requests = match read_script(alloc, &text) {
-        Ok(requests) => requests,
-        Err(ScriptError::Refused(number)) => {
-            return line(alloc, 3, format!(in alloc; "line {number}\n")?.as_str());
-        }
-        Err(ScriptError::Unbuilt) => return line(alloc, 12, "unbuilt\n"),
-        Err(ScriptError::Memory) => return Err(Memory),
-    };
-    let config = default_config(alloc)?;
-    let rounds = enough(&config, &requests).min(MAX_ROUNDS - 1);
+    match read_script(alloc, &text) {
+        Ok(_) if unbuilt_line(&text).is_some() => line(alloc, 12, "unbuilt\n"),
+        Ok(script) => run_script(alloc, &script, bench),
+        Err(ScriptError::Refused(number)) => refusal(alloc, &text, number),
+        Err(ScriptError::Memory) => Err(Memory),
+    }
+}
+
+// The line that is refused, unless one before it, or itself, isn't built.
+fn refusal(alloc: Global, text: &[u8], number: usize) -> Result<Ending, Memory> {
+    match unbuilt_line(text) {
+        Some(unbuilt) if unbuilt <= number => line(alloc, 12, "unbuilt\n"),
+        _ => line(alloc, 3, format!(in alloc; "line {number}\n")?.as_str()),
+    }
+}
+
+fn run_script(
+    alloc: Global,
+    script: &Script,
+    bench: &mut Bench<Echo, ScriptLink>,
+) -> Result<Ending, Memory>
+    requires { Fits script.now.config }
+{
+    let requests = script.requests.as_slice();
+    let rounds = enough(&script.config, requests).min(MAX_ROUNDS - 1);
     bench.link = ScriptLink::new(alloc, STEP);
     let Bench { service, link } = bench;
-    match exchange(alloc, &config, service, link, &requests, rounds) {
+    match exchange(alloc, &script.config, service, link, requests, rounds) {
         Ok(answers) => {
             let mut text = Vec::new(alloc);
             put_report(alloc, &mut text, service.served(), &answers)?;
@@ -158,7 +174,7 @@ fn failure(alloc: Global, error: ExchangeError, service: &Echo) -> Result<Ending
         ExchangeError::Memory => (9, String::from_str(alloc, "memory\n")?),
     };
     let mut text = Vec::new(alloc);
-    put_record(alloc, &mut text, service.served())?;
+    put_entries(alloc, &mut text, service.served())?;
     text.extend_from_slice(last.as_bytes())?;
     Ok(Ending { status, text })
 }

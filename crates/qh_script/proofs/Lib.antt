@@ -1,0 +1,14 @@
+pub mod Arguments
+pub mod Changes
+pub mod Decimals
+pub mod FirstLines
+pub mod Hex
+pub mod ReadLines
+pub mod Refusals
+pub mod Reports
+pub mod ScriptWords
+pub mod Selects
+pub mod Spaces
+pub mod Sums
+pub mod Taking
+pub mod Upsets

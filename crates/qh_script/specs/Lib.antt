@@ -1,0 +1,4 @@
+pub mod Config
+pub mod Line
+pub mod Report
+pub mod Script

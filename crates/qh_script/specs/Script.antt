@@ -1,0 +1,34 @@
+-- What the refusal of a script says, and of a line of it.
+use Rattle.std.specs.Prelude.{◌≡◌, ℕ, ◌+◌, List, ◌∷◌, ◌++◌, length}
+use Rattle.qh_spec.specs.Lines.{lines}
+use Rattle.qh_spec.specs.Script.{Script, IsTaken, AreTaken, IsRefusedAt}
+use Rattle.qh_script.specs.declared.script.ScriptError.{ScriptError}
+use Rattle.qh_script.specs.declared.script.ScriptError.TheVariants.{Refused, Memory}
+use Rattle.qh_script.specs.declared.script.untaken.Untaken.{Untaken}
+use Rattle.qh_script.specs.declared.script.untaken.Untaken.TheVariants as untaken
+
+-- which line of the text is refused, or nothing
+abbrev pub RefusesScript : List ℕ → ScriptError → Type 0
+RefusesScript text (Refused n) = IsRefusedAt text n
+RefusesScript text Memory = Unit {0}
+
+-- what is known where a line isn't taken: nothing where memory was wanting
+abbrev pub WhenRefused : Untaken → Type 0 → Type 0
+WhenRefused untaken.Refused P = P
+WhenRefused untaken.Memory P = Unit {0}
+
+-- the n-th line of the text, counted from 1, is the first that isn't taken where the script before it is s
+pub record IsFirstRefused (text : List ℕ) (s : Script) (n : ℕ) : Type 0 where
+  pub front : List (List ℕ)
+  pub line : List ℕ
+  pub rest : List (List ℕ)
+  pub mid : Script
+  pub is : lines text ≡ front ++ line ∷ rest
+  pub taken : AreTaken front s mid
+  pub refused : (t : Script) → IsTaken line mid t → ⊥
+  pub count : n ≡ length front + 1
+
+-- the same of an error, or nothing
+abbrev pub RefusesLines : List ℕ → Script → ScriptError → Type 0
+RefusesLines text s (Refused n) = IsFirstRefused text s n
+RefusesLines text s Memory = Unit {0}

@@ -1,0 +1,183 @@
+ghost use Rattle.std.specs.Prelude.{◌≡◌, ◌++◌, map, codes, decimal, flat_map, IfOk, OnOk, OnErr};
+ghost use Rattle.http_header.specs.HeaderMap.{keys};
+ghost use Rattle.qh_spec.specs.Report.{report, block, entry_block, answer_block, ok_line, newline, head_text, map_lines, name_lines, value_line, body_lines, in_byte_order};
+ghost use Rattle.qh_service.specs.Message.{head_of};
+ghost use Rattle.qh_script.specs.Report.{HasGrown};
+
+use http_header::{HeaderMap, HeaderName};
+use qh_base::Memory;
+use qh_service::{Entry, Head, Message};
+use std::alloc::Global;
+
+/// Appends the report of an exchange: for each answer the block of its entry, which stands at the same place of the record,
+/// and the block of the answer; then `ok N`. Want of memory, here and below, may leave a part behind what stood there.
+pub fn put_report(
+    alloc: Global,
+    out: &mut Vec<u8>,
+    entries: &[Entry],
+    answers: &[Message],
+) -> Result<(), Memory>
+    ensures ok { IfOk result (λ _. out.new.items ≡ out.old.items ++ report entries.now answers.now) }
+    ensures err { OnErr result (HasGrown out.old.items out.new.items) }
+{
+    for (entry, answer) in entries.iter().zip(answers) {
+        put_exchange(alloc, out, entry, answer)?;
+    }
+    put_ok_line(alloc, out, answers.len() as u64)
+}
+
+/// Appends the blocks of these entries, in their order.
+pub fn put_entries(alloc: Global, out: &mut Vec<u8>, entries: &[Entry]) -> Result<(), Memory>
+    ensures ok { IfOk result (λ _. out.new.items ≡ out.old.items ++ flat_map entry_block entries.now) }
+    ensures err { OnErr result (HasGrown out.old.items out.new.items) }
+{
+    for entry in entries {
+        put_entry(alloc, out, entry)?;
+    }
+    Ok(())
+}
+
+/// Appends the line `ok N`.
+pub fn put_ok_line(alloc: Global, out: &mut Vec<u8>, count: u64) -> Result<(), Memory>
+    ensures ok { IfOk result (λ _. out.new.items ≡ out.old.items ++ ok_line count) }
+    ensures err { OnErr result (HasGrown out.old.items out.new.items) }
+{
+    let line = format!(in alloc; "ok {count}\n")?;
+    put_text(out, line.as_str())
+}
+
+/// Appends a block: its first line, a line for each field, the body's length, the body and a newline, a line for each trailer.
+pub fn put_block(
+    alloc: Global,
+    out: &mut Vec<u8>,
+    word: &str,
+    stream: u64,
+    message: &Message,
+) -> Result<(), Memory>
+    ensures ok { IfOk result (λ _. out.new.items ≡ out.old.items ++ block word.now stream message.now) }
+    ensures err { OnErr result (HasGrown out.old.items out.new.items) }
+{
+    put_first_line(alloc, out, word, stream, message.head())?;
+    put_map(alloc, out, "field", message.fields())?;
+    put_body(alloc, out, message.body())?;
+    match message.trailers() {
+        Some(trailers) => put_map(alloc, out, "trailer", trailers),
+        None => Ok(()),
+    }
+}
+
+// The block of an entry, and that of the answer to it.
+fn put_exchange(
+    alloc: Global,
+    out: &mut Vec<u8>,
+    entry: &Entry,
+    answer: &Message,
+) -> Result<(), Memory>
+    ensures ok { OnOk result (out.new.items ≡ out.old.items ++ (entry_block entry.now ++ answer_block entry.now.stream answer.now)) }
+    ensures err { OnErr result (HasGrown out.old.items out.new.items) }
+{
+    put_entry(alloc, out, entry)?;
+    put_block(alloc, out, "answer", entry.stream, answer)
+}
+
+// The block of an entry.
+fn put_entry(alloc: Global, out: &mut Vec<u8>, entry: &Entry) -> Result<(), Memory>
+    ensures ok { OnOk result (out.new.items ≡ out.old.items ++ entry_block entry.now) }
+    ensures err { OnErr result (HasGrown out.old.items out.new.items) }
+{
+    put_block(alloc, out, "entry", entry.stream, &entry.request)
+}
+
+// The line that begins a block.
+fn put_first_line(
+    alloc: Global,
+    out: &mut Vec<u8>,
+    word: &str,
+    stream: u64,
+    head: &Head,
+) -> Result<(), Memory>
+    ensures ok { OnOk result (out.new.items ≡ out.old.items ++ (word.now ++ (codes " " ++ (decimal stream ++ (codes " " ++ (head_text (head_of head.now) ++ newline)))))) }
+    ensures err { OnErr result (HasGrown out.old.items out.new.items) }
+{
+    let line = match head {
+        Head::Request { method, uri } => { format!(in alloc; "{word} {stream} {method} {uri}\n")? }
+        Head::Response { status } => {
+            let status = status.as_u16();
+            format!(in alloc; "{word} {stream} {status}\n")?
+        }
+    };
+    put_text(out, line.as_str())
+}
+
+// The line with the body's length, the body, and a newline.
+fn put_body(alloc: Global, out: &mut Vec<u8>, body: &[u8]) -> Result<(), Memory>
+    ensures ok { OnOk result (out.new.items ≡ out.old.items ++ body_lines body.now) }
+    ensures err { OnErr result (HasGrown out.old.items out.new.items) }
+{
+    let len = body.len();
+    let line = format!(in alloc; "body {len}\n")?;
+    put_text(out, line.as_str())?;
+    out.extend_from_slice(body)?;
+    put_text(out, "\n")
+}
+
+// A line for each value, by names in byte order, each name's values in order.
+fn put_map(alloc: Global, out: &mut Vec<u8>, word: &str, fields: &HeaderMap) -> Result<(), Memory>
+    ensures ok { OnOk result (out.new.items ≡ out.old.items ++ map_lines word.now fields.now) }
+    ensures err { OnErr result (HasGrown out.old.items out.new.items) }
+{
+    let names = names_in_order(alloc, fields)?;
+    for name in &names {
+        put_values(out, word, name, fields)?;
+    }
+    Ok(())
+}
+
+// A line for each value of this name, in order.
+fn put_values(
+    out: &mut Vec<u8>,
+    word: &str,
+    name: &HeaderName,
+    fields: &HeaderMap,
+) -> Result<(), Memory>
+    ensures ok { OnOk result (out.new.items ≡ out.old.items ++ name_lines word.now fields.now name.now) }
+    ensures err { OnErr result (HasGrown out.old.items out.new.items) }
+{
+    for value in fields.get_all(name) {
+        put_value(out, word, name.as_str(), value.as_bytes())?;
+    }
+    Ok(())
+}
+
+// The line of a value.
+fn put_value(out: &mut Vec<u8>, word: &str, name: &str, value: &[u8]) -> Result<(), Memory>
+    ensures ok { OnOk result (out.new.items ≡ out.old.items ++ value_line word.now name.now value.now) }
+    ensures err { OnErr result (HasGrown out.old.items out.new.items) }
+{
+    put_text(out, word)?;
+    put_text(out, " ")?;
+    put_text(out, name)?;
+    put_text(out, " ")?;
+    out.extend_from_slice(value)?;
+    put_text(out, "\n")
+}
+
+// The names of these fields, in byte order.
+fn names_in_order(alloc: Global, fields: &HeaderMap) -> Result<Vec<&HeaderName>, Memory>
+    ensures { IfOk result (λ names. map (λ name. name.now) names.items ≡ in_byte_order (keys fields.now)) }
+{
+    let mut names: Vec<&HeaderName> = fields.keys().collect(alloc)?;
+    names.sort_by(|a, b| a.as_str().cmp(&b.as_str()))?;
+    Ok(names)
+}
+
+fn put_text(out: &mut Vec<u8>, text: &str) -> Result<(), Memory>
+    ensures ok { OnOk result (out.new.items ≡ out.old.items ++ text.now) }
+    ensures err { OnErr result (HasGrown out.old.items out.new.items) }
+{
+    out.extend_from_slice(text.as_bytes())?;
+    Ok(())
+}
+
+#[cfg(test)]
+mod tests;
