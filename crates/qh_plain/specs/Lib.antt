@@ -1,0 +1,14 @@
+pub mod Agreement
+pub mod Carried
+pub mod Chain
+pub mod Frames
+pub mod Given
+pub mod Kinds
+pub mod Lines
+pub mod Packets
+pub mod Pieces
+pub mod Placed
+pub mod Room
+pub mod Sections
+pub mod Target
+pub mod Values

@@ -1,0 +1,10 @@
+//! Messages that bytes spell and datagrams carry.
+
+mod placed;
+mod spelling;
+#[cfg(test)]
+mod tests;
+mod whole;
+
+pub use spelling::spells;
+pub use whole::{is_whole, whole_stream};
