@@ -1,70 +1,121 @@
 //! What stands on a request stream: a message as bytes, and back.
-ghost use Rattle.std.specs.Prelude.{◌≡◌, [], IfOk};
+ghost use Rattle.std.specs.Prelude.{◌≡◌, ◌≤◌, ◌<◌, ◌^◌, ◌++◌, [], None, length, map, flat_map, OnOk, IfOk, IfSome};
+ghost use Rattle.qh_h3wire.specs.Header.{request_header, header_fields};
+ghost use Rattle.qh_plain.specs.Frames.{AreParts};
+ghost use Rattle.qh_service.specs.Message.{head_of};
+ghost use Rattle.qh_spec.specs.Fields.{head_fields};
+ghost use Rattle.qh_spec.specs.HttpFrame.{data_frame, headers_frame, http_frame};
+ghost use Rattle.qh_spec.specs.Meaning.{AreReadable};
+ghost use Rattle.qh_spec.specs.Message.{IsRequest, IsResponse, target_of};
+ghost use Rattle.qh_spec.specs.Section.{section_bytes};
+ghost use Rattle.qh_spec.specs.Spelling.{Spells};
+ghost use Rattle.qh_spec.specs.Validity.{IsValidTarget};
+ghost use Rattle.qh_spec.specs.Written.{body_payloads};
+ghost use Rattle.qh_exchange.specs.Parts.{TakesFront, HaveHead};
+ghost use Rattle.qh_exchange.specs.Small.{IsSpellable, IsCarried};
 
-use crate::{ExchangeError, Head, Message};
+use crate::{Head, Message};
 use bytes::Bytes;
+use http::Method;
 use http_header::HeaderMap;
+use http_uri::Uri;
 use qh_base::Memory;
-use qh_conn::MAX_PLAIN;
 use qh_h3wire::{Frame, FrameError, Header, HeaderError};
 use std::alloc::Global;
 
 /// A HEADERS frame with the message's head, and a DATA frame with its body where that isn't empty (RFC 9114, section
-/// 4.1). Fields and trailers aren't written yet, and a head without a spelling, as a request without an authority, is
-/// `Unbuilt`.
-pub fn write_message(alloc: Global, message: &Message) -> Result<Bytes, ExchangeError> {
-    let mut section = Vec::new(alloc);
-    header_of(alloc, message.head())?.encode(&mut section)?;
-    if section.len() > MAX_PLAIN {
-        return Err(ExchangeError::Unbuilt);
-    }
+/// 4.1).
+pub fn write_message(alloc: Global, message: &Message) -> Result<Bytes, Memory>
+    requires { IsCarried message.now }
+    ensures spells { IfOk result (λ bytes. Spells bytes message.now) }
+    ensures short { IfOk result (λ bytes. length bytes ≤ 900) }
+{
+    let section = section_of(alloc, message.head())?;
+    frames_of(alloc, section, message.body())
+}
+
+// The HEADERS frame of the section, and what stands behind it.
+fn frames_of(alloc: Global, section: Bytes, body: &[u8]) -> Result<Bytes, Memory>
+    requires section { length section < 2 ^ 62 }
+    requires body { length body.now < 2 ^ 62 }
+    ensures { IfOk result (λ bytes. bytes
+        ≡ http_frame (headers_frame section) ++ flat_map http_frame (map data_frame (body_payloads body.now))) }
+{
     let mut out = Vec::new(alloc);
-    let section = Bytes::copy_from_slice(alloc, &section).map_err(|_| Memory)?;
     Frame::Headers(section).encode(&mut out)?;
-    put_body(alloc, &mut out, message.body())?;
+    put_body(alloc, &mut out, body)?;
     Ok(Bytes::from_vec(out).map_err(|_| Memory)?)
 }
 
 // A DATA frame, where the body isn't empty.
-fn put_body(alloc: Global, out: &mut Vec<u8>, body: &[u8]) -> Result<(), ExchangeError> {
+fn put_body(alloc: Global, out: &mut Vec<u8>, body: &[u8]) -> Result<(), Memory>
+    requires { length body.now < 2 ^ 62 }
+    ensures { OnOk result (out.new.items ≡ out.old.items ++ flat_map http_frame (map data_frame (body_payloads body.now))) }
+{
     if body.is_empty() {
         return Ok(());
     }
-    if body.len() > MAX_PLAIN {
-        return Err(ExchangeError::Unbuilt);
-    }
     let body = Bytes::copy_from_slice(alloc, body).map_err(|_| Memory)?;
-    Frame::Data(body).encode(out)?;
-    Ok(())
+    Frame::Data(body).encode(out)
 }
 
-fn header_of(alloc: Global, head: &Head) -> Result<Header, ExchangeError>
-    ensures { IfOk result (λ header. header.fields ≡ []) }
+// The section of the head, whose fields can be read.
+fn section_of(alloc: Global, head: &Head) -> Result<Bytes, Memory>
+    requires { IsSpellable (head_of head.now) }
+    ensures section { IfOk result (λ section. section ≡ section_bytes (head_fields (head_of head.now))) }
+    ensures readable { AreReadable (head_fields (head_of head.now)) }
+{
+    tell_parts(head);
+    let mut section = Vec::new(alloc);
+    header_of(alloc, head)?.encode(&mut section)?;
+    Ok(Bytes::from_vec(section).map_err(|_| Memory)?)
+}
+
+// What the types of the parts of a head tell of its fields.
+fn tell_parts(head: &Head)
+    requires { IsSpellable (head_of head.now) }
+    ensures { AreReadable (head_fields (head_of head.now)) }
+{
+    if let Head::Request { method, uri } = head {
+        method.as_str();
+        uri.scheme_str();
+        uri.host();
+        uri.query();
+    }
+}
+
+fn header_of(alloc: Global, head: &Head) -> Result<Header, Memory>
+    requires { IsSpellable (head_of head.now) }
+    ensures written { IfOk result (λ h. header_fields h ≡ head_fields (head_of head.now)) }
+    ensures plain { IfOk result (λ h. h.fields ≡ []) }
 {
     let fields = HeaderMap::new(alloc);
     match head {
-        Head::Request { method, uri } => {
-            let method = method.clone().map_err(|_| Memory)?;
-            let uri = uri.clone().map_err(|_| Memory)?;
-            match Header::request(method, uri, fields) {
-                Ok(header) => Ok(header),
-                Err(HeaderError::Memory) => Err(ExchangeError::Memory),
-                Err(_) => Err(ExchangeError::Unbuilt),
-            }
-        }
+        Head::Request { method, uri } => Ok(request_header(method.clone()?, uri.clone()?, fields)),
         Head::Response { status } => Ok(Header::response(*status, fields)),
     }
 }
 
+// A valid target has an authority, and no host field stands beside it: so this is a head.
+fn request_header(method: Method, uri: Uri, fields: HeaderMap) -> Header
+    requires valid { IsValidTarget (target_of uri) }
+    requires plain { fields ≡ [] }
+    ensures { result ≡ request_header method (target_of uri) fields }
+{
+    Header::request(method, uri, fields).unwrap()
+}
+
 /// Reads a request, where the bytes spell one: a HEADERS frame, then DATA frames, with frames of unknown types anywhere.
-pub fn read_request(alloc: Global, bytes: &[u8]) -> Result<Option<Message>, Memory> {
+pub fn read_request(alloc: Global, bytes: &[u8]) -> Result<Option<Message>, Memory>
+    ensures spells { IfOk result (λ found. IfSome found (Spells bytes.now)) }
+    ensures kind { IfOk result (λ found. IfSome found (λ m. IsRequest m.head)) }
+{
     let Some((header, body)) = read_parts(alloc, bytes)? else {
         return Ok(None);
     };
     match header.into_request_parts() {
-        Ok((method, uri, fields)) => {
+        Ok((method, uri, _fields)) => {
             let mut message = Message::request(alloc, method, uri)?;
-            *message.fields_mut() = fields;
             message.set_body(&body)?;
             Ok(Some(message))
         }
@@ -74,23 +125,28 @@ pub fn read_request(alloc: Global, bytes: &[u8]) -> Result<Option<Message>, Memo
 }
 
 /// Reads a response, likewise.
-pub fn read_response(alloc: Global, bytes: &[u8]) -> Result<Option<Message>, Memory> {
+pub fn read_response(alloc: Global, bytes: &[u8]) -> Result<Option<Message>, Memory>
+    ensures spells { IfOk result (λ found. IfSome found (Spells bytes.now)) }
+    ensures kind { IfOk result (λ found. IfSome found (λ m. IsResponse m.head)) }
+{
     let Some((header, body)) = read_parts(alloc, bytes)? else {
         return Ok(None);
     };
     match header.into_response_parts() {
-        Ok((status, fields)) => {
+        Ok((status, _fields)) => {
+            let _valid = status.as_u16();
             let mut message = Message::response(alloc, status)?;
-            *message.fields_mut() = fields;
             message.set_body(&body)?;
             Ok(Some(message))
         }
-        Err(HeaderError::Memory) => Err(Memory),
         Err(_) => Ok(None),
     }
 }
 
-fn read_parts(alloc: Global, bytes: &[u8]) -> Result<Option<(Header, Vec<u8>)>, Memory> {
+// The head that the section means, and the body.
+fn read_parts(alloc: Global, bytes: &[u8]) -> Result<Option<(Header, Vec<u8>)>, Memory>
+    ensures { IfOk result (λ found. IfSome found (λ p. HaveHead bytes.now p.0 p.1.items)) }
+{
     let Some((section, body)) = read_frames(alloc, bytes)? else {
         return Ok(None);
     };
@@ -102,30 +158,70 @@ fn read_parts(alloc: Global, bytes: &[u8]) -> Result<Option<(Header, Vec<u8>)>, 
 }
 
 // The section and the body that the frames of a stream hold.
-fn read_frames(alloc: Global, bytes: &[u8]) -> Result<Option<(Bytes, Vec<u8>)>, Memory> {
-    let mut section = None;
-    let mut body = Vec::new(alloc);
-    let mut rest = bytes;
+fn read_frames(alloc: Global, bytes: &[u8]) -> Result<Option<(Bytes, Vec<u8>)>, Memory>
+    ensures { IfOk result (λ found. IfSome found (λ p. AreParts bytes.now (record { section = p.0; body = p.1.items; last = None }))) }
+{
+    let mut parts = StreamParts {
+        section: None,
+        body: Vec::new(alloc),
+    };
+    let mut at = 0;
     for _frame in 0..bytes.len() {
-        if rest.is_empty() {
+        if at == bytes.len() {
             break;
         }
-        let (frame, used) = Frame::decode(alloc, rest);
-        rest = &rest[used..];
-        match frame {
-            Ok(Frame::Headers(found)) if section.is_none() => section = Some(found),
-            Ok(Frame::DataLen(len)) if section.is_some() && len <= rest.len() as u64 => {
-                let (payload, after) = rest.split_at(len as usize);
-                body.extend_from_slice(payload)?;
-                rest = after;
-            }
-            Err(FrameError::UnknownFrame(_)) => {}
-            Err(FrameError::Memory) => return Err(Memory),
-            _ => return Ok(None),
-        }
+        let Some(used) = parts.take_frame(alloc, &bytes[at..])? else {
+            return Ok(None);
+        };
+        at += used;
     }
-    if !rest.is_empty() {
+    if at < bytes.len() {
         return Ok(None);
     }
-    Ok(section.map(|section| (section, body)))
+    let StreamParts { section, body } = parts;
+    match section {
+        Some(section) => Ok(Some((section, body))),
+        None => Ok(None),
+    }
+}
+
+// What was read of a stream so far.
+#[derive(Drop)]
+struct StreamParts {
+    section: Option<Bytes>,
+    body: Vec<u8>,
+}
+
+impl StreamParts {
+    // Takes the frame that begins the bytes, and says how many bytes it has. None where it may not stand here, or is cut.
+    fn take_frame(&mut self, alloc: Global, bytes: &[u8]) -> Result<Option<usize>, Memory>
+        ensures { IfOk result (λ found. IfSome found (λ used.
+            TakesFront bytes.now used self.old.section self.old.body.items self.new.section self.new.body.items)) }
+    {
+        let (frame, used) = Frame::decode(alloc, bytes);
+        match frame {
+            Ok(Frame::Headers(section)) => {
+                if self.section.is_some() {
+                    return Ok(None);
+                }
+                self.section = Some(section);
+                Ok(Some(used))
+            }
+            Ok(Frame::DataLen(len)) => {
+                let rest = &bytes[used..];
+                if self.section.is_none() || len > rest.len() as u64 {
+                    return Ok(None);
+                }
+                let payload = &rest[..len as usize];
+                self.body.extend_from_slice(payload)?;
+                Ok(Some(used + payload.len()))
+            }
+            Ok(Frame::Data(_)) => Ok(None),
+            Err(error) => match error {
+                FrameError::UnknownFrame(_) => Ok(Some(used)),
+                FrameError::Memory => Err(Memory),
+                _ => Ok(None),
+            },
+        }
+    }
 }

@@ -1,10 +1,11 @@
-ghost use Rattle.std.specs.Prelude.{◌≤◌, ◌<◌, ◌-◌, ◌^◌, ◌↔◌, IsTrue};
+ghost use Rattle.std.specs.Prelude.{◌≤◌, ◌<◌, ◌-◌, ◌^◌, ◌↔◌, IfOk, IsTrue};
 ghost use Rattle.qh_spec.specs.Message.{IsRequest};
 ghost use Rattle.qh_spec.specs.Service.{IsServable};
+ghost use Rattle.qh_exchange.specs.Small.{IsSmall, IsBuilt};
 
 use crate::{Config, Head, Message};
-use http::Method;
-use http_uri::Uri;
+use qh_base::Memory;
+use qh_plain::requests::fault_index;
 use qh_service::Limits;
 
 // The greatest size of a message that this stage carries.
@@ -12,15 +13,27 @@ const MAX_SMALL: u64 = 900;
 
 /// Whether this stage carries the requests: one valid request without fields, body and trailers, of a size of at most
 /// 900.
-pub fn are_requests_built(config: &Config, requests: &[Message]) -> bool {
+pub fn are_requests_built(config: &Config, requests: &[Message]) -> Result<bool, Memory>
+    ensures { IfOk result (λ built. IsTrue built ↔ IsBuilt config.now requests.now) }
+{
     match requests {
-        [request] => config.max_requests >= 1 && is_plain(request) && is_valid(config, request),
-        _ => false,
+        [request] if request.body().is_empty() && is_answer_built(request) => {
+            let fault = fault_index(
+                config.max_requests,
+                config.max_field_section_size,
+                config.max_request_body,
+                requests,
+            )?;
+            Ok(fault.is_none())
+        }
+        _ => Ok(false),
     }
 }
 
 /// Whether this stage carries an answer: it has neither fields nor trailers, and a size of at most 900.
-pub fn is_answer_built(response: &Message) -> bool {
+pub fn is_answer_built(response: &Message) -> bool
+    ensures { IsTrue result ↔ IsSmall response.now }
+{
     response.fields().is_empty() && response.trailers().is_none() && response.size() <= MAX_SMALL
 }
 
@@ -54,40 +67,4 @@ fn is_request(message: &Message) -> bool
         Head::Request { .. } => true,
         Head::Response { .. } => false,
     }
-}
-
-// Without fields, body and trailers, and small.
-fn is_plain(request: &Message) -> bool {
-    request.body().is_empty() && is_answer_built(request)
-}
-
-// An http or https target with an authority, without a user part, and with a path; not CONNECT.
-fn is_valid(config: &Config, request: &Message) -> bool {
-    match request.head() {
-        Head::Request { method, uri } => {
-            is_method_valid(method)
-                && is_target_valid(uri)
-                && request.section_size() <= config.max_field_section_size
-        }
-        Head::Response { .. } => false,
-    }
-}
-
-fn is_method_valid(method: &Method) -> bool {
-    method.as_str() != "CONNECT"
-}
-
-fn is_target_valid(uri: &Uri) -> bool {
-    let Some(scheme) = uri.scheme_str() else {
-        return false;
-    };
-    let Some(authority) = uri.authority() else {
-        return false;
-    };
-    let Some(path) = uri.path_and_query() else {
-        return false;
-    };
-    (scheme == "http" || scheme == "https")
-        && !authority.as_str().as_bytes().contains(&b'@')
-        && path.as_str().as_bytes().first() == Some(&b'/')
 }

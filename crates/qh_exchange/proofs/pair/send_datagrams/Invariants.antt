@@ -1,0 +1,10 @@
+use Rattle.std.proofs.Common.{◌≡◌, ◌≤◌, Some}
+use Rattle.qh_exchange.specs.Steps.{EndStep, AreSent}
+use Rattle.qh_exchange.proofs.pair.send_datagrams.Given as goal
+
+abbrev pub invariant-loop-datagram : goal.invariant-loop-datagram
+invariant-loop-datagram g l = record {
+  step : EndStep l.side (Some l.fn.end) (Some l.end) (g.L.Link.events l.fn.link) (g.L.Link.events l.link) (AreSent l.side l._datagram);
+  moments : g.L.Link.moments l.link ≡ g.L.Link.moments l.fn.link;
+  faults : g.L.Link.faults l.fn.link ≤ g.L.Link.faults l.link;
+}
