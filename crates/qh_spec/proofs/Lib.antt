@@ -3,6 +3,7 @@ pub mod Bridge
 pub mod CarriedLaws
 pub mod CarriedRows
 pub mod Cuts
+pub mod Echoes
 pub mod EventLaws
 pub mod EventRows
 pub mod FrameLaws
@@ -11,6 +12,7 @@ pub mod HeadlineLaws
 pub mod HttpFrameLaws
 pub mod LawfulRows
 pub mod LineLaws
+pub mod MapAppend
 pub mod MapLaws
 pub mod Members
 pub mod MessageLaws
@@ -24,6 +26,8 @@ pub mod ReportLaws
 pub mod ReportSame
 pub mod SameLaws
 pub mod SameRows
+pub mod Schedules
+pub mod ScriptBounds
 pub mod ScriptLaws
 pub mod ScriptRows
 pub mod SectionLaws
@@ -37,6 +41,7 @@ pub mod Varints
 pub mod WholeLaws
 pub mod WholeRows
 pub mod WireNumbers
+pub mod WordLaws
 pub mod WrittenFrames
 pub mod WrittenLaws
 pub mod WrittenSections

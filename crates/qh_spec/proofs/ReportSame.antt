@@ -85,7 +85,7 @@ same_trailers (Some a) (Some b) x y s = same_lines (codes "trailer") a b x y s
 same_text : (t u : PlainTarget) → SameTarget t u → target_text t ≡ target_text u
 same_text t u s = let a = s.scheme in let b = s.authority in let c = s.path in let d = s.query in cc
 
-same_head : (a b : PlainHead) → SameHead a b → head_text a ≡ head_text b
+pub same_head : (a b : PlainHead) → SameHead a b → head_text a ≡ head_text b
 same_head (Request m t) (Request n u) s = let a = s.0 in let b = same_text t u s.1 in cc
 same_head (Request m t) (Response c) s = absurd s
 same_head (Response c) (Request m t) s = absurd s

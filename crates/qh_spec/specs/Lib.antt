@@ -2,6 +2,7 @@ pub mod Acknowledged
 pub mod Carried
 pub mod Config
 pub mod Datagram
+pub mod Echoed
 pub mod EventRows
 pub mod Fault
 pub mod Fields
@@ -42,4 +43,5 @@ pub mod Varint
 pub mod Whole
 pub mod WholeRows
 pub mod WireRows
+pub mod Words
 pub mod Written

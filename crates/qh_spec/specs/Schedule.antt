@@ -9,6 +9,13 @@ use Rattle.qh_spec.specs.declared.link.Select.TheVariants.{One, All, Each}
 use Rattle.qh_spec.specs.declared.link.Upset.{Upset}
 use Rattle.qh_spec.specs.declared.link.Upset.TheVariants.{Lose, Twice, Late, Fail, Forge}
 use Rattle.qh_spec.specs.Link.{other, if_same_side, given_to, moments_of}
+use Rattle.qh_spec.specs.Lists.{In}
+
+-- how a link in memory is set up
+pub record Plan : Type 0 where
+  -- milliseconds from round to round
+  pub step : ℕ
+  pub schedule : List Upset
 
 -- the send with this number is meant
 abbrev pub selects : Select → ℕ → Bool
@@ -156,3 +163,7 @@ IsUpset (Twice which) = IsSelect which
 IsUpset (Late which rounds) = IsSelect which × (1 ≤ rounds) × (rounds ≤ 1000)
 IsUpset (Fail k) = (1 ≤ k) × (k < 2 ^ 63)
 IsUpset (Forge round side bytes) = (1 ≤ round) × (round < 2 ^ 63) × (1 ≤ length bytes) × (length bytes ≤ 2048)
+
+-- no entry gives an end bytes that nobody sent
+abbrev pub IsUnforged : List Upset → Type 0
+IsUnforged schedule = (round : ℕ) (side : Side) (bytes : List ℕ) → In (Forge round side bytes) schedule → ⊥

@@ -3,17 +3,24 @@
 ghost use Rattle.std.specs.Prelude.{◌≡◌, ◌^◌, ◌++◌, ℕ, List, [], ◌∷◌, length};
 ghost use Rattle.qh_spec.specs.declared.link.Event.{Event};
 ghost use Rattle.qh_spec.specs.declared.link.Event.TheVariants.{Round};
+ghost use Rattle.qh_spec.specs.declared.link.Upset.{Upset};
 ghost use Rattle.qh_spec.specs.declared.sides.Side.{Side};
 ghost use Rattle.qh_spec.specs.EventRows.{prompt_events, early_events, echoed_events, turn_events, turned_events};
 ghost use Rattle.qh_spec.specs.Honest.{IsTimed, IsHonest};
 ghost use Rattle.qh_spec.specs.Link.{other, sent_by, given_to, moments_of};
 ghost use Rattle.qh_spec.specs.Lists.{In};
+ghost use Rattle.qh_spec.specs.Schedule.{IsScheduled, IsUnforged};
 ghost use Rattle.qh_spec.specs.Turns.{IsWholeTurn, AreWholeTurns, IsPrompt};
 
 /// A link that gives all in time is honest, and over an honest link each datagram was sent by the other end.
 pub fn honesty()
     ensures prompt { (es : List Event) → IsPrompt es → IsHonest es }
     ensures sent { (s : Side) (d : List ℕ) (es : List Event) → IsHonest es → In d (given_to s es) → In d (sent_by (other s) es) }
+{}
+
+/// A link with a schedule that forges nothing is honest.
+pub fn schedules()
+    ensures honest { (step : ℕ) (schedule : List Upset) (es : List Event) → IsScheduled step schedule es → IsUnforged schedule → IsHonest es }
 {}
 
 /// Whole turns have one round each.

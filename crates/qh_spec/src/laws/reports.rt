@@ -4,10 +4,12 @@ ghost use Rattle.std.specs.Prelude.{◌≡◌, ◌↔◌, ◌^◌, ◌++◌, ℕ
 ghost use Rattle.std.specs.List.Sorted.{IsPermutation, IsSortedBy};
 ghost use Rattle.http_header.specs.FieldValue.{FieldValue};
 ghost use Rattle.http_header.specs.HeaderMap.{Entries, IsHeaderMap};
+ghost use Rattle.qh_spec.specs.Echoed.{AreEchoed};
 ghost use Rattle.qh_spec.specs.Lists.{In};
 ghost use Rattle.qh_spec.specs.Message.{PlainMessage};
 ghost use Rattle.qh_spec.specs.MessageRows.{get_message, link_age, two_ages_turned};
-ghost use Rattle.qh_spec.specs.Report.{block, comes_before, in_byte_order, map_lines, newline, report_of};
+ghost use Rattle.qh_spec.specs.Record.{PlainEntry};
+ghost use Rattle.qh_spec.specs.Report.{block, comes_before, in_byte_order, map_lines, newline, report, report_of};
 ghost use Rattle.qh_spec.specs.Same.{SameFields, SameMessage};
 
 /// Byte order keeps the names and orders them, and there is one such order.
@@ -39,4 +41,10 @@ pub fn sameness()
     ensures maps { (word : List ℕ) (a b : Entries FieldValue) → IsHeaderMap a → IsHeaderMap b → SameFields a b → map_lines word a ≡ map_lines word b }
     ensures blocks { (word : List ℕ) (stream : ℕ) (m n : PlainMessage) → IsHeaderMap m.fields → IsHeaderMap n.fields → IfSome m.trailers IsHeaderMap
         → IfSome n.trailers IsHeaderMap → SameMessage m n → block word stream m ≡ block word stream n }
+{}
+
+/// What is written of requests that were echoed, each answered by its response, is the report of the requests.
+pub fn echoes()
+    ensures { (limit : ℕ) (requests : List PlainMessage) (entries : List PlainEntry) (answers : List PlainMessage)
+        → AreEchoed 0 limit requests entries answers → report entries answers ≡ report_of limit requests }
 {}
