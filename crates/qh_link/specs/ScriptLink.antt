@@ -1,10 +1,10 @@
 -- A link in memory as a value.
-use Rattle.std.specs.Prelude.{◌≡◌, ℕ, ◌≤◌, ◌++◌, ◌&&◌, Bool, true, false, nat_lt, List, map, filter, All}
+use Rattle.std.specs.Prelude.{◌≡◌, ℕ, ◌≤◌, ◌++◌, ◌&&◌, Bool, true, false, nat_lt, List, map, filter, All, Option, Some}
 use Rattle.qh_spec.specs.declared.link.Event.{Event}
 use Rattle.qh_spec.specs.declared.link.Upset.{Upset}
 use Rattle.qh_spec.specs.declared.sides.Side.{Side}
 use Rattle.qh_spec.specs.Link.{if_same_side, given_to}
-use Rattle.qh_spec.specs.Schedule.{Flight, flights, due_through, round_count, send_count, IsScheduled, IsUpset}
+use Rattle.qh_spec.specs.Schedule.{Plan, Flight, flights, due_through, round_count, send_count, IsScheduled, IsUpset}
 use Rattle.qh_link.specs.declared.ways.Postponed.{Postponed}
 use Rattle.qh_link.specs.declared.ways.Ways.{Ways}
 use Rattle.qh_link.specs.Ways.{ready_to, later_to}
@@ -15,6 +15,9 @@ pub record PlainLink : Type 0 where
   pub schedule : List Upset
   pub events : List Event
   pub faults : ℕ
+
+abbrev pub plan_of : PlainLink → Option Plan
+plan_of l = Some (record { step = l.step; schedule = l.schedule })
 
 -- the flight comes to this side in a round after this one
 abbrev pub is_late : ℕ → Side → Flight → Bool

@@ -3,7 +3,7 @@ ghost use Rattle.qh_spec.specs.Fault.{CountsFaults};
 ghost use Rattle.qh_spec.specs.Link.{told, moments_of, other};
 ghost use Rattle.qh_spec.specs.Schedule.{IsScheduled, IsUpset, is_failing as failing_of, next_for, moment_of as scheduled_moment, send_count, round_count, copies_of as copies_by};
 ghost use Rattle.qh_link.specs.Link.{send_events, round_events, round_moments, take_events, has_failed, is_failed, taken};
-ghost use Rattle.qh_link.specs.ScriptLink.{PlainLink};
+ghost use Rattle.qh_link.specs.ScriptLink.{PlainLink, plan_of};
 ghost use Rattle.qh_spec.specs.declared.link.Event.TheVariants.{Sent, Round, Fault};
 ghost use Rattle.qh_link.specs.declared.link.LinkFault.TheVariants.{Memory as OutOfMemory};
 
@@ -51,6 +51,23 @@ impl ScriptLink {
         ScriptLink {
             step,
             schedule: Vec::new(alloc),
+            events: Vec::new(alloc),
+            round: 0,
+            sends: 0,
+            faults: 0,
+            ways: Ways::new(alloc),
+        }
+    }
+
+    /// A link with this schedule, before anything happened on it. `is_valid_upset` tests whether an entry is in range.
+    pub fn scheduled(alloc: Global, step: u64, schedule: Vec<Upset>) -> ScriptLink
+        requires step { step ≤ 10000 }
+        requires valid { All IsUpset schedule.items }
+        ensures { result ≡ record { step = step; schedule = schedule.items; events = []; faults = 0 } }
+    {
+        ScriptLink {
+            step,
+            schedule,
             events: Vec::new(alloc),
             round: 0,
             sends: 0,
@@ -171,6 +188,8 @@ impl Link for ScriptLink {
 
     ghost faults = { λ l. l.faults };
 
+    ghost plan = { plan_of };
+
     ghost same_rounds = { λ l es e. cc };
 
     /// A send fails where the schedule says so.
@@ -178,6 +197,7 @@ impl Link for ScriptLink {
         ensures events { Some self.new.events ≡ told (Some self.old.events) (send_events from datagram.now result) }
         ensures moments { moments_of self.new.events ≡ moments_of self.old.events }
         ensures cause { CountsFaults self.old.faults self.new.faults (has_failed result) }
+        ensures plan { plan_of self.new ≡ plan_of self.old }
         ensures exact { MatchResult result
             (λ _. failing_of self.old.schedule (send_count self.old.events + 1) ≡ false)
             (λ e. is_failed e ≡ true → failing_of self.old.schedule (send_count self.old.events + 1) ≡ true) }
@@ -201,6 +221,7 @@ impl Link for ScriptLink {
         ensures order { IfOk result (λ moment. All (λ before. before ≤ moment.0) (moments_of self.old.events)) }
         ensures bound { IfOk result (λ moment. moment.0 < 2 ^ 62) }
         ensures cause { CountsFaults self.old.faults self.new.faults (has_failed result) }
+        ensures plan { plan_of self.new ≡ plan_of self.old }
         ensures exact { IfOk result (λ moment. moment.0
             ≡ scheduled_moment self.old.step (round_count self.old.events + 1)) }
         ensures kept { (self.new.step ≡ self.old.step) × (self.new.schedule ≡ self.old.schedule)
@@ -223,6 +244,7 @@ impl Link for ScriptLink {
         ensures moments { moments_of self.new.events ≡ moments_of self.old.events }
         ensures fits { IfOk result (λ found. IfSome found (λ n. n ≤ length buf.new)) }
         ensures cause { CountsFaults self.old.faults self.new.faults (has_failed result) }
+        ensures plan { plan_of self.new ≡ plan_of self.old }
         ensures exact { IfOk result (λ found. next_for self.old.schedule self.old.events to
             ≡ option_map (λ n. take n buf.new) found) }
         ensures rest { drop (taken result) buf.new ≡ drop (taken result) buf.old }

@@ -46,6 +46,8 @@ impl Echo {
 impl Service for Echo {
     ghost served = { λ s. s };
 
+    ghost may_answer = { λ limits request response. response ≡ echo limits.max_response_body request };
+
     /// Answers a request, and records both. Want of memory records nothing.
     fn serve(
         &mut self,
@@ -59,6 +61,7 @@ impl Service for Echo {
         ensures err { OnErr result (self.new ≡ self.old) }
         ensures recorded { self.new ≡ self.old ++ entries_of stream request.now result }
         ensures lawful { IfOk result (IsLawful limits.now.max_field_section_size limits.now.max_response_body) }
+        ensures answered { IfOk result (λ m. m ≡ echo limits.now.max_response_body request.now) }
     {
         let response = echo_of(alloc, request, limits.max_response_body)?;
         let entry = entry_of(alloc, stream, request, &response)?;

@@ -1,7 +1,9 @@
 ghost use Rattle.std.specs.Prelude.{◌≡◌, ◌++◌, List, IfOk};
+ghost use Rattle.qh_spec.specs.Message.{PlainMessage};
 ghost use Rattle.qh_spec.specs.Record.{PlainEntry};
 ghost use Rattle.qh_spec.specs.Service.{IsServable, IsLawful};
 ghost use Rattle.qh_service.specs.Service.{entries_of};
+ghost use Rattle.qh_service.specs.declared.service.Limits.{Limits as PlainLimits};
 
 use crate::Message;
 use qh_base::Memory;
@@ -38,6 +40,9 @@ pub trait Service {
     /// What it served, in order.
     ghost served: { Self → List PlainEntry };
 
+    /// What it may answer to a request, beyond what every service may.
+    ghost may_answer: { PlainLimits → PlainMessage → PlainMessage → Type 0 };
+
     /// Answers a request, and records both. Want of memory records nothing.
     fn serve(
         &mut self,
@@ -48,5 +53,6 @@ pub trait Service {
     ) -> Result<Message, Memory>
         requires { IsServable limits.now.max_field_section_size request.now }
         ensures recorded { served self.new ≡ served self.old ++ entries_of stream request.now result }
-        ensures lawful { IfOk result (IsLawful limits.now.max_field_section_size limits.now.max_response_body) };
+        ensures lawful { IfOk result (IsLawful limits.now.max_field_section_size limits.now.max_response_body) }
+        ensures answered { IfOk result (may_answer limits.now request.now) };
 }

@@ -1,3 +1,6 @@
+ghost use Rattle.std.specs.Prelude.{◌≡◌, min};
+ghost use Rattle.qh_spec.specs.Service.{echo};
+
 use crate::{Echo, Entry, Head, Limits, Message, Service};
 use http::{Method, StatusCode};
 use http_header::{HeaderMap, HeaderName, HeaderValue};
@@ -55,6 +58,8 @@ struct Brief(Echo);
 
 impl Service for Brief {
     ghost served = { λ s. s.0 };
+
+    ghost may_answer = { λ limits request response. response ≡ echo (min limits.max_response_body 3) request };
 
     fn serve(
         &mut self,
