@@ -76,3 +76,10 @@ same_number m n s t e = decimal_injective m n (omega arith) (omega arith) e
 
 pub no_number_below : (text : List ℕ) (number end : ℕ) → IsNumber text number → end ≤ number → (n : ℕ) → IsNumber text n → n < end → ⊥
 no_number_below text number end is high n other low = omega (arith, same_number n number other.1 is.1 (sym other.0 ∙ is.0))
+
+-- words that are the same one by one
+pub two_words : (a b c d : List ℕ) → a ≡ c → b ≡ d → ◌≡◌ {A = List (List ℕ)} (a ∷ b ∷ []) (c ∷ d ∷ [])
+two_words a b c d e f = ap (λ (z : List ℕ). z ∷ b ∷ []) e ∙ ap (λ (z : List ℕ). c ∷ z ∷ []) f
+
+pub three_words : (a b c d e f : List ℕ) → a ≡ d → b ≡ e → c ≡ f → ◌≡◌ {A = List (List ℕ)} (a ∷ b ∷ c ∷ []) (d ∷ e ∷ f ∷ [])
+three_words a b c d e f x y z = ap (λ (w : List ℕ). w ∷ b ∷ c ∷ []) x ∙ ap (λ (w : List (List ℕ)). d ∷ w) (two_words b c e f y z)

@@ -20,6 +20,7 @@ use http::Method;
 use http_header::{HeaderName, HeaderValue};
 use http_uri::Uri;
 use keywords::keyword_of;
+pub(crate) use numbers::read_below;
 use qh_spec::{Setting, Upset};
 use std::alloc::{AllocError, AllocFailed, Global};
 use words::split_first;

@@ -1,8 +1,9 @@
 ghost use Rattle.std.specs.Prelude.{◌≡◌, ◌++◌, map, codes, decimal, flat_map, IfOk, OnOk, OnErr};
-ghost use Rattle.http_header.specs.HeaderMap.{keys};
+ghost use Rattle.http_header.specs.HeaderMap.{keys, IsHeaderMap};
+ghost use Rattle.qh_spec.specs.Echoed.{HasMaps};
 ghost use Rattle.qh_spec.specs.Report.{report, block, entry_block, answer_block, ok_line, newline, head_text, map_lines, name_lines, value_line, body_lines, in_byte_order};
 ghost use Rattle.qh_service.specs.Message.{head_of};
-ghost use Rattle.qh_script.specs.Report.{HasGrown};
+ghost use Rattle.qh_script.specs.Report.{HasGrown, HaveMaps};
 
 use http_header::{HeaderMap, HeaderName};
 use qh_base::Memory;
@@ -18,6 +19,7 @@ pub fn put_report(
     answers: &[Message],
 ) -> Result<(), Memory>
     ensures ok { IfOk result (λ _. out.new.items ≡ out.old.items ++ report entries.now answers.now) }
+    ensures maps { IfOk result (λ _. HaveMaps entries.now answers.now) }
     ensures err { OnErr result (HasGrown out.old.items out.new.items) }
 {
     for (entry, answer) in entries.iter().zip(answers) {
@@ -55,6 +57,7 @@ pub fn put_block(
     message: &Message,
 ) -> Result<(), Memory>
     ensures ok { IfOk result (λ _. out.new.items ≡ out.old.items ++ block word.now stream message.now) }
+    ensures maps { IfOk result (λ _. HasMaps message.now) }
     ensures err { OnErr result (HasGrown out.old.items out.new.items) }
 {
     put_first_line(alloc, out, word, stream, message.head())?;
@@ -74,6 +77,7 @@ fn put_exchange(
     answer: &Message,
 ) -> Result<(), Memory>
     ensures ok { OnOk result (out.new.items ≡ out.old.items ++ (entry_block entry.now ++ answer_block entry.now.stream answer.now)) }
+    ensures maps { IfOk result (λ _. HasMaps entry.now.request × HasMaps answer.now) }
     ensures err { OnErr result (HasGrown out.old.items out.new.items) }
 {
     put_entry(alloc, out, entry)?;
@@ -83,6 +87,7 @@ fn put_exchange(
 // The block of an entry.
 fn put_entry(alloc: Global, out: &mut Vec<u8>, entry: &Entry) -> Result<(), Memory>
     ensures ok { OnOk result (out.new.items ≡ out.old.items ++ entry_block entry.now) }
+    ensures maps { IfOk result (λ _. HasMaps entry.now.request) }
     ensures err { OnErr result (HasGrown out.old.items out.new.items) }
 {
     put_block(alloc, out, "entry", entry.stream, &entry.request)
@@ -124,8 +129,12 @@ fn put_body(alloc: Global, out: &mut Vec<u8>, body: &[u8]) -> Result<(), Memory>
 // A line for each value, by names in byte order, each name's values in order.
 fn put_map(alloc: Global, out: &mut Vec<u8>, word: &str, fields: &HeaderMap) -> Result<(), Memory>
     ensures ok { OnOk result (out.new.items ≡ out.old.items ++ map_lines word.now fields.now) }
+    ensures valid { IsHeaderMap fields.now }
     ensures err { OnErr result (HasGrown out.old.items out.new.items) }
 {
+    if fields.keys_len() == 0 {
+        return Ok(());
+    }
     let names = names_in_order(alloc, fields)?;
     for name in &names {
         put_values(out, word, name, fields)?;

@@ -12,7 +12,7 @@ mod tests;
 mod untaken;
 
 use crate::{Config, default_config, fits};
-use lines::cut_line;
+pub use lines::cut_line;
 use qh_base::Memory;
 use qh_service::Message;
 use qh_spec::Upset;

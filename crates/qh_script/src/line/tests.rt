@@ -1,102 +1,230 @@
 use super::{Line, LineError, read_line};
-use qh_spec::Upset;
-use std::alloc::{AllocError, Global};
-use std::test::Fail;
+use http::Method;
+use http_header::{HeaderName, HeaderValue};
+use http_uri::Uri;
+use qh_spec::{Select, Setting, Side, Upset};
+use std::alloc::Global;
 
-// What a line says, as text.
-fn shown(alloc: Global, line: &Line<'_>) -> Result<String, AllocError> {
-    match line {
-        Line::Empty => format!(in alloc; "empty"),
-        Line::Request { method, uri } => {
-            let method = method.as_str();
-            format!(in alloc; "{method} of {uri}")
-        }
-        Line::Field { name, value } => {
-            let name = name.as_str();
-            format!(in alloc; "field {name} of {}", value.len())
-        }
-        Line::Trailer { name, value } => {
-            let name = name.as_str();
-            format!(in alloc; "trailer {name} of {}", value.len())
-        }
-        Line::Body(text) => format!(in alloc; "body of {}", text.len()),
-        Line::Fill(len) => format!(in alloc; "{len} bytes"),
-        Line::Set(setting, number) => format!(in alloc; "{setting:?} {number}"),
-        Line::RetryOn => format!(in alloc; "retry"),
-        Line::GreaseOff => format!(in alloc; "no grease"),
-        Line::Disturb(upset) => shown_upset(alloc, upset),
+/// What a line is to say.
+enum Said {
+    Nothing,
+    Request(&'static str, &'static str),
+    Field(&'static str, &'static [u8]),
+    Trailer(&'static str, &'static [u8]),
+    Body(&'static [u8]),
+    Fill(u64),
+    Number(Setting, u64),
+    Retry,
+    NoGrease,
+    Lose(Select),
+    Twice(Select),
+    Late(Select, u64),
+    Fail(u64),
+    Forge(u64, Side, &'static [u8]),
+}
+
+fn is_request(method: &Method, uri: &Uri, said: &Said) -> bool {
+    match said {
+        Said::Request(name, target) => method.as_str() == *name && uri.eq_str(*target),
+        _ => false,
     }
 }
 
-fn shown_upset(alloc: Global, upset: &Upset) -> Result<String, AllocError> {
-    match upset {
-        Upset::Lose(which) => format!(in alloc; "lose {which:?}"),
-        Upset::Twice(which) => format!(in alloc; "twice {which:?}"),
-        Upset::Late(which, rounds) => format!(in alloc; "{which:?} late by {rounds}"),
-        Upset::Fail(number) => format!(in alloc; "fail {number}"),
-        Upset::Forge { round, side, bytes } => {
-            format!(in alloc; "{side:?} in {round} gets {:?}", bytes.as_slice())
-        }
+fn is_field(name: &HeaderName, value: &HeaderValue, said: &Said) -> bool {
+    match said {
+        Said::Field(text, bytes) => name.as_str() == *text && value.as_bytes() == *bytes,
+        _ => false,
     }
+}
+
+fn is_trailer(name: &HeaderName, value: &HeaderValue, said: &Said) -> bool {
+    match said {
+        Said::Trailer(text, bytes) => name.as_str() == *text && value.as_bytes() == *bytes,
+        _ => false,
+    }
+}
+
+fn is_upset(upset: &Upset, said: &Said) -> bool {
+    match upset {
+        Upset::Lose(which) => matches!(said, Said::Lose(select) if *select == *which),
+        Upset::Twice(which) => matches!(said, Said::Twice(select) if *select == *which),
+        Upset::Late(which, rounds) => {
+            matches!(said, Said::Late(select, by) if *select == *which && *by == *rounds)
+        }
+        Upset::Fail(number) => matches!(said, Said::Fail(at) if *at == *number),
+        Upset::Forge { round, side, bytes } => is_forged(*round, *side, bytes.as_slice(), said),
+    }
+}
+
+fn is_forged(round: u64, side: Side, bytes: &[u8], said: &Said) -> bool {
+    match said {
+        Said::Forge(at, end, wanted) => *at == round && *end == side && *wanted == bytes,
+        _ => false,
+    }
+}
+
+fn is(line: &Line<'_>, said: &Said) -> bool {
+    match line {
+        Line::Empty => matches!(said, Said::Nothing),
+        Line::Request { method, uri } => is_request(method, uri, said),
+        Line::Field { name, value } => is_field(name, value, said),
+        Line::Trailer { name, value } => is_trailer(name, value, said),
+        Line::Body(text) => matches!(said, Said::Body(bytes) if *bytes == *text),
+        Line::Fill(count) => matches!(said, Said::Fill(number) if *number == *count),
+        Line::Set(setting, number) => {
+            matches!(said, Said::Number(of, at) if *of == *setting && *at == *number)
+        }
+        Line::RetryOn => matches!(said, Said::Retry),
+        Line::GreaseOff => matches!(said, Said::NoGrease),
+        Line::Disturb(upset) => is_upset(upset, said),
+    }
+}
+
+fn says(alloc: Global, text: &[u8], said: &Said) -> bool {
+    let Ok(line) = read_line(alloc, text) else {
+        return false;
+    };
+    is(&line, said)
 }
 
 // Lines, and what each says.
-const LINES: &[u8] =
-    b"\nrequest GET https://a.test/b?c\nrequest M-SEARCH *\nfield X-A b c\nfield a  \n\
-    trailer Sum 1\nbody \nbody two words\nfill 0\nfill 1073741824\nsection 65536\n\
-    requestbody 10\nresponse 9223372036854775807\ncap 3\nbidi 5\nwindow 6\nidle 0\nrtt 7\n\
-    rounds 281474976710655\nstep 10000\nretry on\ngrease off\ndrop 3\ndrop all\ndrop each 2\n\
-    twice all\nlate 5 1000\nlate each 3 1\nlate all 2\nfail 1\nforge 1 client 00fF\n\
-    forge 2 server a0";
-
-const SAID: &[u8] =
-    b"empty\nGET of https://a.test/b?c\nM-SEARCH of *\nfield x-a of 3\nfield a of 1\n\
-    trailer sum of 1\nbody of 0\nbody of 9\n0 bytes\n1073741824 bytes\nSection 65536\n\
-    RequestBody 10\nResponse 9223372036854775807\nCap 3\nBidi 5\nWindow 6\nIdle 0\nRtt 7\n\
-    Rounds 281474976710655\nStep 10000\nretry\nno grease\nlose One(3)\nlose All\n\
-    lose Each(2)\ntwice All\nOne(5) late by 1000\nEach(3) late by 1\nAll late by 2\nfail 1\n\
-    Client in 1 gets [0, 255]\nServer in 2 gets [160]\n";
+const LINES: [(&[u8], Said); 32] = [
+    (b"", Said::Nothing),
+    (
+        b"request GET https://a.test/b?c",
+        Said::Request("GET", "https://a.test/b?c"),
+    ),
+    (b"request M-SEARCH *", Said::Request("M-SEARCH", "*")),
+    (b"field X-A b c", Said::Field("x-a", b"b c")),
+    (b"field a  ", Said::Field("a", b" ")),
+    (b"trailer Sum 1", Said::Trailer("sum", b"1")),
+    (b"body ", Said::Body(b"")),
+    (b"body two words", Said::Body(b"two words")),
+    (b"fill 0", Said::Fill(0)),
+    (b"fill 1073741824", Said::Fill(1_073_741_824)),
+    (b"section 65536", Said::Number(Setting::Section, 65_536)),
+    (b"requestbody 10", Said::Number(Setting::RequestBody, 10)),
+    (
+        b"response 9223372036854775807",
+        Said::Number(Setting::Response, 9_223_372_036_854_775_807),
+    ),
+    (b"cap 3", Said::Number(Setting::Cap, 3)),
+    (b"bidi 5", Said::Number(Setting::Bidi, 5)),
+    (b"window 6", Said::Number(Setting::Window, 6)),
+    (b"idle 0", Said::Number(Setting::Idle, 0)),
+    (b"rtt 7", Said::Number(Setting::Rtt, 7)),
+    (
+        b"rounds 281474976710655",
+        Said::Number(Setting::Rounds, 281_474_976_710_655),
+    ),
+    (b"step 10000", Said::Number(Setting::Step, 10_000)),
+    (b"retry on", Said::Retry),
+    (b"grease off", Said::NoGrease),
+    (b"drop 3", Said::Lose(Select::One(3))),
+    (b"drop all", Said::Lose(Select::All)),
+    (b"drop each 2", Said::Lose(Select::Each(2))),
+    (b"twice all", Said::Twice(Select::All)),
+    (b"late 5 1000", Said::Late(Select::One(5), 1_000)),
+    (b"late each 3 1", Said::Late(Select::Each(3), 1)),
+    (b"late all 2", Said::Late(Select::All, 2)),
+    (b"fail 1", Said::Fail(1)),
+    (
+        b"forge 1 client 00fF",
+        Said::Forge(1, Side::Client, b"\x00\xff"),
+    ),
+    (b"forge 2 server a0", Said::Forge(2, Side::Server, b"\xa0")),
+];
 
 #[test]
-fn lines_say(rt: HostRuntime) -> Result<(), Fail> {
-    let mut said = Vec::new(rt.alloc());
-    for text in LINES.split(|byte| *byte == b'\n') {
-        let line = read_line(rt.alloc(), text)?;
-        said.extend_from_slice(shown(rt.alloc(), &line)?.as_bytes())?;
-        said.push(b'\n')?;
+fn lines_say(rt: HostRuntime) {
+    for (text, said) in &LINES {
+        assert!(rt; says(rt.alloc(), *text, said));
     }
-    assert_eq!(rt; said.as_slice(), SAID);
-    Ok(())
 }
 
 // Texts that are no lines.
-const REFUSED: &[u8] =
-    b" \nfield\nunknown 1\nFill 1\nfill\nfill \nfill 01\nfill +1\nfill -1\nfill 1 \nfill  1\n\
-    fill 1073741825\ncap 9223372036854775808\ncap 18446744073709551616\n\
-    rounds 281474976710656\nstep 10001\ndrop 0\ndrop each 0\ndrop each\ndrop every 1\n\
-    drop All\ntwice 1 2\nlate 1\nlate all 0\nlate all 1001\nlate each 1\nfail 0\nfail all\n\
-    forge 0 client 00\nforge 1 nobody 00\nforge 1 client 0\nforge 1 client \nforge 1 client\n\
-    forge 1 client 0g\nforge 1 client 00 00\nretry off\nretry on \ngrease on\nfield name\n\
-    field name \nfield  value\nfield na:me value\nfield name \x00\ntrailer name \x7f\n\
-    request GET\nrequest G@T https://a.test/\nrequest GET  https://a.test/";
+const REFUSED: [&[u8]; 47] = [
+    b" ",
+    b"field",
+    b"unknown 1",
+    b"Fill 1",
+    b"fill",
+    b"fill ",
+    b"fill 01",
+    b"fill +1",
+    b"fill -1",
+    b"fill 1 ",
+    b"fill  1",
+    b"fill 1073741825",
+    b"cap 9223372036854775808",
+    b"cap 18446744073709551616",
+    b"rounds 281474976710656",
+    b"step 10001",
+    b"drop 0",
+    b"drop each 0",
+    b"drop each",
+    b"drop every 1",
+    b"drop All",
+    b"twice 1 2",
+    b"late 1",
+    b"late all 0",
+    b"late all 1001",
+    b"late each 1",
+    b"fail 0",
+    b"fail all",
+    b"forge 0 client 00",
+    b"forge 1 nobody 00",
+    b"forge 1 client 0",
+    b"forge 1 client ",
+    b"forge 1 client",
+    b"forge 1 client 0g",
+    b"forge 1 client 00 00",
+    b"retry off",
+    b"retry on ",
+    b"grease on",
+    b"field name",
+    b"field name ",
+    b"field  value",
+    b"field na:me value",
+    b"field name \x00",
+    b"trailer name \x7f",
+    b"request GET",
+    b"request G@T https://a.test/",
+    b"request GET  https://a.test/",
+];
 
-#[test]
-fn lines_are_refused(rt: HostRuntime) {
-    for text in REFUSED.split(|byte| *byte == b'\n') {
-        let answer = read_line(rt.alloc(), text);
-        assert!(rt; matches!(answer, Err(LineError::Refused)));
-    }
+fn is_refused(alloc: Global, text: &[u8]) -> bool {
+    read_line(alloc, text).err() == Some(LineError::Refused)
 }
 
 #[test]
-fn forged_bytes_are_at_most_2048(rt: HostRuntime) -> Result<(), Fail> {
-    let mut text = b"forge 1 client ".as_slice().to_vec(rt.alloc())?;
-    for _byte in 0..2048 {
-        text.extend_from_slice(b"a5")?;
+fn lines_are_refused(rt: HostRuntime) {
+    for text in &REFUSED {
+        assert!(rt; is_refused(rt.alloc(), *text));
     }
-    assert!(rt; read_line(rt.alloc(), &text).is_ok());
-    text.extend_from_slice(b"a5")?;
-    let answer = read_line(rt.alloc(), &text);
-    assert!(rt; matches!(answer, Err(LineError::Refused)));
-    Ok(())
+}
+
+// A line that forges bytes of so many digits.
+fn forging(alloc: Global, digits: usize) -> Option<Vec<u8>> {
+    let digits = vec![in alloc; b'a'; digits].ok()?;
+    let mut text = Vec::new(alloc);
+    text.extend_from_slice(b"forge 1 client ").ok()?;
+    text.extend_from_slice(digits.as_slice()).ok()?;
+    Some(text)
+}
+
+fn takes_forged(alloc: Global, digits: usize) -> Option<bool> {
+    let text = forging(alloc, digits)?;
+    Some(read_line(alloc, text.as_slice()).is_ok())
+}
+
+fn refuses_forged(alloc: Global, digits: usize) -> Option<bool> {
+    let text = forging(alloc, digits)?;
+    Some(is_refused(alloc, text.as_slice()))
+}
+
+#[test]
+fn forged_bytes_are_at_most_2048(rt: HostRuntime) {
+    assert!(rt; takes_forged(rt.alloc(), 4_096) == Some(true));
+    assert!(rt; refuses_forged(rt.alloc(), 4_098) == Some(true));
 }
