@@ -2,6 +2,8 @@
 
 mod placed;
 mod spelling;
+#[cfg(test)]
+mod tests;
 mod whole;
 
 pub use spelling::spells;

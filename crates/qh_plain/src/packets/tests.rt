@@ -1,7 +1,6 @@
-use crate::packets::packets;
-use qh_base::{Memory, Side, Space};
+use crate::packets::{Packet, packets};
+use qh_base::{Side, Space};
 use std::alloc::Global;
-use std::test::Fail;
 
 // A 1-RTT packet of the client with the number 1000 and one frame, HANDSHAKE_DONE, by the connection whose key id is
 // d0 and seven zeros.
@@ -17,17 +16,44 @@ const INITIAL: &[u8] =
 const FORGED: &[u8] =
     b"\xc0\x00\x00\x00\x01\x08PPPPPPPP\x00\x00\x22\x00\x01KKKKKKKK\x00\x00\x00\x00\x00\x00\x00\x00\xa4\x00\x00\x00\x00\x00\x00\x00\x00\x00\x08\x00\x00\x00\x00\x00";
 
-// The space, the sender, the number and the type of the first frame of each packet, at ids of eight bytes.
-fn told(alloc: Global, datagram: &[u8]) -> Result<Vec<(Space, Side, u64, u64)>, Memory> {
-    let mut all = Vec::new(alloc);
-    for packet in &packets(alloc, 8, datagram)? {
-        let kind = match packet.frames() {
-            [frame] => frame.kind(),
-            _ => 0xff,
-        };
-        all.push((packet.space(), packet.sender(), packet.number(), kind))?;
+// The space, the sender, the number and the type of the first frame of a packet.
+type Told = (Space, Side, u64, u64);
+
+fn kind_of(packet: &Packet) -> u64 {
+    match packet.frames() {
+        [frame] => frame.kind(),
+        _ => 0xff,
     }
-    Ok(all)
+}
+
+fn is(packet: &Packet, wanted: &Told) -> bool {
+    packet.space() == wanted.0
+        && packet.sender() == wanted.1
+        && packet.number() == wanted.2
+        && kind_of(packet) == wanted.3
+}
+
+fn are(packets: &[Packet], wanted: &[Told]) -> bool {
+    let mut same = packets.len() == wanted.len();
+    for (packet, told) in packets.iter().zip(wanted.iter()) {
+        same = same && is(packet, told);
+    }
+    same
+}
+
+// Whether the packets of a datagram, at ids of eight bytes, are these.
+fn has(alloc: Global, datagram: &[u8], wanted: &[Told]) -> Option<bool> {
+    let packets = packets(alloc, 8, datagram).ok()?;
+    Some(are(packets.as_slice(), wanted))
+}
+
+// The sender and the number of the first packet of a datagram.
+fn first_of(alloc: Global, datagram: &[u8]) -> Option<Option<(Side, u64)>> {
+    let packets = packets(alloc, 8, datagram).ok()?;
+    match packets.first() {
+        Some(packet) => Some(Some((packet.sender(), packet.number()))),
+        None => Some(None),
+    }
 }
 
 // The sender and the number of the packet whose byte at this position is changed in these bits.
@@ -52,27 +78,31 @@ fn expected(position: usize, mask: u8) -> Option<(Side, u64)> {
 }
 
 #[test]
-fn each_byte_of_a_packet_tells(rt: HostRuntime) -> Result<(), Fail> {
-    assert_eq!(rt;
-        told(rt.alloc(), &PACKET)?.as_slice(),
-        [(Space::Data, Side::Client, 1000, 0x1e)].as_slice()
-    );
+fn each_byte_of_a_packet_tells(rt: HostRuntime) {
+    let told = (Space::Data, Side::Client, 1000, 0x1e);
+    assert!(rt; has(rt.alloc(), &PACKET, &[told]) == Some(true));
     for mask in [1, 0x40, 0x80] {
         for position in 0..PACKET.len() {
             let mut datagram = PACKET;
             datagram[position] ^= mask;
-            let found = told(rt.alloc(), &datagram)?.first().map(|p| (p.1, p.2));
-            assert_eq!(rt; (position, found), (position, expected(position, mask)));
+            let found = first_of(rt.alloc(), &datagram);
+            assert!(rt; found == Some(expected(position, mask)), "{position}");
         }
     }
-    Ok(())
+}
+
+// Whether the packets of two texts, one behind the other, are these.
+fn have(alloc: Global, front: &[u8], rest: &[u8], wanted: &[Told]) -> Option<bool> {
+    let mut datagram = Vec::from_slice(alloc, front).ok()?;
+    datagram.extend_from_slice(rest).ok()?;
+    has(alloc, datagram.as_slice(), wanted)
 }
 
 #[test]
-fn packets_stand_one_after_another(rt: HostRuntime) -> Result<(), Fail> {
+fn packets_stand_one_after_another(rt: HostRuntime) {
     let first = (Space::Initial, Side::Client, 0, 1);
     let last = (Space::Data, Side::Client, 1000, 0x1e);
-    let rows: [(&[u8], &[u8], &[(Space, Side, u64, u64)]); 5] = [
+    let rows: [(&[u8], &[u8], &[Told]); 5] = [
         (INITIAL, &PACKET, &[first, last]),
         (FORGED, &PACKET, &[last]),
         (INITIAL, b"\x40 no form", &[first]),
@@ -80,9 +110,6 @@ fn packets_stand_one_after_another(rt: HostRuntime) -> Result<(), Fail> {
         (b"\x00", INITIAL, &[]),
     ];
     for (front, rest, packets) in rows {
-        let mut datagram = Vec::from_slice(rt.alloc(), front)?;
-        datagram.extend_from_slice(rest)?;
-        assert_eq!(rt; told(rt.alloc(), &datagram)?.as_slice(), packets);
+        assert!(rt; have(rt.alloc(), front, rest, packets) == Some(true));
     }
-    Ok(())
 }
