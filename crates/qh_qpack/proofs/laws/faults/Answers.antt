@@ -1,0 +1,8 @@
+use Rattle.qh_qpack.proofs.FaultLaws.{one_fault, no_fault}
+use Rattle.qh_qpack.proofs.laws.faults.Goals as goal
+
+pub returns-clause-one : goal.returns-clause-one
+returns-clause-one c = one_fault
+
+pub returns-clause-none : goal.returns-clause-none
+returns-clause-none c = no_fault
