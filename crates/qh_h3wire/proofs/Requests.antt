@@ -9,11 +9,11 @@ use Rattle.http_uri.specs.Uri.{PartsFit, IsUriOfParts}
 use Rattle.http_uri.specs.declared.uri.Parts.{Parts}
 use Rattle.http_uri.specs.declared.uri.Uri.{Uri as Target}
 use Rattle.qh_spec.specs.Message.{PlainTarget, target_of}
-use Rattle.qh_h3wire.specs.Header.{host_of, IsAuthorityOf, IsTargetOf}
-use Rattle.qh_h3wire.specs.HeaderFault.{authority_fault, IsHostAnswer, IsAuthorityAnswer, IsRequestFault}
+use Rattle.qh_h3wire.specs.Header.{map_host, IsAuthorityOf, IsTargetOf}
+use Rattle.qh_h3wire.specs.HeaderFault.{authority_fault, IsHostAnswer, IsAuthorityAnswer, IsPartsFault}
 use Rattle.qh_h3wire.specs.PlainHeader.{PlainHeader}
 use Rattle.qh_h3wire.specs.declared.headers.HeaderError.{HeaderError}
-use Rattle.qh_h3wire.specs.declared.headers.HeaderError.TheVariants.{InvalidHeaderName, InvalidHeaderValue, InvalidRequest, MissingMethod, MissingStatus, MissingAuthority, ContradictedAuthority, Undecodable, Memory}
+use Rattle.qh_h3wire.specs.declared.headers.HeaderError.TheVariants.{InvalidHeaderName, InvalidHeaderValue, InvalidRequest, MissingMethod, MissingStatus, MissingAuthority, ContradictedAuthority, Memory}
 
 -- the bytes of a value behind a reference
 pub host_bytes : (r : Option (Bor FieldValue)) → option_map (λ (v : Bor FieldValue). v.now.bytes) r ≡ option_map (λ (v : FieldValue). v.bytes) (option_copied r)
@@ -69,13 +69,12 @@ answer_unlike T None (Some b) InvalidHeaderValue h = absurd h
 answer_unlike T None (Some b) MissingMethod h = absurd h
 answer_unlike T None (Some b) MissingStatus h = absurd h
 answer_unlike T None (Some b) MissingAuthority h = absurd h
-answer_unlike T None (Some b) Undecodable h = absurd h
 
 pub unlike_clause : (T : Type 0) (method own host : Option (List ℕ)) (e : HeaderError) → IsSome method → IsAuthorityAnswer (Err e) own host
     → IsErrOf {T = T} (Err e) ContradictedAuthority ↔ (IsSome method × Unlike own host)
 unlike_clause T method own host e m h = let c = answer_unlike T own host e h in (λ g. (m, c.0 g), λ u. c.1 u.1)
 
-authority_found : (own host : Option (List ℕ)) (a : List ℕ) → IsAuthorityAnswer (Ok a) own host → IsAuthorityOf own host a
+pub authority_found : (own host : Option (List ℕ)) (a : List ℕ) → IsAuthorityAnswer (Ok a) own host → IsAuthorityOf own host a
 authority_found None None a h = cc
 authority_found None (Some b) a h = h
 authority_found (Some own) None a h = let e : a ≡ own = cc in e
@@ -89,17 +88,17 @@ authority_found (Some own) (Some b) a h =
 fit_both : (p : Parts) → IsSome p.authority → PartsFit p → IsSome p.scheme ↔ IsSome p.path_and_query
 fit_both p a f = (λ s. (f.0 s).1, λ d. f.1 (a, d))
 
-both_fit : (p : Parts) → IsSome p.authority → (IsSome p.scheme ↔ IsSome p.path_and_query) → PartsFit p
+pub both_fit : (p : Parts) → IsSome p.authority → (IsSome p.scheme ↔ IsSome p.path_and_query) → PartsFit p
 both_fit p a b = (λ s. (a, b.0 s), λ d. b.1 d.1)
 
-abbrev parts : Option (List ℕ) → List ℕ → Option (List ℕ) → Parts
+abbrev pub parts : Option (List ℕ) → List ℕ → Option (List ℕ) → Parts
 parts scheme authority path = record { scheme = scheme; authority = Some authority; path_and_query = path }
 
-pub target_made : (h : PlainHeader) (authority : List ℕ) (u : Target) → IsAuthorityAnswer (Ok authority) h.authority (host_of h.fields) → PartsFit (parts h.scheme authority h.path) → IsUriOfParts (parts h.scheme authority h.path) u
+pub target_made : (h : PlainHeader) (authority : List ℕ) (u : Target) → IsAuthorityAnswer (Ok authority) h.authority (map_host h.fields) → PartsFit (parts h.scheme authority h.path) → IsUriOfParts (parts h.scheme authority h.path) u
     → IsTargetOf h (target_of u)
 target_made h authority u a f is = record {
   name = authority;
-  authority = authority_found h.authority (host_of h.fields) authority a;
+  authority = authority_found h.authority (map_host h.fields) authority a;
   authority_kept = is.1;
   both = fit_both (parts h.scheme authority h.path) refl f;
   scheme_kept = is.0;
@@ -109,7 +108,7 @@ target_made h authority u a f is = record {
 pub no_target : (h : PlainHeader) (authority : List ℕ) → (PartsFit (parts h.scheme authority h.path) → ⊥) → (t : PlainTarget) → IsTargetOf h t → ⊥
 no_target h authority f t is = f (both_fit (parts h.scheme authority h.path) refl is.both)
 
-host_fault : (host : List ℕ) (e : HeaderError) → IsHostAnswer (Err e) host → IsRequestFault e
+host_fault : (host : List ℕ) (e : HeaderError) → IsHostAnswer (Err e) host → IsPartsFault e
 host_fault host InvalidRequest h = tt
 host_fault host Memory h = tt
 host_fault host InvalidHeaderName h = absurd h
@@ -118,15 +117,14 @@ host_fault host MissingMethod h = absurd h
 host_fault host MissingStatus h = absurd h
 host_fault host MissingAuthority h = absurd h
 host_fault host ContradictedAuthority h = absurd h
-host_fault host Undecodable h = absurd h
 
 -- a fault of the authority is one of a request
-pub request_fault : (own host : Option (List ℕ)) (e : HeaderError) → IsAuthorityAnswer (Err e) own host → IsRequestFault e
-request_fault None None e h = let f : e ≡ MissingAuthority = cc in subst IsRequestFault (sym f) tt
+pub request_fault : (own host : Option (List ℕ)) (e : HeaderError) → IsAuthorityAnswer (Err e) own host → IsPartsFault e
+request_fault None None e h = let f : e ≡ MissingAuthority = cc in subst IsPartsFault (sym f) tt
 request_fault (Some a) None e h = cc
 request_fault None (Some b) e h = host_fault b e h
 request_fault (Some a) (Some b) e h =
     elim (cases_Bool (bytes_eq a b)) [
       | inl t ↦ let g = rw t at h in cc
-      | inr t ↦ let g = rw t at h in let f : e ≡ ContradictedAuthority = cc in subst IsRequestFault (sym f) tt
+      | inr t ↦ let g = rw t at h in let f : e ≡ ContradictedAuthority = cc in subst IsPartsFault (sym f) tt
     ]

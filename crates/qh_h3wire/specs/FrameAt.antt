@@ -1,38 +1,66 @@
 -- Reading a frame, as a function on lists.
-use Rattle.std.specs.Prelude.{ℕ, ◌+◌, ◌==◌, ◌&&◌, ◌||◌, nat_lt, nat_le, Bool, List, length, take, drop, Option, Some, None, Result, Ok, Err, if◌then◌else◌}
+use Rattle.std.specs.Prelude.{ℕ, ◌+◌, ◌==◌, ◌||◌, nat_lt, Bool, List, length, take, drop, Option, Some, None, Result, Ok, Err, if◌then◌else◌}
 use Rattle.qh_base.specs.Varint.{varint_at}
-use Rattle.qh_h3wire.specs.Chain.{◌>>=◌}
-use Rattle.qh_h3wire.specs.declared.frame.Preface.{Preface}
+use Rattle.qh_h3wire.specs.Pair.{pair_at}
+use Rattle.qh_h3wire.specs.Settings.{PlainSettings}
+use Rattle.qh_h3wire.specs.SettingsAt.{settings_at}
+use Rattle.qh_h3wire.specs.SettingsValue.{settings_value}
 use Rattle.qh_h3wire.specs.declared.frame.Frame.{Frame}
-use Rattle.qh_h3wire.specs.declared.frame.Frame.TheVariants.{Headers, DataLen}
+use Rattle.qh_h3wire.specs.declared.frame.Frame.TheVariants.{Headers, CancelPush, Settings, PushPromise, Goaway, MaxPushId, DataLen}
 use Rattle.qh_h3wire.specs.declared.frame.FrameError.{FrameError}
-use Rattle.qh_h3wire.specs.declared.frame.FrameError.TheVariants.{ForbiddenFrame, UnknownFrame, Incomplete}
+use Rattle.qh_h3wire.specs.declared.frame.FrameError.TheVariants as error
+use Rattle.qh_h3wire.specs.declared.pair.Pair.{Pair}
+use Rattle.qh_h3wire.specs.declared.settings.SettingsError.{SettingsError}
 
--- the type and the length that begin the bytes, and how many bytes they take
-unfoldable pub preface_at : List ℕ → Option Preface
-preface_at bytes =
-    varint_at bytes >>= λ kind. (varint_at (drop kind.1 bytes) >>= λ count. Some (record { kind = kind.0; length = count.0; size = kind.1 + count.1 }))
+-- the id that takes so many bytes
+abbrev pub id_of : Option (ℕ × ℕ) → ℕ → Result ℕ FrameError
+id_of None size = Err error.Malformed
+id_of (Some found) size = if found.1 == size then Ok found.0 else Err error.Malformed
 
--- types of HTTP/3 that this stage doesn't take, and those that HTTP/2 had and HTTP/3 reserves (section 7.2.8)
-abbrev pub is_forbidden : ℕ → Bool
-is_forbidden kind = (nat_le 2 kind && nat_le kind 9) || (kind == 13)
+-- the id that is a whole payload
+abbrev pub id_at : List ℕ → Result ℕ FrameError
+id_at payload = id_of (varint_at payload) (length payload)
+
+-- a frame with an id
+abbrev pub with_id : (ℕ → Frame) → Result ℕ FrameError → Result Frame FrameError
+with_id make (Ok id) = Ok (make id)
+with_id make (Err e) = Err e
+
+abbrev pub with_settings : Result PlainSettings SettingsError → Result Frame FrameError
+with_settings (Ok s) = Ok (Settings (settings_value s))
+with_settings (Err e) = Err (error.Settings e)
+
+-- a promise, where an id begins the payload
+abbrev pub promise_from : Option (ℕ × ℕ) → List ℕ → Result Frame FrameError
+promise_from None payload = Err error.Malformed
+promise_from (Some found) payload = Ok (PushPromise found.0 (drop found.1 payload))
+
+-- the types that HTTP/2 had and HTTP/3 reserves (section 7.2.8)
+abbrev pub is_reserved_kind : ℕ → Bool
+is_reserved_kind kind = (kind == 2) || ((kind == 6) || ((kind == 8) || (kind == 9)))
+
+-- a frame of a type that has no meaning here
+abbrev pub of_other_kind : ℕ → Result Frame FrameError
+of_other_kind kind = if is_reserved_kind kind then Err (error.ForbiddenFrame kind) else Err (error.UnknownFrame kind)
 
 -- a frame that isn't DATA, with its payload
 abbrev pub whole_frame : ℕ → List ℕ → Result Frame FrameError
 whole_frame kind payload =
-    if kind == 1 then Ok (Headers payload) else if is_forbidden kind then Err (ForbiddenFrame kind) else Err (UnknownFrame kind)
+    if kind == 1 then Ok (Headers payload) else if kind == 3 then with_id CancelPush (id_at payload) else if kind == 4 then with_settings (settings_at payload)
+    else if kind == 5 then promise_from (varint_at payload) payload else if kind == 7 then with_id Goaway (id_at payload)
+    else if kind == 13 then with_id MaxPushId (id_at payload) else of_other_kind kind
 
--- what follows from the type and the length
-abbrev pub frame_after : Preface → List ℕ → Result Frame FrameError × ℕ
+-- what follows from the type and the length, which are the two numbers in front
+abbrev pub frame_after : Pair → List ℕ → Result Frame FrameError × ℕ
 frame_after p bytes =
-    if p.kind == 0 then (Ok (DataLen p.length), p.size)
-    else if nat_lt (length (drop p.size bytes)) p.length then (Err (Incomplete (p.length + 2)), 0)
-    else (whole_frame p.kind (take p.length (drop p.size bytes)), p.size + p.length)
+    if p.first == 0 then (Ok (DataLen p.second), p.size)
+    else if nat_lt (length (drop p.size bytes)) p.second then (Err (error.Incomplete (p.second + 2)), 0)
+    else (whole_frame p.first (take p.second (drop p.size bytes)), p.size + p.second)
 
-abbrev pub frame_from : Option Preface → List ℕ → Result Frame FrameError × ℕ
-frame_from None bytes = (Err (Incomplete (length bytes + 1)), 0)
+abbrev pub frame_from : Option Pair → List ℕ → Result Frame FrameError × ℕ
+frame_from None bytes = (Err (error.Incomplete (length bytes + 1)), 0)
 frame_from (Some p) bytes = frame_after p bytes
 
 -- the frame that begins the bytes, or why there is none, and how many bytes are used
 unfoldable pub frame_at : List ℕ → Result Frame FrameError × ℕ
-frame_at bytes = frame_from (preface_at bytes) bytes
+frame_at bytes = frame_from (pair_at bytes) bytes

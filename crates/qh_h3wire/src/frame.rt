@@ -1,24 +1,43 @@
-ghost use Rattle.std.specs.Prelude.{◌≡◌, ℕ, ◌+◌, ◌<◌, ◌≤◌, ◌^◌, List, ◌++◌, length, take, OnOk, OnErr, IfSome};
+ghost use Rattle.std.specs.Prelude.{◌≡◌, ℕ, ◌+◌, ◌<◌, ◌≤◌, ◌^◌, List, ◌++◌, length, take, MatchResult, OnOk, OnErr};
+ghost use Rattle.qh_base.specs.Varint.{varint_at};
 ghost use Rattle.qh_spec.specs.Varint.{varint};
-ghost use Rattle.qh_spec.specs.HttpFrame.{IsHttpFrame, headers_frame};
-ghost use Rattle.qh_h3wire.specs.Frame.{IsDataHeader, IfHeaders, IfDataLen, IfOtherKind, IfIncomplete, IsOtherFrame, HasNoFrame, IsRead};
-ghost use Rattle.qh_h3wire.specs.FrameAt.{preface_at, is_forbidden, frame_at};
-ghost use Rattle.qh_h3wire.specs.FrameBytes.{IsWritable, frame_bytes, as_read, used_bytes};
+ghost use Rattle.qh_spec.specs.HttpFrame.{HttpFrame, IsHttpFrame, http_frame, headers_frame};
+ghost use Rattle.qh_h3wire.specs.Frame.{IsDataHeader, MeansFrame, IfFrame, IfHeaders, IfDataLen, IfForbidden, IfUnknown, IfMalformed, IfSettingsError, IfIncomplete, IsMeant, IsReservedFrame, IsUnknownFrame, IsMalformedFrame, IsFaultySettings, HasNoFrame, IsWholeRead, IsRead};
+ghost use Rattle.qh_h3wire.specs.FrameAt.{id_at, with_settings, promise_from, whole_frame, frame_at};
+ghost use Rattle.qh_h3wire.specs.FrameBytes.{IsWritable, IsInRoom, frame_bytes, as_read, used_bytes, settings_frame, shared_payload, head_bytes};
+ghost use Rattle.qh_h3wire.specs.FrameFault.{code_of};
+ghost use Rattle.qh_h3wire.specs.Settings.{AreWritable};
+ghost use Rattle.qh_h3wire.specs.SettingsAt.{settings_at};
+ghost use Rattle.qh_h3wire.specs.SettingsValue.{plain_of};
 ghost use Rattle.qh_h3wire.specs.declared.frame.Frame.{Frame as AFrame};
 ghost use Rattle.qh_h3wire.specs.Grown.{HasGrown};
 
+use crate::pair::Pair;
+use crate::{Settings, SettingsError};
 use bytes::Bytes;
-use qh_base::{Memory, VarInt, get_varint, put_varint};
-use std::alloc::Global;
+use qh_base::{Code, Memory, VarInt, get_varint, put_varint};
+use std::alloc::{AllocError, Global};
 use thiserror::Error;
 
-/// A frame of a request stream (RFC 9114, section 7.2).
+/// A frame (RFC 9114, section 7.2).
 #[derive(Debug, PartialEq, Eq, Drop)]
 pub enum Frame {
     /// A DATA frame with its payload, which is only written.
     Data(Bytes),
     /// A HEADERS frame with its field section.
     Headers(Bytes),
+    /// A CANCEL_PUSH frame with the id of the push.
+    CancelPush(u64),
+    /// A SETTINGS frame.
+    Settings(Settings),
+    /// A PUSH_PROMISE frame with the id of the push and the field section.
+    PushPromise { id: u64, encoded: Bytes },
+    /// A GOAWAY frame with the id of a stream or of a push.
+    Goaway(VarInt),
+    /// A MAX_PUSH_ID frame with the greatest id of a push.
+    MaxPushId(u64),
+    /// A frame of the type 0x21, which has no meaning and is only written (section 7.2.8).
+    Grease,
     /// The length of a DATA frame, in bytes. The payload follows, and isn't part of it.
     DataLen(u64),
 }
@@ -26,80 +45,103 @@ pub enum Frame {
 /// Why no frame was read.
 #[derive(Clone, Copy, Debug, PartialEq, Eq, Error)]
 pub enum FrameError {
-    /// A frame of a type that may not stand here.
-    #[error("a frame of the type {0:#x}, which may not stand here")]
+    /// A frame whose id is cut, or which goes on behind it.
+    #[error("a malformed frame")]
+    Malformed,
+    /// A frame of a type that HTTP/2 had (section 7.2.8).
+    #[error("a frame of the reserved type {0:#x}")]
     ForbiddenFrame(u64),
     /// A frame of a type that no one knows, which is to be skipped (section 9).
     #[error("a frame of the unknown type {0:#x}")]
     UnknownFrame(u64),
+    /// A frame with a value that may not stand in it. No call gives it.
+    #[error("a frame with an invalid value")]
+    InvalidFrameValue,
     /// The bytes are too few. The number says how many might do.
     #[error("a frame that is cut, of which {0} bytes are awaited")]
     Incomplete(usize),
+    /// A SETTINGS frame that is refused. It isn't want of memory, which is `Memory`.
+    #[error("a SETTINGS frame that is refused: {0}")]
+    Settings(SettingsError),
+    /// A frame with the id of no stream. No call gives it.
+    #[error("a frame with the invalid stream id {0}")]
+    InvalidStreamId(u64),
+    /// A frame with the id of no push. No call gives it.
+    #[error("a frame with the invalid push id {0}")]
+    InvalidPushId(u64),
     /// The allocator had no memory.
     #[error("out of memory")]
     Memory,
 }
 
+impl FrameError {
+    /// The code with which the connection is to be closed. None for a frame that is to be skipped, and for want of memory.
+    /// `Incomplete` counts where the stream ends there.
+    pub fn code(&self) -> Option<Code>
+        ensures { result ≡ code_of self.now }
+    {
+        match self {
+            FrameError::Malformed | FrameError::InvalidFrameValue | FrameError::Incomplete(_) => {
+                Some(Code::H3_FRAME_ERROR)
+            }
+            FrameError::ForbiddenFrame(_) => Some(Code::H3_FRAME_UNEXPECTED),
+            FrameError::Settings(_) => Some(Code::H3_SETTINGS_ERROR),
+            FrameError::InvalidStreamId(_) | FrameError::InvalidPushId(_) => Some(
+                Code::H3_ID_ERROR,
+            ),
+            FrameError::UnknownFrame(_) | FrameError::Memory => None,
+        }
+    }
+}
+
+impl From<SettingsError> for FrameError {
+    ghost use Rattle.std.specs.Prelude.{◌≡◌};
+    ghost use Rattle.qh_h3wire.specs.FrameFault.{frame_error};
+
+    ghost from_gives = { λ error e. e ≡ frame_error error };
+
+    fn from(error: SettingsError) -> FrameError {
+        match error {
+            SettingsError::Memory => FrameError::Memory,
+            error => FrameError::Settings(error),
+        }
+    }
+}
+
+impl From<AllocError> for FrameError {
+    ghost use Rattle.std.specs.Prelude.{◌≡◌};
+    ghost use Rattle.qh_h3wire.specs.declared.frame.FrameError.TheVariants.{Memory};
+
+    ghost from_gives = { λ _ e. e ≡ Memory };
+
+    fn from(_: AllocError) -> FrameError {
+        FrameError::Memory
+    }
+}
+
 /// The type of a DATA frame (section 7.2.1).
-const DATA: u32 = 0;
+const DATA: u64 = 0;
 
 /// The type of a HEADERS frame (section 7.2.2).
-const HEADERS: u32 = 1;
+const HEADERS: u64 = 1;
 
-/// The two numbers in front of a payload, and how many bytes they take.
-#[derive(Clone, Copy, Debug)]
-struct Preface {
-    kind: u64,
-    length: u64,
-    size: usize,
-}
+/// The type of a CANCEL_PUSH frame (section 7.2.3).
+const CANCEL_PUSH: u64 = 3;
 
-impl Preface {
-    /// None where a number is cut.
-    #[tactic(auto, unfolding(crate::specs::FrameAt::preface_at))]
-    fn read(bytes: &[u8]) -> Option<Preface>
-        ensures exact { result ≡ preface_at bytes.now }
-        ensures within { IfSome result (λ p. p.size ≤ length bytes.now) }
-        ensures bound { IfSome result (λ p. p.length < 2 ^ 62) }
-    {
-        let (kind, kind_size) = get_varint(bytes)?;
-        let (count, count_size) = get_varint(&bytes[kind_size..])?;
-        Some(Preface {
-            kind: kind.into_inner(),
-            length: count.into_inner(),
-            size: kind_size + count_size,
-        })
-    }
+/// The type of a SETTINGS frame (section 7.2.4).
+const SETTINGS: u64 = 4;
 
-    /// Appends the two numbers, in the shortest forms.
-    fn write(out: &mut Vec<u8>, kind: u32, length: u64) -> Result<(), Memory>
-        requires { length < 2 ^ 62 }
-        ensures ok { OnOk result (out.new.items ≡ out.old.items ++ (varint kind ++ varint length)) }
-        ensures err { OnErr result (HasGrown out.old.items out.new.items) }
-    {
-        put_varint(out, VarInt::from_u32(kind))?;
-        put_varint(out, VarInt::from_u64(length).unwrap())
-    }
-}
+/// The type of a PUSH_PROMISE frame (section 7.2.5).
+const PUSH_PROMISE: u64 = 5;
 
-/// Appends a frame with its payload.
-fn write_whole(out: &mut Vec<u8>, kind: u32, payload: &[u8]) -> Result<(), Memory>
-    requires { length payload.now < 2 ^ 62 }
-    ensures ok { OnOk result (out.new.items
-        ≡ out.old.items ++ (varint kind ++ (varint (length payload.now) ++ payload.now))) }
-    ensures err { OnErr result (HasGrown out.old.items out.new.items) }
-{
-    Preface::write(out, kind, payload.len() as u64)?;
-    out.extend_from_slice(payload)?;
-    Ok(())
-}
+/// The type of a GOAWAY frame (section 7.2.6).
+const GOAWAY: u64 = 7;
 
-/// The types that this stage doesn't take: those of control and push streams, and those that HTTP/2 had (section 7.2.8).
-fn is_forbidden(kind: u64) -> bool
-    ensures { result ≡ is_forbidden kind }
-{
-    matches!(kind, 2..=9 | 13)
-}
+/// The type of a MAX_PUSH_ID frame (section 7.2.7).
+const MAX_PUSH_ID: u64 = 13;
+
+/// The first of the types that readers skip (section 7.2.8).
+const GREASE: u64 = 0x21;
 
 impl Frame {
     /// Appends the frame with the shortest numbers; of a `DataLen` the type and the length.
@@ -124,59 +166,192 @@ impl Frame {
         ensures ok { OnOk result (out.new.items ≡ out.old.items ++ frame_bytes self.now) }
         ensures err { OnErr result (HasGrown out.old.items out.new.items) }
     {
+        self.append_head(out)?;
         match self {
-            Frame::Data(payload) => write_whole(out, DATA, payload.as_slice()),
-            Frame::Headers(section) => write_whole(out, HEADERS, section.as_slice()),
-            Frame::DataLen(length) => Preface::write(out, DATA, *length),
+            Frame::Data(payload) => out.extend_from_slice(payload.as_slice())?,
+            Frame::Headers(section) => out.extend_from_slice(section.as_slice())?,
+            Frame::PushPromise { encoded, .. } => out.extend_from_slice(encoded.as_slice())?,
+            _ => {}
+        }
+        Ok(())
+    }
+
+    // Appends all but the payload that the frame shares.
+    pub(crate) fn append_head(&self, out: &mut Vec<u8>) -> Result<(), Memory>
+        requires { IsWritable self.now }
+        ensures ok { OnOk result (out.new.items ≡ out.old.items ++ head_bytes self.now) }
+        ensures err { OnErr result (HasGrown out.old.items out.new.items) }
+    {
+        match self {
+            Frame::Data(payload) => Pair::write(out, DATA, payload.len() as u64),
+            Frame::Headers(section) => Pair::write(out, HEADERS, section.len() as u64),
+            Frame::CancelPush(id) => write_id(out, CANCEL_PUSH, *id),
+            Frame::Settings(settings) => write_settings(out, settings),
+            Frame::PushPromise { id, encoded } => write_promise(out, *id, encoded.len() as u64),
+            Frame::Goaway(id) => write_id(out, GOAWAY, id.into_inner()),
+            Frame::MaxPushId(id) => write_id(out, MAX_PUSH_ID, *id),
+            Frame::Grease => write_whole(out, GREASE, b"grease"),
+            Frame::DataLen(length) => Pair::write(out, DATA, *length),
+        }
+    }
+
+    // The payload that the frame shares.
+    pub(crate) fn into_shared(self) -> Bytes
+        ensures { result ≡ shared_payload self }
+    {
+        match self {
+            Frame::Data(payload) => payload,
+            Frame::Headers(section) => section,
+            Frame::PushPromise { encoded, .. } => encoded,
+            _ => Bytes::new(),
         }
     }
 
     /// Reads the frame that begins the bytes, and says how many bytes it used. Of a DATA frame these are the type and
-    /// the length, whether or not the payload is there. A frame that isn't taken is used up with its payload.
+    /// the length, whether or not the payload is there. A frame that is refused, or to be skipped, is used up with its
+    /// payload. After `Incomplete` and `Memory` nothing is used.
     pub fn decode(alloc: Global, bytes: &[u8]) -> (Result<Frame, FrameError>, usize)
         ensures exact { IsRead result.0 result.1 (frame_at bytes.now) }
         ensures within { result.1 ≤ length bytes.now }
+        ensures found { IfFrame result.0 (λ frame. IsMeant (take result.1 bytes.now) frame) }
         ensures headers { IfHeaders result.0 (λ section. IsHttpFrame (take result.1 bytes.now) (headers_frame section)) }
         ensures data_len { IfDataLen result.0 (λ n. IsDataHeader (take result.1 bytes.now) n) }
-        ensures other { IfOtherKind result.0 (λ kind. IsOtherFrame (take result.1 bytes.now) kind) }
+        ensures forbidden { IfForbidden result.0 (λ kind. IsReservedFrame (take result.1 bytes.now) kind) }
+        ensures unknown { IfUnknown result.0 (λ kind. IsUnknownFrame (take result.1 bytes.now) kind) }
+        ensures malformed { IfMalformed result.0 (IsMalformedFrame (take result.1 bytes.now)) }
+        ensures settings { IfSettingsError result.0 (λ e. IsFaultySettings (take result.1 bytes.now) e) }
         ensures incomplete { IfIncomplete result.0 (HasNoFrame bytes.now) }
     {
         decode_by_list(alloc, bytes)
     }
 }
 
-// The same, as what reading the list gives.
+// Appends a frame with its payload.
+fn write_whole(out: &mut Vec<u8>, kind: u64, payload: &[u8]) -> Result<(), Memory>
+    requires kind { kind < 2 ^ 62 }
+    requires payload { length payload.now < 2 ^ 62 }
+    ensures ok { OnOk result (out.new.items
+        ≡ out.old.items ++ (varint kind ++ (varint (length payload.now) ++ payload.now))) }
+    ensures err { OnErr result (HasGrown out.old.items out.new.items) }
+{
+    Pair::write(out, kind, payload.len() as u64)?;
+    out.extend_from_slice(payload)?;
+    Ok(())
+}
+
+// Appends a frame whose payload is an id.
+fn write_id(out: &mut Vec<u8>, kind: u64, id: u64) -> Result<(), Memory>
+    requires kind { kind < 2 ^ 62 }
+    requires id { id < 2 ^ 62 }
+    ensures ok { OnOk result (out.new.items
+        ≡ out.old.items ++ (varint kind ++ (varint (length (varint id)) ++ varint id))) }
+    ensures err { OnErr result (HasGrown out.old.items out.new.items) }
+{
+    let id = VarInt::from_u64(id).unwrap();
+    Pair::write(out, kind, id.size() as u64)?;
+    put_varint(out, id)
+}
+
+// Appends a PUSH_PROMISE frame without its field section, which has this length.
+fn write_promise(out: &mut Vec<u8>, id: u64, section: u64) -> Result<(), Memory>
+    requires id { id < 2 ^ 62 }
+    requires short { length (varint id) + section < 2 ^ 62 }
+    ensures ok { OnOk result (out.new.items
+        ≡ out.old.items ++ (varint 5 ++ (varint (length (varint id) + section) ++ varint id))) }
+    ensures err { OnErr result (HasGrown out.old.items out.new.items) }
+{
+    let id = VarInt::from_u64(id).unwrap();
+    Pair::write(out, PUSH_PROMISE, id.size() as u64 + section)?;
+    put_varint(out, id)
+}
+
+// Appends a SETTINGS frame.
+fn write_settings(out: &mut Vec<u8>, settings: &Settings) -> Result<(), Memory>
+    requires { AreWritable (plain_of settings.now) }
+    ensures ok { OnOk result (out.new.items ≡ out.old.items ++ http_frame (settings_frame (plain_of settings.now))) }
+    ensures err { OnErr result (HasGrown out.old.items out.new.items) }
+{
+    let mut payload = Vec::new(*out.allocator());
+    settings.encode(&mut payload)?;
+    write_whole(out, SETTINGS, payload.as_slice())
+}
+
+// The same as `Frame::decode`, as what reading the list gives.
 #[tactic(auto, unfolding(crate::specs::FrameAt::frame_at))]
 fn decode_by_list(alloc: Global, bytes: &[u8]) -> (Result<Frame, FrameError>, usize)
     ensures exact { IsRead result.0 result.1 (frame_at bytes.now) }
     ensures within { result.1 ≤ length bytes.now }
 {
-    let Some(preface) = Preface::read(bytes) else {
+    let Some(
+        Pair {
+            first: kind,
+            second: length,
+            size,
+        },
+    ) = Pair::read(bytes)
+    else {
         return (Err(FrameError::Incomplete(bytes.len() + 1)), 0);
     };
-    if preface.kind == u64::from(DATA) {
-        return (Ok(Frame::DataLen(preface.length)), preface.size);
+    if kind == DATA {
+        return (Ok(Frame::DataLen(length)), size);
     }
-    let rest = &bytes[preface.size..];
-    if (rest.len() as u64) < preface.length {
-        return (Err(FrameError::Incomplete(preface.length as usize + 2)), 0);
+    let rest = &bytes[size..];
+    if (rest.len() as u64) < length {
+        return (Err(FrameError::Incomplete(length as usize + 2)), 0);
     }
-    let payload = &rest[..preface.length as usize];
-    let end = preface.size + payload.len();
-    if preface.kind == u64::from(HEADERS) {
-        match Bytes::copy_from_slice(alloc, payload) {
-            Ok(section) => (Ok(Frame::Headers(section)), end),
-            Err(_) => (Err(FrameError::Memory), 0),
-        }
-    } else if is_forbidden(preface.kind) {
-        (Err(FrameError::ForbiddenFrame(preface.kind)), end)
-    } else {
-        (Err(FrameError::UnknownFrame(preface.kind)), end)
+    let payload = &rest[..length as usize];
+    match read_whole(alloc, kind, payload) {
+        Err(FrameError::Memory) => (Err(FrameError::Memory), 0),
+        answer => (answer, size + payload.len()),
     }
+}
+
+// A frame that isn't DATA, with its payload.
+fn read_whole(alloc: Global, kind: u64, payload: &[u8]) -> Result<Frame, FrameError>
+    ensures { IsWholeRead result (whole_frame kind payload.now) }
+{
+    match kind {
+        HEADERS => Ok(Frame::Headers(Bytes::copy_from_slice(alloc, payload)?)),
+        CANCEL_PUSH => Ok(Frame::CancelPush(read_id(payload)?.into_inner())),
+        SETTINGS => Ok(Frame::Settings(Settings::decode(alloc, payload)?)),
+        PUSH_PROMISE => read_promise(alloc, payload),
+        GOAWAY => Ok(Frame::Goaway(read_id(payload)?)),
+        MAX_PUSH_ID => Ok(Frame::MaxPushId(read_id(payload)?.into_inner())),
+        2 | 6 | 8 | 9 => Err(FrameError::ForbiddenFrame(kind)),
+        _ => Err(FrameError::UnknownFrame(kind)),
+    }
+}
+
+// The id that is the whole payload.
+fn read_id(payload: &[u8]) -> Result<VarInt, FrameError>
+    ensures { result ≡ id_at payload.now }
+{
+    match get_varint(payload) {
+        Some((id, size)) if size == payload.len() => Ok(id),
+        _ => Err(FrameError::Malformed),
+    }
+}
+
+// The id that begins the payload, and the section behind it.
+fn read_promise(alloc: Global, payload: &[u8]) -> Result<Frame, FrameError>
+    ensures { IsWholeRead result (promise_from (varint_at payload.now) payload.now) }
+{
+    let Some((id, size)) = get_varint(payload) else {
+        return Err(FrameError::Malformed);
+    };
+    Ok(Frame::PushPromise {
+        id: id.into_inner(),
+        encoded: Bytes::copy_from_slice(alloc, &payload[size..])?,
+    })
 }
 
 /// What is written is read back, whatever follows it.
 pub fn written_frames_are_read()
-    ensures { (f : AFrame) (rest : List ℕ) → IsWritable f
-        → frame_at (frame_bytes f ++ rest) ≡ (Ok (as_read f), length (used_bytes f)) }
+    ensures { (f : AFrame) (rest : List ℕ) → IsWritable f → IsInRoom f
+        → frame_at (frame_bytes f ++ rest) ≡ (as_read f, length (used_bytes f)) }
+{}
+
+/// A frame's payload means one frame at most.
+pub fn payloads_mean_one_frame()
+    ensures { (f : HttpFrame) (a b : AFrame) → MeansFrame f a → MeansFrame f b → a ≡ b }
 {}

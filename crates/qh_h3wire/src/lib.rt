@@ -1,12 +1,19 @@
-//! Frames of HTTP/3 and the heads of messages, as `h3`'s `proto` has them. So far HEADERS and DATA frames, and heads
-//! without fields.
+//! Frames of HTTP/3, settings, what is written on a stream, and the heads of messages, as `h3`'s `proto` has them.
 #![tactic(auto)]
 
 mod frame;
 mod headers;
-mod qpack;
+mod laws;
+mod pair;
+mod settings;
+mod stream_type;
 #[cfg(test)]
 mod tests;
+mod write_buf;
 
-pub use frame::{Frame, FrameError, written_frames_are_read};
-pub use headers::{Header, HeaderError, written_heads_are_read};
+pub use frame::{Frame, FrameError, payloads_mean_one_frame, written_frames_are_read};
+pub use headers::{Header, HeaderError};
+pub use laws::read_again;
+pub use settings::{Settings, SettingsError, settings_faults};
+pub use stream_type::StreamType;
+pub use write_buf::WriteBuf;

@@ -1,0 +1,8 @@
+use Rattle.std.proofs.Common.{◌≡◌, ◌++◌, take}
+use Rattle.std.specs.Prelude.{flat_map}
+use Rattle.qh_h3wire.specs.Settings.{entry_bytes}
+use Rattle.qh_h3wire.proofs.settings.write_entries.Given as goal
+
+-- the entries so far
+abbrev pub invariant-loop-id : goal.invariant-loop-id
+invariant-loop-id l = l.out.items ≡ l.fn.out.items ++ flat_map entry_bytes (take l.id-index l.entries)

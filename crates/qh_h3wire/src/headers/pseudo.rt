@@ -1,0 +1,163 @@
+//! The pseudo-header fields of a head.
+ghost use Rattle.std.specs.Prelude.{◌≡◌, ◌++◌, [], None, OnOk, OnErr, IfOk, IfErr, option_copied};
+ghost use Rattle.std.specs.Option.{option_map};
+ghost use Rattle.http.specs.StatusCode.{code_digits};
+ghost use Rattle.http_uri.specs.Grammar.{or_slash};
+ghost use Rattle.qh_spec.specs.Fields.{optional_field, map_fields};
+ghost use Rattle.qh_h3wire.specs.HeadFields.{with_fields, with_parsed};
+ghost use Rattle.qh_h3wire.specs.Header.{header_fields};
+ghost use Rattle.qh_h3wire.specs.HeaderFault.{RefusesMore, HasRoomFor};
+
+use super::HeaderError;
+use super::field::ParsedField;
+use http::{Method, StatusCode};
+use http_header::{HeaderMap, HeaderMapError};
+use http_uri::{Authority, PathAndQuery, Scheme};
+use qh_base::Memory;
+use qh_qpack::{HeaderField, Octets};
+use std::alloc::Global;
+
+/// The pseudo-header fields (RFC 9114, section 4.3) that are there.
+#[derive(Drop)]
+pub(super) struct Pseudo {
+    pub(super) method: Option<Method>,
+    pub(super) scheme: Option<Scheme>,
+    pub(super) authority: Option<Authority>,
+    pub(super) path: Option<PathAndQuery>,
+    pub(super) status: Option<StatusCode>,
+}
+
+impl Pseudo {
+    pub(super) fn empty() -> Pseudo
+        ensures { result ≡ record { method = None; scheme = None; authority = None; path = None; status = None } }
+    {
+        Pseudo {
+            method: None,
+            scheme: None,
+            authority: None,
+            path: None,
+            status: None,
+        }
+    }
+
+    /// Keeps a field that was read, here or in the map.
+    pub(super) fn keep(
+        &mut self,
+        fields: &mut HeaderMap,
+        field: ParsedField,
+    ) -> Result<(), HeaderError>
+        ensures ok { OnOk result (with_fields fields.new self.new ≡ with_parsed field (with_fields fields.old self.old)) }
+        ensures room { OnOk result (HasRoomFor fields.old field) }
+        ensures err { IfErr result (λ e. RefusesMore e fields.old field) }
+    {
+        match field {
+            ParsedField::Method(method) => self.method = Some(method),
+            ParsedField::Scheme(scheme) => self.scheme = Some(scheme),
+            ParsedField::Authority(authority) => self.authority = Some(authority),
+            ParsedField::Path(path) => self.path = Some(path),
+            ParsedField::Status(status) => self.status = Some(status),
+            ParsedField::Plain(name, value) => match fields.append(name, value) {
+                Ok(_) => return Ok(()),
+                Err(HeaderMapError::MaxSizeReached) => return Err(HeaderError::InvalidHeaderName),
+                Err(HeaderMapError::OutOfMemory) => return Err(HeaderError::Memory),
+            },
+        }
+        Ok(())
+    }
+
+    /// The fields that are there, in the order in which they are written.
+    pub(super) fn fields(&self, alloc: Global) -> Result<Vec<HeaderField>, Memory>
+        ensures { IfOk result (λ fields. fields.items ≡ header_fields (with_fields [] self.now)) }
+    {
+        let mut fields = Vec::new(alloc);
+        push_field(alloc, &mut fields, ":method", self.method_str())?;
+        push_field(alloc, &mut fields, ":scheme", self.scheme_str())?;
+        push_field(alloc, &mut fields, ":authority", self.authority_str())?;
+        push_field(alloc, &mut fields, ":path", self.path_str())?;
+        push_field(alloc, &mut fields, ":status", self.status_str())?;
+        Ok(fields)
+    }
+
+    fn method_str(&self) -> Option<&str>
+        ensures { option_copied result ≡ self.now.method }
+    {
+        match &self.method {
+            Some(method) => Some(method.as_str()),
+            None => None,
+        }
+    }
+
+    fn scheme_str(&self) -> Option<&str>
+        ensures { option_copied result ≡ self.now.scheme }
+    {
+        match &self.scheme {
+            Some(scheme) => Some(scheme.as_str()),
+            None => None,
+        }
+    }
+
+    fn authority_str(&self) -> Option<&str>
+        ensures { option_copied result ≡ self.now.authority }
+    {
+        match &self.authority {
+            Some(authority) => Some(authority.as_str()),
+            None => None,
+        }
+    }
+
+    fn path_str(&self) -> Option<&str>
+        ensures { option_copied result ≡ option_map or_slash self.now.path }
+    {
+        match &self.path {
+            Some(path) => Some(path.as_str()),
+            None => None,
+        }
+    }
+
+    fn status_str(&self) -> Option<&str>
+        ensures { option_copied result ≡ option_map code_digits self.now.status }
+    {
+        match &self.status {
+            Some(status) => Some(status.as_str()),
+            None => None,
+        }
+    }
+}
+
+/// Appends a field that is there.
+fn push_field(
+    alloc: Global,
+    fields: &mut Vec<HeaderField>,
+    name: &'static str,
+    value: Option<&str>,
+) -> Result<(), Memory>
+    ensures { OnOk result (fields.new.items ≡ fields.old.items ++ optional_field name.now (option_copied value.entry)) }
+{
+    if let Some(value) = value {
+        fields.push(copied_field(alloc, name.as_bytes(), value.as_bytes())?)?;
+    }
+    Ok(())
+}
+
+/// Appends the fields of a map, name by name.
+pub(super) fn push_map(
+    alloc: Global,
+    fields: &mut Vec<HeaderField>,
+    map: &HeaderMap,
+) -> Result<(), Memory>
+    ensures { OnOk result (fields.new.items ≡ fields.old.items ++ map_fields map.now) }
+{
+    for (name, value) in map.iter() {
+        fields.push(copied_field(alloc, name.as_bytes(), value.as_bytes())?)?;
+    }
+    Ok(())
+}
+
+/// A field with bytes of its own.
+fn copied_field(alloc: Global, name: &[u8], value: &[u8]) -> Result<HeaderField, Memory>
+    ensures { IfOk result (λ f. f ≡ record { name = name.now; value = value.now }) }
+{
+    let name = Octets::copied_from(alloc, name)?;
+    let value = Octets::copied_from(alloc, value)?;
+    Ok(HeaderField::new(name, value))
+}

@@ -1,0 +1,20 @@
+/// The type of a one-way stream, with which it begins (RFC 9114, section 6.2, and RFC 9204, section 4.2).
+#[derive(Clone, Copy, Debug, PartialEq, Eq, PartialOrd, Ord, Hash)]
+pub struct StreamType(pub u64);
+
+impl StreamType {
+    /// A control stream.
+    pub const CONTROL: StreamType = StreamType(0);
+
+    /// A push stream.
+    pub const PUSH: StreamType = StreamType(1);
+
+    /// A QPACK encoder stream.
+    pub const ENCODER: StreamType = StreamType(2);
+
+    /// A QPACK decoder stream.
+    pub const DECODER: StreamType = StreamType(3);
+
+    /// A type that has no meaning, with which an end shows that it skips such streams.
+    pub const GREASE: StreamType = StreamType(0x21);
+}
