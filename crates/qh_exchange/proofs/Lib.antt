@@ -1,7 +1,11 @@
 pub mod Bridged
+pub mod Endings
 pub mod Ends
 pub mod Heads
 pub mod Pairs
 pub mod Parts
+pub mod Pieces
 pub mod Rounds
+pub mod Runs
+pub mod Unbuilt
 pub mod Written

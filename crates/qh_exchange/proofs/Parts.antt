@@ -5,13 +5,13 @@ use Rattle.std.specs.List.{concat, list_any}
 use Rattle.std.proofs.lemmas.Bool.{cases_Bool, ne_eqb}
 use Rattle.std.proofs.lemmas.List.{map-append, take_all, length-take-le}
 use Rattle.std.proofs.lemmas.List.Elements.{filter-append}
-use Rattle.qh_h3wire.specs.Frame.{IfHeaders, IfDataLen, IfOtherKind, IsDataHeader, IsOtherFrame, IsRead}
-use Rattle.qh_h3wire.specs.FrameAt.{is_forbidden, frame_at, frame_from, whole_frame, preface_at}
+use Rattle.qh_h3wire.specs.Frame.{IfHeaders, IfDataLen, IfUnknown, IsDataHeader, IsUnknownFrame}
 use Rattle.qh_h3wire.specs.declared.frame.Frame.{Frame}
 use Rattle.qh_h3wire.specs.declared.frame.Frame.TheVariants.{Headers, DataLen}
 use Rattle.qh_h3wire.specs.declared.frame.FrameError.{FrameError}
 use Rattle.qh_h3wire.specs.declared.frame.FrameError.TheVariants.{UnknownFrame}
 use Rattle.qh_plain.specs.Frames.{AreParts}
+use Rattle.qh_spec.specs.Lists.{In}
 use Rattle.qh_spec.specs.HttpFrame.{HttpFrame, IsHttpFrame, AreHttpFrames, data_frame, headers_frame}
 use Rattle.qh_spec.specs.Spelling.{known_kinds, known_frames}
 use Rattle.qh_spec.specs.Varint.{IsVarint}
@@ -156,62 +156,29 @@ data_front bytes rest used n r s x y within e fits h is there longer =
       takes = payload found.0 p refl found.1 found.1 longer;
     }
 
--- an unknown frame isn't one of those that may not stand here
-whole_unknown : (k kind : ℕ) (p : List ℕ) → whole_frame k p ≡ Err (UnknownFrame kind) → is_forbidden kind ≡ false
-whole_unknown k kind p e =
-    elim (cases_Bool (k == 1)) [
-      | inl t ↦ let h = rw t at e in cc
-      | inr t ↦
-          let h = rw t at e in
-          elim (cases_Bool (is_forbidden k)) [
-            | inl u ↦ let i = rw u at h in cc
-            | inr u ↦ let i = rw u at h in let same : k ≡ kind = cc in ap is_forbidden (sym same) ∙ u
-          ]
-    ]
-
-read_unknown : (bytes : List ℕ) (kind used : ℕ) → (Err (UnknownFrame kind), used) ≡ frame_at bytes → is_forbidden kind ≡ false
-unfolding frame_at
-read_unknown bytes kind used e =
-    elim (preface_at bytes) as (λ o. frame_from o bytes ≡ (Err (UnknownFrame kind), used) → is_forbidden kind ≡ false) [
-      | None ↦ λ h. let first = ap (λ (z : Result Frame FrameError × ℕ). z.0) h in cc
-      | Some p ↦ λ h.
-          elim (cases_Bool (p.kind == 0)) [
-            | inl t ↦ let i = rw t at h in let first = ap (λ (z : Result Frame FrameError × ℕ). z.0) i in cc
-            | inr t ↦
-                let i = rw t at h in
-                elim (cases_Bool (nat_lt (length (drop p.size bytes)) p.length)) [
-                  | inl u ↦ let j = rw u at i in let first = ap (λ (z : Result Frame FrameError × ℕ). z.0) j in cc
-                  | inr u ↦ let j = rw u at i in whole_unknown p.kind kind (take p.length (drop p.size bytes)) (ap (λ (z : Result Frame FrameError × ℕ). z.0) j)
-                ]
-          ]
-    ] (sym e)
-
-forbidden_at : (kind n : ℕ) → is_forbidden kind ≡ false → is_forbidden n ≡ true → n ≡ kind → ⊥
-forbidden_at kind n a b e = let both : true ≡ false = sym b ∙ ap is_forbidden e ∙ a in cc
-
-not_known : (kind : ℕ) (p : List ℕ) → kind ≢ 0 → kind ≢ 1 → is_forbidden kind ≡ false → known_frames (record { kind = kind; payload = p } ∷ []) ≡ []
-not_known kind p zero one free =
-    let a : (0 == kind) ≡ false = ne_eqb 0 kind (λ e. zero (sym e)) in
-    let b : (1 == kind) ≡ false = ne_eqb 1 kind (λ e. one (sym e)) in
-    let c3 : (3 == kind) ≡ false = ne_eqb 3 kind (forbidden_at kind 3 free refl) in
-    let c4 : (4 == kind) ≡ false = ne_eqb 4 kind (forbidden_at kind 4 free refl) in
-    let c5 : (5 == kind) ≡ false = ne_eqb 5 kind (forbidden_at kind 5 free refl) in
-    let c7 : (7 == kind) ≡ false = ne_eqb 7 kind (forbidden_at kind 7 free refl) in
-    let c13 : (13 == kind) ≡ false = ne_eqb 13 kind (forbidden_at kind 13 free refl) in
-    let c2 : (2 == kind) ≡ false = ne_eqb 2 kind (forbidden_at kind 2 free refl) in
-    let c6 : (6 == kind) ≡ false = ne_eqb 6 kind (forbidden_at kind 6 free refl) in
-    let c8 : (8 == kind) ≡ false = ne_eqb 8 kind (forbidden_at kind 8 free refl) in
-    let c9 : (9 == kind) ≡ false = ne_eqb 9 kind (forbidden_at kind 9 free refl) in
+-- a frame of a type that has no meaning is no part of a message
+not_known : (kind : ℕ) (p : List ℕ) → (In kind known_kinds → ⊥) → known_frames (record { kind = kind; payload = p } ∷ []) ≡ []
+not_known kind p free =
+    let a : (0 == kind) ≡ false = ne_eqb 0 kind (λ e. free (inl e)) in
+    let b : (1 == kind) ≡ false = ne_eqb 1 kind (λ e. free (inr (inl e))) in
+    let c3 : (3 == kind) ≡ false = ne_eqb 3 kind (λ e. free (inr (inr (inl e)))) in
+    let c4 : (4 == kind) ≡ false = ne_eqb 4 kind (λ e. free (inr (inr (inr (inl e))))) in
+    let c5 : (5 == kind) ≡ false = ne_eqb 5 kind (λ e. free (inr (inr (inr (inr (inl e)))))) in
+    let c7 : (7 == kind) ≡ false = ne_eqb 7 kind (λ e. free (inr (inr (inr (inr (inr (inl e))))))) in
+    let c13 : (13 == kind) ≡ false = ne_eqb 13 kind (λ e. free (inr (inr (inr (inr (inr (inr (inl e)))))))) in
+    let c2 : (2 == kind) ≡ false = ne_eqb 2 kind (λ e. free (inr (inr (inr (inr (inr (inr (inr (inl e))))))))) in
+    let c6 : (6 == kind) ≡ false = ne_eqb 6 kind (λ e. free (inr (inr (inr (inr (inr (inr (inr (inr (inl e)))))))))) in
+    let c8 : (8 == kind) ≡ false = ne_eqb 8 kind (λ e. free (inr (inr (inr (inr (inr (inr (inr (inr (inr (inl e))))))))))) in
+    let c9 : (9 == kind) ≡ false = ne_eqb 9 kind (λ e. free (inr (inr (inr (inr (inr (inr (inr (inr (inr (inr (inl e)))))))))))) in
     rw (a, b, c3, c4, c5, c7, c13, c2, c6, c8, c9) refl
 
-pub unknown_front : (bytes : List ℕ) (used kind : ℕ) (r : Result Frame FrameError) (s : Option (List ℕ)) (x : List ℕ) → used ≤ length bytes → IsRead r used (frame_at bytes)
-    → IfOtherKind r (λ kind. IsOtherFrame (take used bytes) kind) → r ≡ Err (UnknownFrame kind) → TakesFront bytes used s x s x
-unknown_front bytes used kind r s x within exact other e =
-    let o : IsOtherFrame (take used bytes) kind = subst (λ (z : Result Frame FrameError). IfOtherKind z (λ kind. IsOtherFrame (take used bytes) kind)) e other in
-    let read : (Err (UnknownFrame kind), used) ≡ frame_at bytes = subst (λ (z : Result Frame FrameError). IsRead z used (frame_at bytes)) e exact in
+pub unknown_front : (bytes : List ℕ) (used kind : ℕ) (r : Result Frame FrameError) (s : Option (List ℕ)) (x : List ℕ) → used ≤ length bytes
+    → IfUnknown r (λ kind. IsUnknownFrame (take used bytes) kind) → r ≡ Err (UnknownFrame kind) → TakesFront bytes used s x s x
+unknown_front bytes used kind r s x within other e =
+    let o : IsUnknownFrame (take used bytes) kind = subst (λ (z : Result Frame FrameError). IfUnknown z (λ kind. IsUnknownFrame (take used bytes) kind)) e other in
     record {
       frame = record { kind = kind; payload = o.payload };
       within = within;
       is = o.is;
-      takes = unknown (not_known kind o.payload o.not_data o.not_headers (read_unknown bytes kind used read)) refl refl;
+      takes = unknown (not_known kind o.payload o.unknown) refl refl;
     }

@@ -3,11 +3,13 @@ use Rattle.std.proofs.Common.{◌≡◌, ◌≢◌, inl, inr, ℕ, zero, suc, �
 use Rattle.std.specs.Prelude.{slice_get, codes}
 use Rattle.std.proofs.lemmas.Bool.{cases_eq, eq-eqb, ne_eqb}
 use Rattle.std.proofs.lemmas.List.{append_cancel_left}
+use Rattle.qh_service.specs.declared.service.Limits.{Limits}
 use Rattle.qh_spec.specs.declared.link.Event.{Event}
 use Rattle.qh_spec.specs.Config.{PlainConfig}
 use Rattle.qh_spec.specs.Fault.{Rose, CountsFaults}
 use Rattle.qh_spec.specs.Headline.{ServedOnce, IsRecordedAnswer, AnsweredOnce}
 use Rattle.qh_spec.specs.Honest.{IsHonest}
+use Rattle.qh_spec.specs.Lists.{In}
 use Rattle.qh_spec.specs.Message.{PlainHead, Request, Response, PlainMessage, IsRequest}
 use Rattle.qh_spec.specs.Record.{PlainEntry}
 use Rattle.qh_spec.specs.Same.{bytes_under}
@@ -20,7 +22,7 @@ use Rattle.qh_exchange.specs.declared.error.ExchangeError.TheVariants.{Invalid, 
 use Rattle.qh_exchange.specs.Exchange.{IsExchangeError, RanOut}
 use Rattle.qh_exchange.specs.Pair.{PairState, Running, WentOn, GoesOn, Means}
 use Rattle.qh_exchange.specs.Small.{IsBuilt, IsCarried, IsSpellable, AreAskable}
-use Rattle.qh_exchange.specs.Turn.{Adds, AreSmall, BuiltBy, Records, IsTurnError}
+use Rattle.qh_exchange.specs.Turn.{Adds, AreSmall, BuiltBy, Records, GrewByAnswers, IsTurnError}
 use Rattle.qh_exchange.proofs.Bridged.{means}
 
 -- a valid list of one small request may be asked
@@ -295,3 +297,22 @@ ran_out n rounds p q requests t u m k f g r s all run asked some made =
       stands = stands p q t u r s run made.goes;
       fewer = subst (λ (z : List PlainMessage). length q.answers < length z) (made.requests ∙ asked) l;
     }
+
+-- records that grow by answers
+pub grew_none : (Answer : PlainMessage → PlainMessage → Type 0) (r : List PlainEntry) → GrewByAnswers Answer r r
+grew_none Answer r = record { fresh = []; longer = sym (append-nil r); each = λ e i. absurd i }
+
+pub grew_more : (Answer : PlainMessage → PlainMessage → Type 0) (r s t : List PlainEntry) → GrewByAnswers Answer r s → GrewByAnswers Answer s t
+    → GrewByAnswers Answer r t
+grew_more Answer r s t first second = record {
+  fresh = first.fresh ++ second.fresh;
+  longer = second.longer ∙ ap (λ (z : List PlainEntry). z ++ second.fresh) first.longer ∙ append_assoc r first.fresh second.fresh;
+  each = λ e i. elim (in_split e first.fresh second.fresh i) [ inl l ↦ first.each e l | inr r ↦ second.each e r ];
+}
+
+-- the same, where the limits are kept
+pub grew_within : (Answer : Limits → PlainMessage → PlainMessage → Type 0) (a b k : Limits) (r s t : List PlainEntry) → GrewByAnswers (Answer a) r s → b ≡ a
+    → GrewByAnswers (Answer b) s t → a ≡ k → GrewByAnswers (Answer k) r t
+grew_within Answer a b k r s t first same second limits =
+    subst (λ (z : Limits). GrewByAnswers (Answer z) r t) limits
+    (grew_more (Answer a) r s t first (subst (λ (z : Limits). GrewByAnswers (Answer z) s t) same second))

@@ -30,6 +30,17 @@ IsUnbuilt (Err TimedOut) = ⊥
 IsUnbuilt (Err (Invalid index)) = ⊥
 IsUnbuilt (Err (Protocol e)) = ⊥
 
+-- the fact, where the answer is `Unbuilt`
+abbrev pub IfUnbuilt : {T : Type 0} → Result T ExchangeError → Type 0 → Type 0
+IfUnbuilt (Ok x) P = Unit {0}
+IfUnbuilt (Err Unbuilt) P = P
+IfUnbuilt (Err Link) P = Unit {0}
+IfUnbuilt (Err Memory) P = Unit {0}
+IfUnbuilt (Err OutOfRounds) P = Unit {0}
+IfUnbuilt (Err (Invalid index)) P = Unit {0}
+IfUnbuilt (Err TimedOut) P = Unit {0}
+IfUnbuilt (Err (Protocol e)) P = Unit {0}
+
 -- the fact, where the rounds ran out
 abbrev pub IfOutOfRounds : {T : Type 0} → Result T ExchangeError → Type 0 → Type 0
 IfOutOfRounds (Ok x) P = Unit {0}

@@ -1,11 +1,12 @@
 -- The parts of a message in the frames that were read so far (own).
 use Rattle.std.specs.Prelude.{◌≡◌, ℕ, ◌≤◌, List, [], ◌∷◌, ◌++◌, length, map, take, Option, Some, None}
 use Rattle.std.specs.List.{concat}
-use Rattle.qh_h3wire.specs.Header.{AreReadable, MeansHeader}
+use Rattle.qh_h3wire.specs.Header.{IsHeaderOf}
 use Rattle.qh_h3wire.specs.PlainHeader.{PlainHeader}
 use Rattle.qh_plain.specs.Frames.{AreParts}
 use Rattle.qh_spec.specs.Fields.{Field}
 use Rattle.qh_spec.specs.HttpFrame.{HttpFrame, IsHttpFrame, AreHttpFrames, data_frame, headers_frame}
+use Rattle.qh_spec.specs.Refusal.{AreTaken}
 use Rattle.qh_spec.specs.Section.{IsSection}
 use Rattle.qh_spec.specs.Spelling.{known_frames}
 
@@ -37,11 +38,11 @@ pub record HaveSoFar (bytes : List ℕ) (section : Option (List ℕ)) (body : Li
   pub order : InOrder frames section payloads
   pub body_is : body ≡ concat payloads
 
--- the bytes have a section that means the head, and the body, and no trailers
+-- the bytes have a section of fields, which are kept and give the head, and the body, and no trailers
 pub record HaveHead (bytes : List ℕ) (h : PlainHeader) (body : List ℕ) : Type 0 where
   pub section : List ℕ
   pub fields : List Field
   pub parts : AreParts bytes (record { section = section; body = body; last = None })
   pub is_section : IsSection section fields
-  pub readable : AreReadable fields
-  pub means : MeansHeader fields h
+  pub taken : AreTaken [] fields
+  pub gives : IsHeaderOf fields h

@@ -1,6 +1,7 @@
 -- What this stage carries (own).
 use Rattle.std.specs.Prelude.{◌≡◌, ℕ, ◌≤◌, List, [], ◌∷◌, Some, None, slice_get}
 use Rattle.http.specs.StatusCode.{IsStatusCode}
+use Rattle.qh_service.specs.declared.service.Limits.{Limits}
 use Rattle.qh_spec.specs.Config.{PlainConfig}
 use Rattle.qh_spec.specs.Message.{PlainHead, Request, Response, PlainMessage, IsRequest}
 use Rattle.qh_spec.specs.Size.{message_size}
@@ -11,6 +12,10 @@ pub record IsSmall (m : PlainMessage) : Type 0 where
   pub fields_are : m.fields ≡ []
   pub trailers_are : m.trailers ≡ None
   pub size : message_size m ≤ 900
+
+-- what a response may measure by the settings
+abbrev pub limits_of : PlainConfig → Limits
+limits_of config = record { max_field_section_size = config.max_field_section_size; max_response_body = config.max_response_body }
 
 -- the list is one valid small request without a body
 pub record IsBuilt (config : PlainConfig) (requests : List PlainMessage) : Type 0 where

@@ -2,6 +2,7 @@
 use Rattle.std.specs.Prelude.{◌≡◌, Bool, true, false, List, ◌++◌, Option, Some, Result, Ok, Err}
 use Rattle.qh_spec.specs.declared.link.Event.{Event}
 use Rattle.qh_spec.specs.Lists.{In}
+use Rattle.qh_spec.specs.Message.{PlainMessage}
 use Rattle.qh_spec.specs.Record.{PlainEntry}
 use Rattle.qh_exchange.specs.declared.error.ExchangeError.{ExchangeError}
 use Rattle.qh_exchange.specs.declared.error.ExchangeError.TheVariants.{Invalid, Link, TimedOut, OutOfRounds, Protocol, Memory, Unbuilt}
@@ -59,3 +60,9 @@ pub record Records {T : Type 0} (before after : List PlainEntry) (result : Resul
   pub fresh : List PlainEntry
   pub longer : after ≡ before ++ fresh
   pub built : BuiltBy result fresh
+
+-- the record grew by entries whose responses are answers to their requests
+pub record GrewByAnswers (Answer : PlainMessage → PlainMessage → Type 0) (before after : List PlainEntry) : Type 0 where
+  pub fresh : List PlainEntry
+  pub longer : after ≡ before ++ fresh
+  pub each : (e : PlainEntry) → In e fresh → Answer e.request e.response

@@ -5,8 +5,8 @@ ghost use Rattle.qh_spec.specs.Fault.{CountsFaults};
 ghost use Rattle.qh_spec.specs.Headline.{ServedOnce, AnsweredOnce};
 ghost use Rattle.qh_spec.specs.Honest.{IsHonest};
 ghost use Rattle.qh_exchange.specs.Exchange.{IsExchangeError, IsUnbuilt, IfOutOfRounds, RanOut};
-ghost use Rattle.qh_exchange.specs.Small.{IsBuilt};
-ghost use Rattle.qh_exchange.specs.Turn.{Records, has_link_failed};
+ghost use Rattle.qh_exchange.specs.Small.{IsBuilt, limits_of};
+ghost use Rattle.qh_exchange.specs.Turn.{Records, GrewByAnswers, has_link_failed};
 
 use crate::valid::are_requests_built;
 use crate::{Config, ExchangeError, Link, Message, Pair, Service};
@@ -38,6 +38,7 @@ pub fn exchange<V: Service, L: Link>(
         → ServedOnce config.now.local_id_len events requests.now (V.served service.old) (V.served service.new) }
     // A link that told its events tells them still.
     ensures told { (events : List Event) → L.events link.old ≡ Some events → (more : List Event) × (L.events link.new ≡ Some (events ++ more)) }
+    ensures plan { L.plan link.new ≡ L.plan link.old }
     ensures count { IfOk result (λ answers. length answers.items ≡ length requests.now) }
     ensures empty { requests.now ≡ [] → IsOk result × (link.new ≡ link.old) × (service.new ≡ service.old) }
     // A list that isn't built yet is answered at once.
@@ -45,6 +46,10 @@ pub fn exchange<V: Service, L: Link>(
         → IsUnbuilt result × (link.new ≡ link.old) × (service.new ≡ service.old) }
     // Of one that is built, `Unbuilt` tells that a response that was recorded isn't, and nothing else does.
     ensures records { IsBuilt config.now requests.now → Records (V.served service.old) (V.served service.new) result }
+    // Each response that was recorded is one that the service may give to its request.
+    ensures answers { GrewByAnswers (V.may_answer (limits_of config.now)) (V.served service.old) (V.served service.new) }
+    // Answers to a list that isn't empty tell that it is built.
+    ensures built { IfOk result (λ _. requests.now ≢ [] → IsBuilt config.now requests.now) }
     ensures cause { CountsFaults (L.faults link.old) (L.faults link.new) (has_link_failed result) }
     ensures out_of_rounds { IfOutOfRounds result
         (RanOut rounds requests.now (L.events link.old) (L.events link.new) (L.moments link.old) (L.moments link.new) (V.served service.old) (V.served service.new)) }

@@ -3,6 +3,8 @@
 
 mod error;
 mod exchanges;
+mod input;
+mod output;
 mod pair;
 mod program;
 mod script;

@@ -11,9 +11,9 @@ ghost use Rattle.qh_spec.specs.Service.{IsAnswerHead};
 ghost use Rattle.qh_spec.specs.Transcript.{Act, HandedIn};
 ghost use Rattle.qh_spec.specs.Turns.{IsWholeTurn, IsIntake, IsOutput};
 ghost use Rattle.qh_exchange.specs.Pair.{PairState, Running, GoesOn, IsEndOf, Means};
-ghost use Rattle.qh_exchange.specs.Small.{IsCarried, AreAskable};
+ghost use Rattle.qh_exchange.specs.Small.{IsCarried, AreAskable, limits_of};
 ghost use Rattle.qh_exchange.specs.Steps.{EndStep, PairStep, IsStill, IsOpen, AreIntakes, AreOutputs, IsLinkError, IsServiceError, MayWrite, ClientStep, ServerStep, Serves, answers_of, polled_acts};
-ghost use Rattle.qh_exchange.specs.Turn.{Adds, Records, BuiltBy, IsTurnError, has_link_failed};
+ghost use Rattle.qh_exchange.specs.Turn.{Adds, Records, BuiltBy, GrewByAnswers, IsTurnError, has_link_failed};
 
 use crate::stream::{read_request, read_response, write_message};
 use crate::valid::{is_answer_built, is_servable};
@@ -93,6 +93,7 @@ impl Pair {
         requires { Fits config.now }
         ensures running { IfOk result (λ p. Running p [] []) }
         ensures ids { IfOk result (λ p. p.id_length ≡ config.now.local_id_len) }
+        ensures limits { IfOk result (λ p. p.limits ≡ limits_of config.now) }
         ensures requests { IfOk result (λ p. p.requests ≡ []) }
     {
         let _opened = now;
@@ -121,6 +122,7 @@ impl Pair {
         requires askable { AreAskable requests.now }
         ensures requests { IfOk result (λ _. self.new.requests ≡ requests.now) }
         ensures ids { self.new.id_length ≡ self.old.id_length }
+        ensures limits { self.new.limits ≡ self.old.limits }
         ensures running { (events : List Event) (entries : List PlainEntry) → Running self.old events entries → Running self.new events entries }
     {
         let mut copies = Vec::with_capacity(self.alloc, requests.len())?;
@@ -148,12 +150,15 @@ impl Pair {
     ) -> Result<bool, ExchangeError>
         ensures goes_on { GoesOn self.old (L.events link.old) (V.served service.old) self.new (L.events link.new) (V.served service.new) }
         ensures requests { self.new.requests ≡ self.old.requests }
+        ensures limits { self.new.limits ≡ self.old.limits }
         ensures few { length self.old.answers ≤ length self.old.requests → length self.new.answers ≤ length self.new.requests }
         ensures done { IfOk result (λ done. IsTrue done ↔ length self.new.answers ≡ length self.new.requests) }
         ensures turned { IfOk result (λ _. Adds IsWholeTurn (L.events link.old) (L.events link.new)) }
         ensures round { IfOk result (λ _. (moment : ℕ) × (L.moments link.new ≡ L.moments link.old ++ moment ∷ [])) }
         ensures records { Records (V.served service.old) (V.served service.new) result }
+        ensures answered { GrewByAnswers (V.may_answer self.old.limits) (V.served service.old) (V.served service.new) }
         ensures cause { CountsFaults (L.faults link.old) (L.faults link.new) (has_link_failed result) }
+        ensures plan { L.plan link.new ≡ L.plan link.old }
         ensures errors { IfErr result IsTurnError }
     {
         self.advance(service, link)?;
@@ -176,8 +181,11 @@ impl Pair {
         ensures step { PairStep self.old self.new (L.events link.old) (L.events link.new) (V.served service.old) (V.served service.new) (λ more fresh. IfOk result (λ _. IsWholeTurn more) × BuiltBy result fresh) }
         ensures round { IfOk result (λ _. (moment : ℕ) × (L.moments link.new ≡ L.moments link.old ++ moment ∷ [])) }
         ensures cause { CountsFaults (L.faults link.old) (L.faults link.new) (has_link_failed result) }
+        ensures plan { L.plan link.new ≡ L.plan link.old }
         ensures errors { IfErr result IsTurnError }
+        ensures answered { GrewByAnswers (V.may_answer self.old.limits) (V.served service.old) (V.served service.new) }
         ensures requests { self.new.requests ≡ self.old.requests }
+        ensures limits { self.new.limits ≡ self.old.limits }
         ensures few { length self.old.answers ≤ length self.old.requests → length self.new.answers ≤ length self.new.requests }
     {
         let now = self.begin(link)?;
@@ -192,8 +200,10 @@ impl Pair {
         ensures open { IfOk result (λ _. IsOpen self.new) }
         ensures round { IfOk result (λ now. L.moments link.new ≡ L.moments link.old ++ now.0 ∷ []) }
         ensures cause { CountsFaults (L.faults link.old) (L.faults link.new) (has_link_failed result) }
+        ensures plan { L.plan link.new ≡ L.plan link.old }
         ensures errors { IfErr result IsLinkError }
         ensures requests { self.new.requests ≡ self.old.requests }
+        ensures limits { self.new.limits ≡ self.old.limits }
         ensures answers { self.new.answers ≡ self.old.answers }
     {
         let now = link.next_round(self.alloc)?;
@@ -206,6 +216,7 @@ impl Pair {
         ensures still { IsStill self.old self.new }
         ensures open { IfOk result (λ _. is_some self.new.client ≡ true) }
         ensures requests { self.new.requests ≡ self.old.requests }
+        ensures limits { self.new.limits ≡ self.old.limits }
         ensures answers { self.new.answers ≡ self.old.answers }
     {
         if self.client.is_some() {
@@ -222,6 +233,7 @@ impl Pair {
         ensures client { self.new.client ≡ self.old.client }
         ensures open { IfOk result (λ _. is_some self.new.server ≡ true) }
         ensures requests { self.new.requests ≡ self.old.requests }
+        ensures limits { self.new.limits ≡ self.old.limits }
         ensures answers { self.new.answers ≡ self.old.answers }
     {
         if self.server.is_some() {
@@ -238,8 +250,10 @@ impl Pair {
         ensures open { IfOk result (λ _. IsOpen self.new) }
         ensures moments { L.moments link.new ≡ L.moments link.old }
         ensures cause { CountsFaults (L.faults link.old) (L.faults link.new) (has_link_failed result) }
+        ensures plan { L.plan link.new ≡ L.plan link.old }
         ensures errors { IfErr result IsLinkError }
         ensures requests { self.new.requests ≡ self.old.requests }
+        ensures limits { self.new.limits ≡ self.old.limits }
         ensures answers { self.new.answers ≡ self.old.answers }
     {
         receive_at(self.alloc, &mut self.client, Side::Client, now, link)?;
@@ -251,8 +265,10 @@ impl Pair {
         ensures step { (served : List PlainEntry) → PairStep self.old self.new (L.events link.old) (L.events link.new) served served (λ more fresh. IfOk result (λ _. AreOutputs more) × (fresh ≡ [])) }
         ensures moments { L.moments link.new ≡ L.moments link.old }
         ensures cause { CountsFaults (L.faults link.old) (L.faults link.new) (has_link_failed result) }
+        ensures plan { L.plan link.new ≡ L.plan link.old }
         ensures errors { IfErr result IsLinkError }
         ensures requests { self.new.requests ≡ self.old.requests }
+        ensures limits { self.new.limits ≡ self.old.limits }
         ensures answers { self.new.answers ≡ self.old.answers }
     {
         transmit_at(self.alloc, &mut self.client, Side::Client, now, link)?;
@@ -264,7 +280,9 @@ impl Pair {
         ensures step { (told : Option (List Event)) → PairStep self.old self.new told told (V.served service.old) (V.served service.new) (λ more fresh. (more ≡ []) × BuiltBy result fresh) }
         ensures open { IsOpen self.old → IsOpen self.new }
         ensures errors { IfErr result IsServiceError }
+        ensures answered { GrewByAnswers (V.may_answer self.old.limits) (V.served service.old) (V.served service.new) }
         ensures requests { self.new.requests ≡ self.old.requests }
+        ensures limits { self.new.limits ≡ self.old.limits }
         ensures few { length self.old.answers ≤ length self.old.requests → length self.new.answers ≤ length self.new.requests }
     {
         self.ask_request()?;
@@ -277,6 +295,7 @@ impl Pair {
         ensures still { IsStill self.old self.new }
         ensures open { IsOpen self.old → IsOpen self.new }
         ensures requests { self.new.requests ≡ self.old.requests }
+        ensures limits { self.new.limits ≡ self.old.limits }
         ensures answers { self.new.answers ≡ self.old.answers }
     {
         ask_at(self.alloc, &mut self.client, &self.requests)
@@ -286,7 +305,9 @@ impl Pair {
         ensures step { (told : Option (List Event)) → PairStep self.old self.new told told (V.served service.old) (V.served service.new) (λ more fresh. (more ≡ []) × BuiltBy result fresh) }
         ensures open { IsOpen self.old → IsOpen self.new }
         ensures errors { IfErr result IsServiceError }
+        ensures answered { GrewByAnswers (V.may_answer self.old.limits) (V.served service.old) (V.served service.new) }
         ensures requests { self.new.requests ≡ self.old.requests }
+        ensures limits { self.new.limits ≡ self.old.limits }
         ensures answers { self.new.answers ≡ self.old.answers }
     {
         serve_at(self.alloc, &mut self.server, &self.limits, service)
@@ -296,6 +317,7 @@ impl Pair {
         ensures still { IsStill self.old self.new }
         ensures open { IsOpen self.old → IsOpen self.new }
         ensures requests { self.new.requests ≡ self.old.requests }
+        ensures limits { self.new.limits ≡ self.old.limits }
         ensures few { length self.old.answers ≤ length self.old.requests → length self.new.answers ≤ length self.new.requests }
     {
         if !self.answers.is_empty() {
@@ -384,6 +406,7 @@ fn receive_at<L: Link>(
     ensures open { is_some slot.new ≡ true }
     ensures moments { L.moments link.new ≡ L.moments link.old }
     ensures cause { CountsFaults (L.faults link.old) (L.faults link.new) (has_link_failed result) }
+    ensures plan { L.plan link.new ≡ L.plan link.old }
     ensures errors { IfErr result IsLinkError }
 {
     let Some(end) = slot else {
@@ -404,6 +427,7 @@ fn transmit_at<L: Link>(
     ensures open { is_some slot.new ≡ true }
     ensures moments { L.moments link.new ≡ L.moments link.old }
     ensures cause { CountsFaults (L.faults link.old) (L.faults link.new) (has_link_failed result) }
+    ensures plan { L.plan link.new ≡ L.plan link.old }
     ensures errors { IfErr result IsLinkError }
 {
     let Some(end) = slot else {
@@ -423,6 +447,7 @@ fn take_datagrams<L: Link>(
     ensures step { EndStep side (Some end.old) (Some end.new) (L.events link.old) (L.events link.new) (λ more. IfOk result (λ _. IsIntake side more)) }
     ensures moments { L.moments link.new ≡ L.moments link.old }
     ensures cause { CountsFaults (L.faults link.old) (L.faults link.new) (has_link_failed result) }
+    ensures plan { L.plan link.new ≡ L.plan link.old }
     ensures errors { IfErr result IsLinkError }
 {
     let mut buf = [0; MAX_DATAGRAM];
@@ -464,6 +489,7 @@ fn send_datagrams<L: Link>(
     ensures step { EndStep side (Some end.old) (Some end.new) (L.events link.old) (L.events link.new) (λ more. IfOk result (λ _. IsOutput side more)) }
     ensures moments { L.moments link.new ≡ L.moments link.old }
     ensures cause { CountsFaults (L.faults link.old) (L.faults link.new) (has_link_failed result) }
+    ensures plan { L.plan link.new ≡ L.plan link.old }
     ensures errors { IfErr result IsLinkError }
 {
     let mut datagram = Vec::new(alloc);
@@ -523,6 +549,7 @@ fn serve_at<V: Service>(
 ) -> Result<(), ExchangeError>
     ensures step { ServerStep slot.old slot.new (V.served service.old) (V.served service.new) (BuiltBy result) }
     ensures open { is_some slot.new ≡ is_some slot.old }
+    ensures answered { GrewByAnswers (V.may_answer limits.now) (V.served service.old) (V.served service.new) }
     ensures errors { IfErr result IsServiceError }
 {
     let Some(server) = slot else {
@@ -543,6 +570,7 @@ fn serve_bytes<V: Service>(
     service: &mut V,
 ) -> Result<(), ExchangeError>
     ensures serves { Serves server.old bytes.now (V.served service.old) result server.new (V.served service.new) }
+    ensures answered { GrewByAnswers (V.may_answer limits.now) (V.served service.old) (V.served service.new) }
     ensures errors { IfErr result IsServiceError }
 {
     let Some(request) = read_request(alloc, bytes)? else {

@@ -1,10 +1,19 @@
-ghost use Rattle.std.specs.Prelude.{◌≤◌, length};
+ghost use Rattle.std.specs.Prelude.{◌≡◌, ◌<◌, ◌^◌, ◌++◌, [], ℕ, List, map, string_bytes, All, IfOk, IfErr};
+ghost use Rattle.qh_link.specs.ScriptLink.{PlainLink};
+ghost use Rattle.qh_spec.specs.Record.{PlainEntry};
 ghost use Rattle.qh_spec.specs.Config.{Fits};
+ghost use Rattle.qh_spec.specs.Echoed.{HasMaps};
+ghost use Rattle.qh_spec.specs.Script.{Script as PlainScript, IsScript, IsRefusedAt, rounds_of};
+ghost use Rattle.qh_spec.specs.Words.{Exchange, IsCommand};
+ghost use Rattle.qh_exchange.specs.Endings.{EndsAnswered, EndsFailed, IsRunAs};
+ghost use Rattle.qh_exchange.specs.Program.{Ends, HasEnded, IsAnswered, IsLastLine, ScriptEnds, TextEnds, entries_told, refused_line};
 
+use crate::input::read_text;
+use crate::output::write_text;
 use crate::script::unbuilt_line;
-use crate::{Echo, ExchangeError, ScriptLink, enough, exchange};
+use crate::{Config, Echo, ExchangeError, Message, ScriptLink, enough, exchange};
 use qh_base::{Memory, Sink, Source};
-use qh_script::{MAX_SCRIPT, Script, ScriptError, put_entries, put_report, read_script};
+use qh_script::{Command, Script, ScriptError, put_entries, put_report, read_command, read_script};
 use std::alloc::Global;
 
 /// A service and a link, which a run uses and leaves to be looked at.
@@ -16,14 +25,8 @@ pub struct Bench<V, L> {
 
 const USAGE: &str = "usage: h3run exchange, make N SEED, workers N, tokens\n";
 
-// Milliseconds from round to round, where a script doesn't say.
-const STEP: u64 = 10;
-
 // One more than the greatest number of rounds.
 const MAX_ROUNDS: u64 = 1 << 48;
-
-// How many bytes are asked for at once.
-const PIECE: usize = 4_096;
 
 // A run's status, and what it writes.
 #[derive(Drop)]
@@ -32,31 +35,30 @@ struct Ending {
     text: Vec<u8>,
 }
 
-// What the words ask for.
-#[derive(Clone, Copy, Debug, PartialEq, Eq)]
-enum Command {
-    Exchange,
-    Unbuilt,
-    Usage,
-}
-
 /// Does what the program's words ask for, with its input and its output, and answers its status: 0 where every request
 /// has its answer, 2 for other words, 3 for a script that is refused, 4 to 8 for an exchange that failed, 9 for want of
 /// memory, 10 and 11 for a fault of the input and of the output, 12 for what isn't built yet. Before the last line of
 /// status 0 stands the report, before that of 4 to 9 the entries of the record.
 ///
-/// The bench is as new: a service that recorded nothing, and a link on which nothing happened. `exchange` puts a new link
-/// into it.
+/// The service has served nothing. `exchange` puts a new link into the bench.
 pub fn run<S: Source, K: Sink>(
     alloc: Global,
     words: &[String],
     source: &mut S,
     sink: &mut K,
     bench: &mut Bench<Echo, ScriptLink>,
-) -> u8 {
+) -> u8
+    requires { bench.old.service ≡ [] }
+    // Each status comes by its row of `Ends` alone.
+    ensures ends { HasEnded (map string_bytes words.now) (S.left source.old) (S.left source.new) (S.faults source.old) (S.faults source.new) bench.new.link bench.new.service
+        (K.written sink.old) (K.written sink.new) (K.faults sink.old) (K.faults sink.new) result }
+    // Status 0 means that the words are `exchange`, the input was read to its end and is a script, its requests were
+    // exchanged over the link on the bench, and their report was written and nothing else.
+    ensures answered { result ≡ 0 → IsAnswered (map string_bytes words.now) (S.left source.old) (S.left source.new) (K.written sink.old) (K.written sink.new) bench.new.link bench.new.service }
+{
     match ending_of(alloc, words, source, bench) {
-        Ok(ending) => write_all(sink, &ending.text, ending.status),
-        Err(Memory) => write_all(sink, b"memory\n", 9),
+        Ok(ending) => write_text(sink, &ending.text, ending.status),
+        Err(Memory) => write_text(sink, b"memory\n", 9),
     }
 }
 
@@ -65,55 +67,17 @@ fn ending_of<S: Source>(
     words: &[String],
     source: &mut S,
     bench: &mut Bench<Echo, ScriptLink>,
-) -> Result<Ending, Memory> {
-    match command_of(words) {
-        Command::Exchange => run_exchange(alloc, source, bench),
-        Command::Unbuilt => line(alloc, 12, "unbuilt\n"),
-        Command::Usage => line(alloc, 2, USAGE),
-    }
-}
-
-fn command_of(words: &[String]) -> Command {
-    match words {
-        [word] => match word.as_str() {
-            "exchange" => Command::Exchange,
-            "tokens" => Command::Unbuilt,
-            _ => Command::Usage,
-        },
-        [word, count] => {
-            if word.as_str() == "workers" && is_number(count.as_str(), 1, 64) {
-                Command::Unbuilt
-            } else {
-                Command::Usage
-            }
-        }
-        [word, count, seed] => {
-            let counted = is_number(count.as_str(), 1, 10_000);
-            if word.as_str() == "make"
-                && counted
-                && is_number(seed.as_str(), 0, u64::from(u32::MAX))
-            {
-                Command::Unbuilt
-            } else {
-                Command::Usage
-            }
-        }
-        _ => Command::Usage,
-    }
-}
-
-// Whether a word is a decimal number within these bounds, without a sign and without a leading zero but for `0`.
-fn is_number(word: &str, low: u64, high: u64) -> bool {
-    let digits = word.as_bytes();
-    if !digits.iter().all(|digit| digit.is_ascii_digit()) {
-        return false;
-    }
-    if digits.len() > 1 && digits.first() == Some(&b'0') {
-        return false;
-    }
-    match word.parse::<u64>() {
-        Ok(number) => low <= number && number <= high,
-        Err(_) => false,
+) -> Result<Ending, Memory>
+    requires { bench.old.service ≡ [] }
+    ensures { IfOk result (λ e. Ends (map string_bytes words.now) (S.left source.old) (S.left source.new) (S.faults source.old) (S.faults source.new) bench.new.link bench.new.service
+        e.status e.text.items) }
+{
+    match read_command(words) {
+        Some(Command::Exchange) => run_exchange(alloc, source, bench),
+        Some(Command::Make { .. }) => line(alloc, 12, "unbuilt\n"),
+        Some(Command::Workers { .. }) => line(alloc, 12, "unbuilt\n"),
+        Some(Command::Tokens) => line(alloc, 12, "unbuilt\n"),
+        None => line(alloc, 2, USAGE),
     }
 }
 
@@ -121,38 +85,137 @@ fn run_exchange<S: Source>(
     alloc: Global,
     source: &mut S,
     bench: &mut Bench<Echo, ScriptLink>,
-) -> Result<Ending, Memory> {
-    let Some(text) = read_all(alloc, source)? else {
-        return line(alloc, 10, "read fault\n");
-    };
-    match read_script(alloc, &text) {
-        Ok(_) if unbuilt_line(&text).is_some() => line(alloc, 12, "unbuilt\n"),
-        Ok(script) => run_script(alloc, &script, bench),
-        Err(ScriptError::Refused(number)) => refusal(alloc, &text, number),
+) -> Result<Ending, Memory>
+    requires { bench.old.service ≡ [] }
+    ensures { (words : List (List ℕ)) → IsCommand words Exchange → IfOk result (λ e. Ends words (S.left source.old) (S.left source.new) (S.faults source.old) (S.faults source.new)
+        bench.new.link bench.new.service e.status e.text.items) }
+{
+    match read_text(alloc, source)? {
+        Some(text) => run_text(alloc, &text, bench),
+        None => line(alloc, 10, "read fault\n"),
+    }
+}
+
+fn run_text(
+    alloc: Global,
+    text: &[u8],
+    bench: &mut Bench<Echo, ScriptLink>,
+) -> Result<Ending, Memory>
+    requires { bench.old.service ≡ [] }
+    ensures { IfOk result (λ e. TextEnds text.now bench.new.link bench.new.service e.status e.text.items) }
+{
+    match read_script(alloc, text) {
+        Ok(script) => run_built(alloc, text, script, bench),
+        Err(ScriptError::Refused(number)) => refusal(alloc, text, number),
         Err(ScriptError::Memory) => Err(Memory),
     }
 }
 
 // The line that is refused, unless one before it, or itself, isn't built.
-fn refusal(alloc: Global, text: &[u8], number: usize) -> Result<Ending, Memory> {
+fn refusal(alloc: Global, text: &[u8], number: usize) -> Result<Ending, Memory>
+    requires { IsRefusedAt text.now number }
+    ensures { (link : PlainLink) (served : List PlainEntry) → IfOk result (λ e. TextEnds text.now link served e.status e.text.items) }
+{
     match unbuilt_line(text) {
         Some(unbuilt) if unbuilt <= number => line(alloc, 12, "unbuilt\n"),
-        _ => line(alloc, 3, format!(in alloc; "line {number}\n")?.as_str()),
+        Some(_) => refused(alloc, number),
+        None => refused(alloc, number),
     }
 }
 
-fn run_script(
+fn refused(alloc: Global, number: usize) -> Result<Ending, Memory>
+    ensures { IfOk result (λ e. (e.status ≡ 3) × (e.text.items ≡ refused_line number)) }
+{
+    line(alloc, 3, format!(in alloc; "line {number}\n")?.as_str())
+}
+
+// Runs a script, unless a line of it isn't built.
+fn run_built(
     alloc: Global,
-    script: &Script,
+    text: &[u8],
+    script: Script,
     bench: &mut Bench<Echo, ScriptLink>,
 ) -> Result<Ending, Memory>
-    requires { Fits script.now.config }
+    requires served { bench.old.service ≡ [] }
+    requires script { IsScript text.now script }
+    ensures { IfOk result (λ e. TextEnds text.now bench.new.link bench.new.service e.status e.text.items) }
 {
-    let requests = script.requests.as_slice();
-    let rounds = enough(&script.config, requests).min(MAX_ROUNDS - 1);
-    bench.link = ScriptLink::new(alloc, STEP);
-    let Bench { service, link } = bench;
-    match exchange(alloc, &script.config, service, link, requests, rounds) {
+    match unbuilt_line(text) {
+        Some(_) => line(alloc, 12, "unbuilt\n"),
+        None => run_script(alloc, script, bench),
+    }
+}
+
+// Exchanges the requests of a script over a new link with its step and its schedule.
+fn run_script(
+    alloc: Global,
+    script: Script,
+    bench: &mut Bench<Echo, ScriptLink>,
+) -> Result<Ending, Memory>
+    requires served { bench.old.service ≡ [] }
+    requires script { (text : List ℕ) × IsScript text script }
+    ensures { IfOk result (λ e. ScriptEnds script bench.new.link bench.new.service e.status e.text.items) }
+{
+    let rounds = rounds_for(&script);
+    let Script {
+        requests,
+        config,
+        rounds: _,
+        step,
+        schedule,
+    } = script;
+    bench.link = ScriptLink::scheduled(alloc, step, schedule);
+    run_requests(alloc, &config, &requests, rounds, bench)
+}
+
+// How many rounds a script has at most: as it says, else as many as are enough.
+fn rounds_for(script: &Script) -> u64
+    ensures { result ≡ rounds_of script.now }
+{
+    match script.rounds {
+        Some(rounds) => rounds,
+        None => enough(&script.config, &script.requests).min(MAX_ROUNDS - 1),
+    }
+}
+
+// Exchanges requests over the link on the bench, on which nothing happened yet.
+fn run_requests(
+    alloc: Global,
+    config: &Config,
+    requests: &[Message],
+    rounds: u64,
+    bench: &mut Bench<Echo, ScriptLink>,
+) -> Result<Ending, Memory>
+    requires served { bench.old.service ≡ [] }
+    requires events { bench.old.link.events ≡ [] }
+    requires faults { bench.old.link.faults ≡ 0 }
+    requires fits { Fits config.now }
+    requires rounds { rounds < 2 ^ 48 }
+    requires maps { All HasMaps requests.now }
+    ensures { (s : PlainScript) → IsRunAs s config.now requests.now rounds bench.old.link → IfOk result (λ e. ScriptEnds s bench.new.link bench.new.service e.status e.text.items) }
+{
+    let ended = exchange(
+        alloc,
+        config,
+        &mut bench.service,
+        &mut bench.link,
+        requests,
+        rounds,
+    );
+    let _events = bench.link.events();
+    conclude(alloc, ended, &bench.service)
+}
+
+// The status and the text by how an exchange ended: the report, or the entries of the record and the line of the error.
+fn conclude(
+    alloc: Global,
+    ended: Result<Vec<Message>, ExchangeError>,
+    service: &Echo,
+) -> Result<Ending, Memory>
+    ensures answered { IfOk ended (λ answers. IfOk result (λ e. EndsAnswered service.now answers.items e.status e.text.items)) }
+    ensures failed { IfErr ended (λ error. IfOk result (λ e. EndsFailed service.now error e.status e.text.items)) }
+{
+    match ended {
         Ok(answers) => {
             let mut text = Vec::new(alloc);
             put_report(alloc, &mut text, service.served(), &answers)?;
@@ -162,57 +225,55 @@ fn run_script(
     }
 }
 
-// The entries of the record, and the line of the error. What isn't built has its line alone.
-fn failure(alloc: Global, error: ExchangeError, service: &Echo) -> Result<Ending, Memory> {
-    let (status, last) = match error {
-        ExchangeError::Unbuilt => return line(alloc, 12, "unbuilt\n"),
-        ExchangeError::Invalid { index } => (4, format!(in alloc; "invalid {index}\n")?),
-        ExchangeError::TimedOut => (5, String::from_str(alloc, "timed out\n")?),
-        ExchangeError::OutOfRounds => (6, String::from_str(alloc, "out of rounds\n")?),
-        ExchangeError::Link => (7, String::from_str(alloc, "link\n")?),
-        ExchangeError::Protocol(_) => (8, String::from_str(alloc, "protocol\n")?),
-        ExchangeError::Memory => (9, String::from_str(alloc, "memory\n")?),
-    };
+// The entries of the record, and the line of the error.
+fn failure(alloc: Global, error: ExchangeError, service: &Echo) -> Result<Ending, Memory>
+    ensures { IfOk result (λ e. EndsFailed service.now error e.status e.text.items) }
+{
     let mut text = Vec::new(alloc);
-    put_entries(alloc, &mut text, service.served())?;
-    text.extend_from_slice(last.as_bytes())?;
-    Ok(Ending { status, text })
+    put_told(alloc, &mut text, &error, service)?;
+    let last = last_line(alloc, error)?;
+    text.extend_from_slice(&last.text)?;
+    Ok(Ending {
+        status: last.status,
+        text,
+    })
 }
 
-fn line(alloc: Global, status: u8, text: &str) -> Result<Ending, Memory> {
+// Appends the entries of the record, but none where something isn't built.
+fn put_told(
+    alloc: Global,
+    out: &mut Vec<u8>,
+    error: &ExchangeError,
+    service: &Echo,
+) -> Result<(), Memory>
+    ensures { IfOk result (λ _. out.new.items ≡ out.old.items ++ entries_told error.now service.now) }
+{
+    match error {
+        ExchangeError::Unbuilt => Ok(()),
+        _ => put_entries(alloc, out, service.served()),
+    }
+}
+
+// The status of an error, and its line.
+fn last_line(alloc: Global, error: ExchangeError) -> Result<Ending, Memory>
+    ensures { IfOk result (λ e. IsLastLine error e.status e.text.items) }
+{
+    match error {
+        ExchangeError::Invalid { index } => {
+            line(alloc, 4, format!(in alloc; "invalid {index}\n")?.as_str())
+        }
+        ExchangeError::TimedOut => line(alloc, 5, "timed out\n"),
+        ExchangeError::OutOfRounds => line(alloc, 6, "out of rounds\n"),
+        ExchangeError::Link => line(alloc, 7, "link\n"),
+        ExchangeError::Protocol(_) => line(alloc, 8, "protocol\n"),
+        ExchangeError::Memory => line(alloc, 9, "memory\n"),
+        ExchangeError::Unbuilt => line(alloc, 12, "unbuilt\n"),
+    }
+}
+
+fn line(alloc: Global, status: u8, text: &str) -> Result<Ending, Memory>
+    ensures { IfOk result (λ e. (e.status ≡ status) × (e.text.items ≡ text.now)) }
+{
     let text = text.as_bytes().to_vec(alloc)?;
     Ok(Ending { status, text })
-}
-
-// What the source gives up to its end, or one byte more than a script has at most; None where it failed.
-fn read_all<S: Source>(alloc: Global, source: &mut S) -> Result<Option<Vec<u8>>, Memory> {
-    let mut text = Vec::new(alloc);
-    let mut piece = [0; PIECE];
-    for _piece in 0..=MAX_SCRIPT {
-        match source.read(&mut piece) {
-            Ok(0) => break,
-            Ok(len) => text.extend_from_slice(&piece[..len])?,
-            Err(_) => return Ok(None),
-        }
-        if text.len() > MAX_SCRIPT {
-            break;
-        }
-    }
-    Ok(Some(text))
-}
-
-// Writes the text and answers the status, or 11 where the sink failed.
-fn write_all<K: Sink>(sink: &mut K, text: &[u8], status: u8) -> u8 {
-    let mut rest = text;
-    for _piece in 0..text.len() {
-        if rest.is_empty() {
-            break;
-        }
-        match sink.write(rest) {
-            Ok(0) => return 11,
-            Ok(len) => rest = &rest[len..],
-            Err(_) => return 11,
-        }
-    }
-    status
 }

@@ -21,6 +21,7 @@ use http_header::HeaderMap;
 use http_uri::Uri;
 use qh_base::Memory;
 use qh_h3wire::{Frame, FrameError, Header, HeaderError};
+use qh_qpack::{DecoderError, decode_stateless, encode_stateless};
 use std::alloc::Global;
 
 /// A HEADERS frame with the message's head, and a DATA frame with its body where that isn't empty (RFC 9114, section
@@ -66,8 +67,11 @@ fn section_of(alloc: Global, head: &Head) -> Result<Bytes, Memory>
     ensures readable { AreReadable (head_fields (head_of head.now)) }
 {
     tell_parts(head);
+    let list = header_of(alloc, head)?
+        .into_list(alloc)
+        .map_err(|_| Memory)?;
     let mut section = Vec::new(alloc);
-    header_of(alloc, head)?.encode(&mut section)?;
+    encode_stateless(&mut section, list.as_slice())?;
     Ok(Bytes::from_vec(section).map_err(|_| Memory)?)
 }
 
@@ -114,8 +118,9 @@ pub fn read_request(alloc: Global, bytes: &[u8]) -> Result<Option<Message>, Memo
         return Ok(None);
     };
     match header.into_request_parts() {
-        Ok((method, uri, _fields)) => {
+        Ok((method, uri, fields)) => {
             let mut message = Message::request(alloc, method, uri)?;
+            set_fields(&mut message, fields);
             message.set_body(&body)?;
             Ok(Some(message))
         }
@@ -133,9 +138,9 @@ pub fn read_response(alloc: Global, bytes: &[u8]) -> Result<Option<Message>, Mem
         return Ok(None);
     };
     match header.into_response_parts() {
-        Ok((status, _fields)) => {
-            let _valid = status.as_u16();
+        Ok((status, fields)) => {
             let mut message = Message::response(alloc, status)?;
+            set_fields(&mut message, fields);
             message.set_body(&body)?;
             Ok(Some(message))
         }
@@ -143,14 +148,25 @@ pub fn read_response(alloc: Global, bytes: &[u8]) -> Result<Option<Message>, Mem
     }
 }
 
-// The head that the section means, and the body.
+fn set_fields(message: &mut Message, fields: HeaderMap)
+    ensures { message.new ≡ record message.old { fields = fields } }
+{
+    *message.fields_mut() = fields;
+}
+
+// The head and the fields that the section gives, and the body.
 fn read_parts(alloc: Global, bytes: &[u8]) -> Result<Option<(Header, Vec<u8>)>, Memory>
     ensures { IfOk result (λ found. IfSome found (λ p. HaveHead bytes.now p.0 p.1.items)) }
 {
     let Some((section, body)) = read_frames(alloc, bytes)? else {
         return Ok(None);
     };
-    match Header::decode(alloc, section.as_slice()) {
+    let list = match decode_stateless(alloc, section.as_slice(), u64::MAX) {
+        Ok(decoded) => decoded.fields,
+        Err(DecoderError::Memory) => return Err(Memory),
+        Err(_) => return Ok(None),
+    };
+    match Header::from_fields(alloc, list) {
         Ok(header) => Ok(Some((header, body))),
         Err(HeaderError::Memory) => Err(Memory),
         Err(_) => Ok(None),
@@ -216,7 +232,7 @@ impl StreamParts {
                 self.body.extend_from_slice(payload)?;
                 Ok(Some(used + payload.len()))
             }
-            Ok(Frame::Data(_)) => Ok(None),
+            Ok(_) => Ok(None),
             Err(error) => match error {
                 FrameError::UnknownFrame(_) => Ok(Some(used)),
                 FrameError::Memory => Err(Memory),

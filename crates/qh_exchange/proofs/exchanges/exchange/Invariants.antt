@@ -1,7 +1,14 @@
+use Rattle.std.proofs.Common.{◌≡◌}
+use Rattle.qh_exchange.specs.Turn.{GrewByAnswers}
 use Rattle.qh_exchange.proofs.Rounds.{AreMade}
 use Rattle.qh_exchange.proofs.exchanges.exchange.Given as goal
 
+-- so many turns were made, by the same limits and the same plan, and each response may be given to its request
 abbrev pub invariant-loop-round : goal.invariant-loop-round
-invariant-loop-round g l =
-    AreMade l._round l.initial.pair l.pair (g.L.Link.events l.fn.link) (g.L.Link.events l.link) (g.L.Link.moments l.fn.link) (g.L.Link.moments l.link)
-    (g.L.Link.faults l.fn.link) (g.L.Link.faults l.link) (g.V.Service.served l.fn.service) (g.V.Service.served l.service)
+invariant-loop-round g l = record {
+  made : AreMade l._round l.initial.pair l.pair (g.L.Link.events l.fn.link) (g.L.Link.events l.link) (g.L.Link.moments l.fn.link) (g.L.Link.moments l.link)
+      (g.L.Link.faults l.fn.link) (g.L.Link.faults l.link) (g.V.Service.served l.fn.service) (g.V.Service.served l.service);
+  limits : l.pair.limits ≡ l.initial.pair.limits;
+  plan : g.L.Link.plan l.link ≡ g.L.Link.plan l.fn.link;
+  answered : GrewByAnswers (g.V.Service.may_answer l.initial.pair.limits) (g.V.Service.served l.fn.service) (g.V.Service.served l.service);
+}

@@ -9,7 +9,7 @@ use Rattle.qh_exchange.proofs.Ends.{end_trans, end_fails, end_kind, end_still, e
 use Rattle.qh_exchange.proofs.pair.send_datagrams.Goals as goal
 
 pub loop-datagram-init : goal.loop-datagram-init
-loop-datagram-init g c = record { step = end_refl c.args.side _ _ _ (sent_none c.args.side); moments = refl; faults = search rules }
+loop-datagram-init g c = record { step = end_refl c.args.side _ _ _ (sent_none c.args.side); moments = refl; faults = search rules; plan = refl }
 
 pub returns-in_err-found-clause-step : goal.returns-in_err-found-clause-step
 returns-in_err-found-clause-step g c =
@@ -53,6 +53,7 @@ loop-datagram-preserved g c =
           (λ x y k m. rw m (sent_more c.args.side c.loop-datagram._datagram c.has_next.new.datagram.items x k));
       moments = c.in_ok-send.ensures.moments ∙ c.loop-datagram.invariant.moments;
       faults = (let a = c.loop-datagram.invariant.faults in let b = c.in_ok-send.ensures.cause.stays in omega arith);
+      plan = c.in_ok-send.ensures.plan ∙ c.loop-datagram.invariant.plan;
     }
 
 pub returns-clause-step : goal.returns-clause-step

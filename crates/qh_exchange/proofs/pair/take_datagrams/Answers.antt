@@ -9,7 +9,7 @@ use Rattle.qh_exchange.proofs.Ends.{end_trans, end_fails, end_kind, end_idle, en
 use Rattle.qh_exchange.proofs.pair.take_datagrams.Goals as goal
 
 pub loop-datagram-init : goal.loop-datagram-init
-loop-datagram-init g c = record { step = end_refl c.args.side _ _ _ (given_none c.args.side); moments = refl; faults = search rules }
+loop-datagram-init g c = record { step = end_refl c.args.side _ _ _ (given_none c.args.side); moments = refl; faults = search rules; plan = refl }
 
 pub returns-in_err-len-clause-step : goal.returns-in_err-len-clause-step
 returns-in_err-len-clause-step g c =
@@ -55,6 +55,7 @@ loop-datagram-preserved g c =
           (λ x y k m. rw m (given_more c.args.side c.loop-datagram._datagram (take c.in-Some.len c.take.new.buf) x k));
       moments = c.in_ok-len.ensures.moments ∙ c.loop-datagram.invariant.moments;
       faults = (let a = c.loop-datagram.invariant.faults in let b = c.in_ok-len.ensures.cause.stays in omega arith);
+      plan = c.in_ok-len.ensures.plan ∙ c.loop-datagram.invariant.plan;
     }
 
 pub returns-clause-step : goal.returns-clause-step

@@ -7,4 +7,5 @@ invariant-loop-datagram g l = record {
   step : EndStep l.side (Some l.fn.end) (Some l.end) (g.L.Link.events l.fn.link) (g.L.Link.events l.link) (AreGiven l.side l._datagram);
   moments : g.L.Link.moments l.link ≡ g.L.Link.moments l.fn.link;
   faults : g.L.Link.faults l.fn.link ≤ g.L.Link.faults l.link;
+  plan : g.L.Link.plan l.link ≡ g.L.Link.plan l.fn.link;
 }

@@ -15,4 +15,4 @@ returns-in-Ok-DataLen c =
 
 pub returns-in-UnknownFrame : goal.returns-in-UnknownFrame
 returns-in-UnknownFrame c =
-    unknown_front _ _ c.in-UnknownFrame.field-0 _ _ _ c.decode-frame.ensures.within c.decode-frame.ensures.exact c.decode-frame.ensures.other (c.in-Err.is ∙ ap Err c.in-UnknownFrame.is)
+    unknown_front _ _ c.in-UnknownFrame.field-0 _ _ _ c.decode-frame.ensures.within c.decode-frame.ensures.unknown (c.in-Err.is ∙ ap Err c.in-UnknownFrame.is)

@@ -1,0 +1,21 @@
+use Rattle.qh_exchange.proofs.Runs.{script_ends}
+use Rattle.qh_exchange.proofs.program.run_requests.Goals as goal
+
+pub returns : goal.returns
+returns c = λ s as_.
+    let x = c.exchange-ended.ensures in
+    script_ends (λ v. v.items) s c.args.config.now c.args.requests.now c.args.rounds c.args.bench.now.link c.exchange-ended.new.link c.args.bench.now.service c.exchange-ended.new.service
+    c.exchange-ended.result c.conclude.result as_ c.requires.events c.requires.faults c.requires.served
+    (record {
+      answered = x.answered_once;
+      once = x.never_twice;
+      empty = x.empty;
+      unbuilt_list = x.unbuilt_list;
+      records = x.records;
+      answers = x.answers;
+      built = x.built;
+      cause = x.cause;
+      out_of_rounds = x.out_of_rounds;
+      errors = x.errors;
+    })
+    x.plan c.events-events.ensures.scheduled c.requires.maps c.conclude.ensures.answered c.conclude.ensures.failed

@@ -1,0 +1,125 @@
+-- What a run of the program reads, does and writes, by its status (own).
+use Rattle.std.specs.Prelude.{◌≡◌, ◌≢◌, ℕ, ◌<◌, ◌≤◌, List, [], ◌++◌, codes, decimal, flat_map, Option, Some, Result, Ok, Err, IfOk, IfErr}
+use Rattle.qh_spec.specs.Fault.{Rose, CountsFaults}
+use Rattle.qh_spec.specs.Headline.{ServedOnce, AnsweredOnce}
+use Rattle.qh_spec.specs.Link.{moments_of}
+use Rattle.qh_spec.specs.Lists.{In}
+use Rattle.qh_spec.specs.Message.{PlainMessage}
+use Rattle.qh_spec.specs.Record.{PlainEntry}
+use Rattle.qh_spec.specs.Report.{newline, entry_block, report, report_of}
+use Rattle.qh_spec.specs.Schedule.{IsUnforged}
+use Rattle.qh_spec.specs.Service.{echo}
+use Rattle.qh_spec.specs.Script.{Script, IsScript, IsRefusedAt, rounds_of}
+use Rattle.qh_spec.specs.Words.{Command, Exchange, IsCommand, AreUnknown}
+use Rattle.qh_base.specs.declared.connection_error.ConnectionError.{ConnectionError}
+use Rattle.qh_link.specs.ScriptLink.{PlainLink}
+use Rattle.qh_exchange.specs.declared.error.ExchangeError.{ExchangeError}
+use Rattle.qh_exchange.specs.declared.error.ExchangeError.TheVariants.{Invalid, Link, TimedOut, OutOfRounds, Protocol, Memory, Unbuilt}
+use Rattle.qh_exchange.specs.Exchange.{IsExchangeError, IsUnbuilt, IfUnbuilt, IfOutOfRounds, RanOut}
+use Rattle.qh_exchange.specs.Reading.{IsRead, IsInput, IsAppended, IsWritten}
+use Rattle.qh_exchange.specs.Small.{IsBuilt}
+use Rattle.qh_exchange.specs.Turn.{HasUnbuilt, has_link_failed}
+use Rattle.qh_exchange.specs.Unbuilt.{IsUnbuiltAt}
+
+-- ---- the last lines
+
+abbrev pub usage_line : List ℕ
+usage_line = codes "usage: h3run exchange, make N SEED, workers N, tokens" ++ newline
+
+abbrev pub unbuilt_line : List ℕ
+unbuilt_line = codes "unbuilt" ++ newline
+
+abbrev pub memory_line : List ℕ
+memory_line = codes "memory" ++ newline
+
+abbrev pub refused_line : ℕ → List ℕ
+refused_line n = codes "line " ++ (decimal n ++ newline)
+
+-- the status of an error of an exchange, and its last line
+pub data IsLastLine : ExchangeError → ℕ → List ℕ → Type 0 where
+  invalid : (index : ℕ) → IsLastLine (Invalid index) 4 (codes "invalid " ++ (decimal index ++ newline))
+  timed_out : IsLastLine TimedOut 5 (codes "timed out" ++ newline)
+  out_of_rounds : IsLastLine OutOfRounds 6 (codes "out of rounds" ++ newline)
+  link : IsLastLine Link 7 (codes "link" ++ newline)
+  protocol : (e : ConnectionError) → IsLastLine (Protocol e) 8 (codes "protocol" ++ newline)
+  memory_wanting : IsLastLine Memory 9 memory_line
+  not_built : IsLastLine Unbuilt 12 unbuilt_line
+
+-- what is told before the last line: the entries of the record, but nothing of what isn't built
+abbrev pub entries_told : ExchangeError → List PlainEntry → List ℕ
+entries_told Unbuilt served = []
+entries_told (Invalid index) served = flat_map entry_block served
+entries_told TimedOut served = flat_map entry_block served
+entries_told OutOfRounds served = flat_map entry_block served
+entries_told Link served = flat_map entry_block served
+entries_told (Protocol e) served = flat_map entry_block served
+entries_told Memory served = flat_map entry_block served
+
+-- ---- what is done
+
+-- each response that was recorded is the echo of its request, up to a limit
+abbrev pub AreEchoes : ℕ → List PlainEntry → Type 0
+AreEchoes limit entries = (e : PlainEntry) → In e entries → e.response ≡ echo limit e.request
+
+-- What an exchange of a script's requests left behind, over a new link with the script's step and schedule, and with a
+-- service that echoes and had served nothing.
+pub record HasRun (s : Script) (link : PlainLink) (served : List PlainEntry) (result : Result (List PlainMessage) ExchangeError) : Type 0 where
+  pub step_is : link.step ≡ s.step
+  pub schedule_is : link.schedule ≡ s.schedule
+  -- what is promised of it, where the schedule forges nothing
+  pub served_once : IsUnforged s.schedule → ServedOnce s.config.local_id_len link.events s.requests [] served
+  pub answered_once : IsUnforged s.schedule → IfOk result (λ answers. AnsweredOnce s.config.local_id_len link.events s.requests [] served answers)
+  pub echoes : AreEchoes s.config.max_response_body served
+  -- why it failed
+  pub cause : CountsFaults 0 link.faults (has_link_failed result)
+  pub out_of_rounds : IfOutOfRounds result (RanOut (rounds_of s) s.requests (Some []) (Some link.events) [] (moments_of link.events) [] served)
+  pub unbuilt : IfUnbuilt result ((s.requests ≢ []) × (IsBuilt s.config s.requests → HasUnbuilt served))
+  pub unbuilt_list : s.requests ≢ [] → (IsBuilt s.config s.requests → ⊥) → IsUnbuilt result × (link.events ≡ []) × (served ≡ [])
+  pub errors : IfErr result IsExchangeError
+
+-- how a run ends that had a script: its status and its text
+pub data ScriptEnds (s : Script) (link : PlainLink) (served : List PlainEntry) : (status : ℕ) → (text : List ℕ) → Type 0 where
+  answered : (answers : List PlainMessage) → HasRun s link served (Ok answers)
+      → (IsUnforged s.schedule → report served answers ≡ report_of s.config.max_response_body s.requests) → ScriptEnds s link served 0 (report served answers)
+  failed : (e : ExchangeError) (status : ℕ) (last : List ℕ) → HasRun s link served (Err e) → IsLastLine e status last
+      → ScriptEnds s link served status (entries_told e served ++ last)
+
+-- How a run ends that read a text: a line of it is refused, or isn't built yet, whichever comes first, or it is a script.
+pub data TextEnds (text : List ℕ) (link : PlainLink) (served : List PlainEntry) : (status : ℕ) → (written : List ℕ) → Type 0 where
+  refused : (n : ℕ) → IsRefusedAt text n → ((m : ℕ) → IsUnbuiltAt text m → n < m) → TextEnds text link served 3 (refused_line n)
+  unbuilt : (n : ℕ) → IsUnbuiltAt text n → ((m : ℕ) → IsRefusedAt text m → n ≤ m) → TextEnds text link served 12 unbuilt_line
+  ran : (s : Script) (status : ℕ) (written : List ℕ) → IsScript text s → ((m : ℕ) → IsUnbuiltAt text m → ⊥) → ScriptEnds s link served status written
+      → TextEnds text link served status written
+
+-- How a run ends: its status and what it has to write, by its words, by what it reads, and by what it leaves on the bench.
+pub data Ends (words : List (List ℕ)) (left_before left_after : Option (List ℕ)) (faults_before faults_after : ℕ) (link : PlainLink) (served : List PlainEntry)
+    : (status : ℕ) → (written : List ℕ) → Type 0 where
+  usage : AreUnknown words → Ends words left_before left_after faults_before faults_after link served 2 usage_line
+  unbuilt_words : (c : Command) → IsCommand words c → c ≢ Exchange → Ends words left_before left_after faults_before faults_after link served 12 unbuilt_line
+  read_fault : IsCommand words Exchange → Rose faults_before faults_after
+      → Ends words left_before left_after faults_before faults_after link served 10 (codes "read fault" ++ newline)
+  read : (text : List ℕ) (status : ℕ) (written : List ℕ) → IsCommand words Exchange → IsInput left_before left_after text
+      → TextEnds text link served status written → Ends words left_before left_after faults_before faults_after link served status written
+  memory : Ends words left_before left_after faults_before faults_after link served 9 memory_line
+
+-- How a run ends: what it read, did and wrote, and its status.
+pub record HasEnded (words : List (List ℕ)) (left_before left_after : Option (List ℕ)) (read_before read_after : ℕ) (link : PlainLink) (served : List PlainEntry)
+    (written_before written_after : Option (List ℕ)) (failed_before failed_after result : ℕ) : Type 0 where
+  pub status : ℕ
+  pub text : List ℕ
+  pub ends : Ends words left_before left_after read_before read_after link served status text
+  pub writes : IsWritten status text written_before written_after failed_before failed_after result
+
+-- ---- status 0
+
+-- The words are `exchange`, the source was read to its end, its text is a script, its requests were exchanged, and what was
+-- written is their report and nothing else, where the schedule forges nothing.
+pub record IsAnswered (words : List (List ℕ)) (left_before left_after written_before written_after : Option (List ℕ)) (link : PlainLink) (served : List PlainEntry) : Type 0 where
+  pub words_are : IsCommand words Exchange
+  pub text : List ℕ
+  pub read : IsRead left_before left_after text
+  pub script : Script
+  pub is_script : IsScript text script
+  pub answers : List PlainMessage
+  pub run : HasRun script link served (Ok answers)
+  pub written : IsUnforged script.schedule → IsAppended written_before written_after (report_of script.config.max_response_body script.requests)
