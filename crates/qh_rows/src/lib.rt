@@ -1,5 +1,8 @@
-//! Tests that cross the crates.
+//! Tests that cross the crates, and the link that they use.
 #![tactic(auto)]
 
+pub mod rough;
+#[cfg(test)]
+mod sections;
 #[cfg(test)]
 mod tests;
