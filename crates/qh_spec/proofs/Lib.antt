@@ -10,6 +10,7 @@ pub mod FrameLaws
 pub mod FrameRows
 pub mod HeadlineLaws
 pub mod HttpFrameLaws
+pub mod InTurn
 pub mod LawfulRows
 pub mod LineLaws
 pub mod MapAppend
@@ -35,6 +36,9 @@ pub mod SectionRows
 pub mod SpellingLaws
 pub mod StreamViews
 pub mod TargetReading
+pub mod TokenLogLaws
+pub mod TokenRows
+pub mod TokenTexts
 pub mod TranscriptLaws
 pub mod ValidityLaws
 pub mod Varints

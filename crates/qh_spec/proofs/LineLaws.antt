@@ -45,7 +45,7 @@ not_solid [] rest e = false≢true e
 not_solid (b ∷ front) rest e = not_solid front rest (solid_rest b (front ++ 32 ∷ rest) e)
 
 -- cut at the first space
-split_first : (a b x y : List ℕ) → is_solid a ≡ true → is_solid b ≡ true → a ++ 32 ∷ x ≡ b ++ 32 ∷ y → (a ≡ b) × (x ≡ y)
+pub split_first : (a b x y : List ℕ) → is_solid a ≡ true → is_solid b ≡ true → a ++ 32 ∷ x ≡ b ++ 32 ∷ y → (a ≡ b) × (x ≡ y)
 split_first [] [] x y s t e = let rest : x ≡ y = cc in (refl, rest)
 split_first [] (q ∷ b) x y s t e = let space : q ≡ 32 = cc in absurd (solid_first q b t space)
 split_first (p ∷ a) [] x y s t e = let space : p ≡ 32 = cc in absurd (solid_first p a s space)
@@ -79,7 +79,7 @@ passes_decimal test ok n h =
     decimal_by_steps (λ m ds. list_all test ds ≡ true) (λ m lt. rw (ok m lt) refl)
     (λ m ds ge p. rw (list_all-append test ds ((48 + m % 10) ∷ []), p, ok (m % 10) (omega arith)) refl) n h
 
-solid_decimal : (n : ℕ) → n < 2 ^ 64 → is_solid (decimal n) ≡ true
+pub solid_decimal : (n : ℕ) → n < 2 ^ 64 → is_solid (decimal n) ≡ true
 solid_decimal n h = passes_decimal (λ b. not (b == 32)) (λ d lt. rw (ne_eqb (48 + d) 32 (omega arith)) refl) n h
 
 -- no byte past the digits

@@ -36,6 +36,9 @@ pub mod Spelling
 pub mod StaticTable
 pub mod StreamId
 pub mod Tag
+pub mod TokenFilter
+pub mod TokenLog
+pub mod TokenScript
 pub mod Transcript
 pub mod Turns
 pub mod Validity

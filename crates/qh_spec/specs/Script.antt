@@ -6,7 +6,7 @@ use Rattle.qh_spec.specs.declared.link.Upset.{Upset}
 use Rattle.qh_spec.specs.declared.script.Setting.{Setting}
 use Rattle.qh_spec.specs.declared.script.Setting.TheVariants.{Section, RequestBody, Response, Cap, Bidi, Window, Idle, Rtt, Rounds, Step}
 use Rattle.qh_spec.specs.Config.{PlainConfig, default_config, Fits}
-use Rattle.qh_spec.specs.Lines.{lines}
+use Rattle.qh_spec.specs.Lines.{lines, InTurn}
 use Rattle.qh_spec.specs.Message.{PlainMessage, Request as RequestHead}
 use Rattle.qh_spec.specs.ScriptLine.{Line, Empty, Request, Field, Trailer, Body, Fill, Set, RetryOn, GreaseOff, Disturb, IsLine}
 use Rattle.qh_spec.specs.Size.{enough_rounds}
@@ -115,8 +115,7 @@ pub record IsTaken (text : List ℕ) (s t : Script) : Type 0 where
 
 -- the lines are taken, one after another
 abbrev pub AreTaken : List (List ℕ) → Script → Script → Type 0
-AreTaken [] s t = t ≡ s
-AreTaken (l ∷ ls) s t = (mid : Script) × IsTaken l s mid × AreTaken ls mid t
+AreTaken ls s t = InTurn IsTaken ls s t
 
 -- the greatest length of a script, in bytes
 abbrev pub max_script : ℕ

@@ -10,6 +10,7 @@ pub mod refusals;
 pub mod reports;
 pub mod requests;
 pub mod scripts;
+pub mod tokens;
 pub mod transcripts;
 pub mod wholes;
 pub mod wire;
