@@ -1,0 +1,10 @@
+pub mod AckRanges
+pub mod Acks
+pub mod AcksWritten
+pub mod FieldsRead
+pub mod FramesRead
+pub mod FramesWritten
+pub mod Ranges
+pub mod Shapes
+pub mod StreamsWritten
+pub mod WrittenForms

@@ -1,0 +1,9 @@
+pub mod AckAt
+pub mod AckWritten
+pub mod FieldsAt
+pub mod FrameAt
+pub mod FrameBytes
+pub mod Plain
+pub mod Range
+pub mod StreamAt
+pub mod WrittenForm

@@ -1,0 +1,112 @@
+use crate::Ack;
+use qh_base::{ConnectionId, Dir, ResetToken, StreamId, VarInt};
+
+/// A STREAM frame over the bytes of its packet (RFC 9000, section 19.8).
+#[derive(Clone, Copy, Debug)]
+pub struct Stream<'a> {
+    pub id: StreamId,
+    /// Where in the stream its bytes begin.
+    pub offset: VarInt,
+    /// Whether the stream ends with them.
+    pub fin: bool,
+    pub payload: &'a [u8],
+}
+
+/// A frame over the bytes of its packet (RFC 9000, section 19; RFC 9221, section 4).
+#[derive(Clone, Copy, Debug)]
+pub enum Frame<'a> {
+    /// Nothing (section 19.1).
+    Padding,
+    /// Asks for an acknowledgement (section 19.2).
+    Ping,
+    /// Packets that came (section 19.3). The counts of marks that the type 03 has are left out.
+    Ack(Ack<'a>),
+    /// The end of what its sender sends on a stream, with the size that the stream has (section 19.4).
+    ResetStream {
+        id: StreamId,
+        error_code: VarInt,
+        final_offset: VarInt,
+    },
+    /// Asks for the end of a stream (section 19.5).
+    StopSending {
+        id: StreamId,
+        error_code: VarInt,
+    },
+    /// Bytes of the handshake at their offset (section 19.6).
+    Crypto {
+        offset: VarInt,
+        payload: &'a [u8],
+    },
+    /// A token for a later connection (section 19.7).
+    NewToken {
+        token: &'a [u8],
+    },
+    /// Bytes of a stream (section 19.8).
+    Stream(Stream<'a>),
+    /// The greatest sum of the streams' offsets, in bytes (section 19.9).
+    MaxData(VarInt),
+    /// The greatest offset in a stream, in bytes (section 19.10).
+    MaxStreamData {
+        id: StreamId,
+        offset: VarInt,
+    },
+    /// How many streams of a direction may be opened in all (section 19.11).
+    MaxStreams {
+        dir: Dir,
+        count: VarInt,
+    },
+    /// The limit of all streams keeps bytes back (section 19.12).
+    DataBlocked {
+        offset: VarInt,
+    },
+    /// The limit of a stream keeps bytes back (section 19.13).
+    StreamDataBlocked {
+        id: StreamId,
+        offset: VarInt,
+    },
+    /// The count of streams keeps a stream back (section 19.14).
+    StreamsBlocked {
+        dir: Dir,
+        limit: VarInt,
+    },
+    /// A further connection id of its sender (section 19.15).
+    NewConnectionId {
+        sequence: VarInt,
+        retire_prior_to: VarInt,
+        id: ConnectionId,
+        reset_token: ResetToken,
+    },
+    /// A connection id is used no more (section 19.16).
+    RetireConnectionId {
+        sequence: VarInt,
+    },
+    /// Asks for these bytes (section 19.17).
+    PathChallenge([u8; 8]),
+    /// The bytes that were asked for (section 19.18).
+    PathResponse([u8; 8]),
+    /// The end of the connection by the transport (section 19.19).
+    ConnectionClose {
+        code: VarInt,
+        /// The type of the frame at fault, 0 where none is known.
+        frame_type: VarInt,
+        reason: &'a [u8],
+    },
+    /// The end of the connection by the application (section 19.19).
+    ApplicationClose {
+        code: VarInt,
+        reason: &'a [u8],
+    },
+    /// The handshake is confirmed (section 19.20).
+    HandshakeDone,
+    /// A datagram of the application (RFC 9221, section 4).
+    Datagram {
+        payload: &'a [u8],
+    },
+}
+
+/// Bytes that no frame begins, or one whose values may not stand in it.
+#[derive(Clone, Copy, Debug, PartialEq, Eq)]
+pub struct FrameFault {
+    /// The type that the bytes begin with. None where it is cut.
+    pub frame: Option<u64>,
+}
