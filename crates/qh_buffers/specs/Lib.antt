@@ -1,0 +1,4 @@
+pub mod Assembler
+pub mod Ranges
+pub mod SendBuffer
+pub mod SendState

@@ -1,0 +1,149 @@
+ghost use Rattle.std.specs.Prelude.{◌≡◌, ℕ, ◌+◌, ◌<◌, ◌≤◌, ◌^◌, length, None, true, false, OnOk, OnErr, IfOk, MatchOption};
+ghost use Rattle.qh_buffers.specs.Assembler.{empty_assembler, read_to, to_give, was_given, run_of, first_of, end_of, IsInserted, IsGiven, IsFrontPiece, IsLeastPiece, HasNothing};
+ghost use Rattle.qh_buffers.specs.Ranges.{count_of, front_of};
+
+use crate::RangeSet;
+use bytes::Bytes;
+use qh_base::Memory;
+use std::alloc::Global;
+use std::collections::VecDeque;
+use std::marker::Model;
+
+mod chunks;
+#[cfg(test)]
+mod tests;
+
+/// A piece of a stream, and where it begins.
+#[derive(Debug, Drop)]
+pub struct Chunk {
+    /// The offset of its first byte.
+    pub offset: u64,
+    /// The bytes.
+    pub bytes: Bytes,
+}
+
+impl Chunk {
+    /// The offset behind the last byte.
+    pub fn end(&self) -> u64
+        requires { end_of self.now < 2 ^ 62 }
+        ensures { result ≡ end_of self.now }
+    {
+        self.offset + self.bytes.len() as u64
+    }
+}
+
+/// The bytes of a stream that came and wait to be read.
+#[derive(Drop)]
+pub struct Assembler {
+    alloc: Global,
+    given: RangeSet,
+    bytes_read: u64,
+    chunks: VecDeque<Chunk>,
+}
+
+impl Model for Assembler {
+    ghost use Rattle.qh_buffers.specs.Assembler.{PlainAssembler, IsKept};
+
+    ghost Value = { PlainAssembler };
+
+    ghost view = { λ s. record { given = s.given; chunks = s.chunks.items } };
+
+    ghost invariant = { λ s. IsKept s.given s.chunks.items s.bytes_read };
+}
+
+impl Assembler {
+    /// Nothing came yet.
+    pub fn new(alloc: Global) -> Assembler
+        ensures { result ≡ empty_assembler }
+    {
+        Assembler {
+            alloc,
+            given: RangeSet::new(alloc),
+            bytes_read: 0,
+            chunks: VecDeque::new(alloc),
+        }
+    }
+
+    /// How many bytes reads gave.
+    pub fn bytes_read(&self) -> u64
+        ensures { result ≡ count_of self.now.given }
+    {
+        self.bytes_read
+    }
+
+    /// How many bytes reads gave from the beginning on, without a gap.
+    pub fn read_to(&self) -> u64
+        ensures { result ≡ read_to self.now }
+    {
+        self.given.front()
+    }
+
+    /// Where all that was given lies below an offset, it isn't more than that.
+    pub fn counts_below(&self, end: u64)
+        requires { (k : ℕ) → was_given self.now k ≡ true → k < end }
+        ensures { count_of self.now.given ≤ end }
+    {
+        let _ = &self.given;
+    }
+
+    /// Keeps the bytes of a piece that didn't come before. Of those that came before the first ones stay.
+    pub fn insert(&mut self, offset: u64, payload: Bytes) -> Result<(), Memory>
+        requires { offset + length payload < 2 ^ 62 }
+        ensures ok { OnOk result (IsInserted self.old self.new (record { offset = offset; bytes = payload })) }
+        ensures err { OnErr result (self.new ≡ self.old) }
+    {
+        let new = Chunk {
+            offset,
+            bytes: payload,
+        };
+        chunks::insert(self.alloc, &self.given, &mut self.chunks, new)
+    }
+
+    /// Gives bytes that wait, at most so many; None where none waits, in an ordered read where the next one doesn't. An
+    /// ordered read gives all that it may from the first offset on that no read gave, an unordered one a piece.
+    pub fn read(&mut self, max_length: usize, ordered: bool) -> Result<Option<Chunk>, Memory>
+        requires { 0 < max_length }
+        ensures none { IfOk result (λ o. o ≡ None → self.new ≡ self.old) }
+        ensures none_ordered { IfOk result (λ o. o ≡ None → ordered ≡ true → to_give self.old (read_to self.old) ≡ None) }
+        ensures none_unordered { IfOk result (λ o. o ≡ None → ordered ≡ false → HasNothing self.old) }
+        ensures some { IfOk result (λ o. MatchOption o (Unit {0}) (IsGiven self.old self.new max_length)) }
+        ensures front { IfOk result (λ o. ordered ≡ true → MatchOption o (Unit {0}) (IsFrontPiece self.old max_length)) }
+        ensures least { IfOk result (λ o. ordered ≡ false → MatchOption o (Unit {0}) (IsLeastPiece self.old)) }
+        ensures counted { IfOk result (λ o. MatchOption o (Unit {0}) (λ c. count_of self.new.given ≡ count_of self.old.given + length c.bytes)) }
+        ensures err { OnErr result (self.new ≡ self.old) }
+    {
+        let length = self.next_length(max_length, ordered);
+        if length == 0 {
+            return Ok(None);
+        }
+        let offset = self.chunks[0].offset;
+        let bytes = chunks::front_bytes(self.alloc, &self.chunks, length)?;
+        self.given.insert(offset..offset + length as u64)?;
+        self.given.is_apart();
+        chunks::drop_front(&mut self.chunks, length);
+        self.bytes_read += length as u64;
+        Ok(Some(Chunk { offset, bytes }))
+    }
+
+    /// Drops all bytes that wait.
+    pub fn clear(&mut self)
+        ensures waits { HasNothing self.new }
+        ensures given { self.new.given ≡ self.old.given }
+    {
+        self.chunks.clear();
+    }
+
+    /// How many bytes the next read gives of the first pieces.
+    fn next_length(&self, max_length: usize, ordered: bool) -> usize
+        ensures ordered { ordered ≡ true → result ≡ run_of (front_of self.now.given) max_length self.now.chunks }
+        ensures unordered { ordered ≡ false → result ≡ first_of max_length self.now.chunks }
+    {
+        if ordered {
+            return chunks::run(&self.chunks, self.given.front(), max_length);
+        }
+        let Some(first) = self.chunks.front() else {
+            return 0;
+        };
+        max_length.min(first.bytes.len())
+    }
+}
