@@ -1,0 +1,6 @@
+pub mod Bits
+pub mod Chunks
+pub mod Looks
+pub mod Members
+pub mod Positions
+pub mod Samples

@@ -1,0 +1,9 @@
+pub mod BandwidthEstimation
+pub mod BitFilter
+pub mod BloomTokenLog
+pub mod Filter
+pub mod MinMax
+pub mod OptimalKNum
+pub mod ReadToEndBuffer
+pub mod TokenLog
+pub mod WorkLimiter

@@ -1,0 +1,190 @@
+ghost use Rattle.std.specs.Prelude.{◌≡◌, ◌+◌, ◌*◌, ◌/◌, ◌%◌, ◌^◌, ◌<◌, ◌==◌, max, Some, IsSome, if◌then◌else◌};
+ghost use Rattle.qh_parts.specs.WorkLimiter.{new_limiter, is_measured, elapsed_since, allows_work, smoothed as smoothed_time_of, after_cycle};
+
+use qh_base::{Moment, Span};
+use std::marker::Model;
+
+/// One cycle of so many is measured.
+const SAMPLING_INTERVAL: u16 = 256;
+
+/// Limits the work of a cycle to what can be done in a length of time. It measures some cycles, and limits the others by
+/// how long an item took in those. What an item is doesn't matter, as long as one takes about as long as another.
+#[derive(Debug, Drop)]
+pub struct WorkLimiter {
+    desired_cycle_time: Span,
+    // How many cycles with work are over, modulo 2^16.
+    cycle: u16,
+    start_time: Option<Moment>,
+    completed: usize,
+    // In nanoseconds an item, 0 before the first measured cycle.
+    smoothed_time: u64,
+    allowed: usize,
+}
+
+impl Model for WorkLimiter {
+    ghost use Rattle.qh_parts.specs.WorkLimiter.{PlainLimiter};
+
+    ghost Value = { PlainLimiter };
+
+    ghost view = { λ l. record {
+      desired_cycle_time = l.desired_cycle_time.0;
+      cycle = l.cycle;
+      start_time = l.start_time;
+      completed = l.completed;
+      smoothed_time = l.smoothed_time;
+      allowed = l.allowed;
+    } };
+}
+
+impl WorkLimiter {
+    /// A limiter for cycles of this length. It allows no work yet but in the first cycle, which is measured.
+    pub fn new(cycle: Span) -> WorkLimiter
+        ensures { result ≡ new_limiter cycle.0 }
+    {
+        WorkLimiter {
+            desired_cycle_time: cycle,
+            cycle: 0,
+            start_time: None,
+            completed: 0,
+            smoothed_time: 0,
+            allowed: 0,
+        }
+    }
+
+    /// Starts a cycle.
+    pub fn start_cycle(&mut self, now: Moment)
+        ensures { self.new ≡ record self.old { start_time = Some now; completed = 0 } }
+    {
+        self.start_time = Some(now);
+        self.completed = 0;
+    }
+
+    /// Whether the cycle may do more work: in a cycle that is measured, while it isn't over.
+    pub fn allow_work(&self, now: Moment) -> bool
+        requires { IsSome self.now.start_time }
+        ensures { result ≡ allows_work self.now now }
+    {
+        if self.is_measured() {
+            self.elapsed(now) < self.desired_cycle_time
+        } else {
+            self.completed < self.allowed
+        }
+    }
+
+    /// Counts items that the cycle has done.
+    pub fn record_work(&mut self, work: usize)
+        requires { self.old.completed + work < 2 ^ 64 }
+        ensures { self.new ≡ record self.old { completed = self.old.completed + work } }
+    {
+        self.completed += work;
+    }
+
+    /// Ends the cycle. One without work isn't counted.
+    pub fn finish_cycle(&mut self, now: Moment)
+        requires { IsSome self.old.start_time }
+        ensures { self.new ≡ after_cycle self.old now }
+    {
+        if self.completed == 0 {
+            return;
+        }
+        if self.is_measured() {
+            let time = self.elapsed(now).0 / self.completed as u64;
+            self.smoothed_time = smooth(self.smoothed_time, time);
+            self.allowed = (self.desired_cycle_time.0 / self.smoothed_time).max(1) as usize;
+        }
+        self.cycle = self.cycle.wrapping_add(1);
+    }
+
+    /// How many items a cycle may do that isn't measured.
+    pub fn allowed(&self) -> usize
+        ensures { result ≡ self.now.allowed }
+    {
+        self.allowed
+    }
+
+    fn is_measured(&self) -> bool
+        ensures { result ≡ is_measured self.now }
+    {
+        self.cycle % SAMPLING_INTERVAL == 0
+    }
+
+    // The time since the cycle started.
+    fn elapsed(&self, now: Moment) -> Span
+        requires { IsSome self.now.start_time }
+        ensures { result.0 ≡ elapsed_since self.now.start_time now }
+    {
+        now.since(self.start_time.unwrap())
+    }
+}
+
+// The smoothed time of an item after one more measurement.
+fn smooth(before: u64, time: u64) -> u64
+    ensures { result ≡ smoothed_time_of before time }
+{
+    if before == 0 {
+        return time.max(1);
+    }
+    let eighths = 7 * u128::from(before) + u128::from(time);
+    ((eighths / 8) as u64).max(1)
+}
+
+#[cfg(test)]
+mod tests {
+    use super::*;
+
+    // How many cycles there are, the items of a batch and the milliseconds that it takes, the batches of a cycle, and what
+    // is allowed then.
+    const ROWS: [(u16, u16, u64, usize, usize); 8] = [
+        (1, 12, 100, 5, 60),
+        (1, 1, 0, 60, 60),
+        (1, 2, 0, 30, 60),
+        (1, 3, 0, 20, 60),
+        (1, 5, 900, 12, 60),
+        (251, 60, 0, 1, 60),
+        (1, 96, 100, 5, 67),
+        (1, 60, 0, 2, 67),
+    ];
+
+    // Does batches of work while the cycle allows it, and answers how many.
+    fn work(limiter: &mut WorkLimiter, now: &mut Moment, items: u16, time: Span) -> usize {
+        limiter.start_cycle(*now);
+        for batches in 0..1_000usize {
+            if !limiter.allow_work(*now) {
+                limiter.finish_cycle(*now);
+                return batches;
+            }
+            limiter.record_work(usize::from(items));
+            *now = now.plus(time);
+        }
+        1_000
+    }
+
+    #[test]
+    fn work_is_limited_by_the_time_it_took(rt: HostRuntime) {
+        let mut limiter = WorkLimiter::new(Span::from_millis(500));
+        let mut now = Moment(7);
+        // A cycle without work isn't counted.
+        limiter.start_cycle(now);
+        limiter.finish_cycle(now);
+        assert_eq!(rt; limiter.allowed(), 0);
+        for (cycles, items, millis, batches, allowed) in ROWS {
+            for _cycle in 0..cycles {
+                let done = work(&mut limiter, &mut now, items, Span::from_millis(millis));
+                assert_eq!(rt; done, batches);
+            }
+            assert_eq!(rt; limiter.allowed(), allowed);
+        }
+    }
+
+    // An item takes a nanosecond at least, and a cycle allows one at least.
+    #[test]
+    fn limits_have_bounds(rt: HostRuntime) {
+        for (cycle, elapsed, allowed) in [(100, 0, 100), (100, 5, 20), (0, 5, 1), (100, 1_000, 1)] {
+            let mut limiter = WorkLimiter::new(Span(cycle));
+            limiter.start_cycle(Moment(50));
+            limiter.record_work(1);
+            limiter.finish_cycle(Moment(50).plus(Span(elapsed)));
+            assert_eq!(rt; limiter.allowed(), allowed);
+        }
+    }
+}
