@@ -14,64 +14,64 @@ use Rattle.qh_script.specs.Line.{HasNoSpace, IsNumber, IsNoNumber}
 pub record IsReadTo (text : List ℕ) (i number : ℕ) : Type 0 where
   pub digits : AllDigits 10 (take i text)
   pub value : number ≡ digits_value 10 (take i text)
+  pub fits : number < 2 ^ 64
 
 digit-value : (c : ℕ) → 48 ≤ c → c ≤ 57 → digit_value c ≡ c - 48
 digit-value c low high = omega (arith, digit_value_digit c (low, high))
 
-pub read_more : (text : List ℕ) (i number next : ℕ) → i < length text → IsReadTo text i number → 48 ≤ get_or text i 0 → get_or text i 0 ≤ 57 → next ≡ number * 10 + (get_or text i 0 - 48) → IsReadTo text (i + 1) next
-read_more text i number next l r low high e =
+pub read_more : (text : List ℕ) (i number next : ℕ) → i < length text → IsReadTo text i number → 48 ≤ get_or text i 0 → get_or text i 0 ≤ 57 → next ≡ number * 10 + (get_or text i 0 - 48) → next < 2 ^ 64 → IsReadTo text (i + 1) next
+read_more text i number next l r low high e fits =
     let d : digit_value (get_or text i 0) ≡ get_or text i 0 - 48 = digit-value _ low high in
     record {
       digits = digits_more 10 text i l r.digits (omega arith);
       value = omega (arith, digits_value_more 10 text i l, r.value);
+      fits = fits;
     }
 
 -- a text that is empty, has a leading zero, another byte or too many digits is no number
 pub no_number_empty : (text : List ℕ) → length text ≡ 0 → IsNoNumber text
 no_number_empty text e n s is = omega (arith, decimal_nonempty n (omega arith), ap length is)
 
-leading : (n : ℕ) → n < 2 ^ 63 → 1 < length (decimal n) → get_or (decimal n) 0 0 ≡ 48 → ⊥
+leading : (n : ℕ) → n < 2 ^ 64 → 1 < length (decimal n) → get_or (decimal n) 0 0 ≡ 48 → ⊥
 leading zero s l z = omega (arith, ap length (decimal_digit 0 (omega arith)))
 leading (suc n) s l z = omega (arith, first_decimal (suc n) (omega arith) (omega arith))
 
 pub no_number_zero : (text : List ℕ) → 1 < length text → get_or text 0 0 ≡ 48 → IsNoNumber text
 no_number_zero text l z n s is = leading n s (rw is at l) (rw is at z)
 
-pub digits_of_number : (text : List ℕ) (n : ℕ) → n < 2 ^ 63 → text ≡ decimal n → AllDigits 10 text × (digits_value 10 text ≡ n)
+pub digits_of_number : (text : List ℕ) (n : ℕ) → n < 2 ^ 64 → text ≡ decimal n → AllDigits 10 text × (digits_value 10 text ≡ n)
 digits_of_number text n s is = let d = decimal_is_IsNumeral n (omega arith) in (rw is d.0.1, rw is d.1)
 
 pub no_number_byte : (text : List ℕ) (i : ℕ) → i < length text → (IsInRange 48 57 (get_or text i 0) → ⊥) → IsNoNumber text
 no_number_byte text i l h n s is = h (digit_at text i (digits_of_number text n s is).0 l)
 
-pub no_number_many : (text : List ℕ) (i number : ℕ) → i < length text → IsReadTo text i number → 922337203685477581 ≤ number → IsNoNumber text
-no_number_many text i number l r many n s is =
-    omega (arith, digits_value-take-le 10 text (i + 1) (omega arith), digits_value_more 10 text i l, r.value, (digits_of_number text n s is).1)
-
--- all was read
-pub no_number_end : (text : List ℕ) (number : ℕ) → IsReadTo text (length text) number → 2 ^ 63 ≤ number → IsNoNumber text
-no_number_end text number r many n s is =
-    omega (arith, r.value, ap (digits_value 10) (take_all (length text) text (omega arith)), (digits_of_number text n s is).1)
+-- ten times what was read so far is too much already
+pub no_number_many : (text : List ℕ) (i number : ℕ) → i < length text → IsReadTo text i number → 2 ^ 64 ≤ number * 10 + (get_or text i 0 - 48)
+    → 48 ≤ get_or text i 0 → get_or text i 0 ≤ 57 → IsNoNumber text
+no_number_many text i number l r many low high n s is =
+    omega
+    (arith, digits_value-take-le 10 text (i + 1) (omega arith), digits_value_more 10 text i l, r.value, digit-value (get_or text i 0) low high, (digits_of_number text n s is).1)
 
 one_byte : (text : List ℕ) → 0 < length text → (1 < length text → ⊥) → length text ≡ 1
 one_byte text some none = omega (arith, none)
 
-pub number_end : (text : List ℕ) (number : ℕ) → IsReadTo text (length text) number → 0 < length text → ((1 < length text) × (get_or text 0 0 ≡ 48) → ⊥) → number < 2 ^ 63 → IsNumber text number
-number_end text number r some none s =
+pub number_end : (text : List ℕ) (number : ℕ) → IsReadTo text (length text) number → 0 < length text → ((1 < length text) × (get_or text 0 0 ≡ 48) → ⊥) → IsNumber text number
+number_end text number r some none =
     let all : take (length text) text ≡ text = take_all (length text) text (omega arith) in
     let digits : AllDigits 10 text = rw all at r.digits in
     let value : number ≡ digits_value 10 text = rw all at r.value in
     let one : get_or text 0 0 ≡ 48 → length text ≡ 1 = λ z. one_byte text some (λ l. none (l, z)) in
-    let is : decimal (digits_value 10 text) ≡ text = decimal-digits_value (numerals_by_value (AllDigits 10) tells_digits) text digits some one (omega (arith, value)) in
-    (sym is ∙ ap decimal (sym value), s)
+    let is : decimal (digits_value 10 text) ≡ text = decimal-digits_value (numerals_by_value (AllDigits 10) tells_digits) text digits some one (omega (arith, value, r.fits)) in
+    (sym is ∙ ap decimal (sym value), r.fits)
 
 digits_no_space : (ds : List ℕ) → AllDigits 10 ds → HasNoSpace ds
 digits_no_space [] h = tt
 digits_no_space (d ∷ ds) h = let r = digit_from_value d h.0 in ((λ e. omega (arith, r.0, e)), digits_no_space ds h.1)
 
-pub decimal_no_space : (n : ℕ) → n < 2 ^ 63 → HasNoSpace (decimal n)
+pub decimal_no_space : (n : ℕ) → n < 2 ^ 64 → HasNoSpace (decimal n)
 decimal_no_space n s = let d = decimal_is_IsNumeral n (omega arith) in digits_no_space (decimal n) d.0.1
 
-pub same_number : (m n : ℕ) → m < 2 ^ 63 → n < 2 ^ 63 → decimal m ≡ decimal n → m ≡ n
+pub same_number : (m n : ℕ) → m < 2 ^ 64 → n < 2 ^ 64 → decimal m ≡ decimal n → m ≡ n
 same_number m n s t e = decimal_injective m n (omega arith) (omega arith) e
 
 pub no_number_below : (text : List ℕ) (number end : ℕ) → IsNumber text number → end ≤ number → (n : ℕ) → IsNumber text n → n < end → ⊥

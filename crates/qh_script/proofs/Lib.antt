@@ -4,6 +4,7 @@ pub mod Decimals
 pub mod FirstLines
 pub mod Hex
 pub mod ReadLines
+pub mod Reading
 pub mod Refusals
 pub mod Reports
 pub mod ScriptWords
@@ -11,4 +12,5 @@ pub mod Selects
 pub mod Spaces
 pub mod Sums
 pub mod Taking
+pub mod TokenLines
 pub mod Upsets

@@ -28,7 +28,7 @@ no_late_select text front back s n which rounds l =
     n which (rw (same.0) (l.which_is))
 
 pub no_late_rounds : (text front back : List ℕ) → SplitsLast text front back → IsNoPositive back → IsNoLate text
-no_late_rounds text front back s n which rounds l = n rounds ((late_same text front back s which rounds l).1, omega (arith, l.to)) l.from
+no_late_rounds text front back s n which rounds l = n rounds ((late_same text front back s which rounds l).1, omega (arith, l.to)) l.from (omega (arith, l.to))
 
 pub no_late_many : (text front back : List ℕ) (n : ℕ) → SplitsLast text front back → IsNumber back n → 1000 < n → IsNoLate text
 no_late_many text front back n s is many which rounds l =
@@ -46,7 +46,7 @@ no_forge text h round side hex f = no_space_within (decimal round) (side_word si
 forge_front : (text front behind : List ℕ) → SplitsFirst text front behind → (round : ℕ) (side : Side) (hex : List ℕ) → IsForge text round side hex
     → (front ≡ decimal round) × (behind ≡ side_word side ++ (32 ∷ hex))
 forge_front text front behind s round side hex f =
-    first_same front behind (decimal round) (side_word side ++ (32 ∷ hex)) s.1 (decimal_no_space round f.to) (sym s.0 ∙ f.is)
+    first_same front behind (decimal round) (side_word side ++ (32 ∷ hex)) s.1 (decimal_no_space round (omega (arith, f.to))) (sym s.0 ∙ f.is)
 
 pub no_forge_alone : (text front behind : List ℕ) → SplitsFirst text front behind → HasNoSpace behind → IsNoForge text
 no_forge_alone text front behind s h round side hex f =
@@ -54,7 +54,7 @@ no_forge_alone text front behind s h round side hex f =
     no_space_within (side_word side) hex (rw (same.1) at h)
 
 pub no_forge_round : (text front behind : List ℕ) → SplitsFirst text front behind → IsNoPositive front → IsNoForge text
-no_forge_round text front behind s n round side hex f = n round ((forge_front text front behind s round side hex f).0, f.to) f.from
+no_forge_round text front behind s n round side hex f = n round ((forge_front text front behind s round side hex f).0, omega (arith, f.to)) f.from f.to
 
 pub no_forge_side : (text front behind word rest : List ℕ) → SplitsFirst text front behind → SplitsFirst behind word rest → ((side : Side) → word ≢ side_word side) → IsNoForge text
 no_forge_side text front behind word rest s t n round side hex f =
@@ -63,7 +63,7 @@ no_forge_side text front behind word rest s t n round side hex f =
 
 forge_same : (text : List ℕ) (round : ℕ) (side : Side) (hex : List ℕ) (round' : ℕ) (side' : Side) (hex' : List ℕ) → IsForge text round side hex → IsForge text round' side' hex' → hex ≡ hex'
 forge_same text round side hex round' side' hex' f f' =
-    let rest = first_same (decimal round) (side_word side ++ (32 ∷ hex)) (decimal round') (side_word side' ++ (32 ∷ hex')) (decimal_no_space round f.to) (decimal_no_space round' f'.to) (sym f.is ∙ f'.is) in
+    let rest = first_same (decimal round) (side_word side ++ (32 ∷ hex)) (decimal round') (side_word side' ++ (32 ∷ hex')) (decimal_no_space round (omega (arith, f.to))) (decimal_no_space round' (omega (arith, f'.to))) (sym f.is ∙ f'.is) in
     (first_same (side_word side) hex (side_word side') hex' (side_no_space side) (side_no_space side') rest.1).1
 
 record IsForged (text : List ℕ) : Type 0 where

@@ -3,3 +3,4 @@ pub mod Config
 pub mod Line
 pub mod Report
 pub mod Script
+pub mod Tokens

@@ -49,10 +49,10 @@ SplitsLast text front back = (text ≡ front ++ (codes " " ++ back)) × HasNoSpa
 
 -- the text is this number, and no number
 abbrev pub IsNumber : List ℕ → ℕ → Type 0
-IsNumber text n = (text ≡ decimal n) × (n < 2 ^ 63)
+IsNumber text n = (text ≡ decimal n) × (n < 2 ^ 64)
 
 abbrev pub IsNoNumber : List ℕ → Type 0
-IsNoNumber text = (n : ℕ) → n < 2 ^ 63 → text ≢ decimal n
+IsNoNumber text = (n : ℕ) → n < 2 ^ 64 → text ≢ decimal n
 
 -- the words that ask something of the link, and all that begin a line
 abbrev pub upset_word : UpsetKind → List ℕ
@@ -73,9 +73,9 @@ keyword_word key.Retry = codes "retry"
 keyword_word key.Grease = codes "grease"
 keyword_word (key.Disturb kind) = upset_word kind
 
--- the text is no number from 1 on
+-- the text is no number from 1 on, below 2 ^ 63
 abbrev pub IsNoPositive : List ℕ → Type 0
-IsNoPositive text = (n : ℕ) → IsNumber text n → 1 ≤ n → ⊥
+IsNoPositive text = (n : ℕ) → IsNumber text n → 1 ≤ n → n < 2 ^ 63 → ⊥
 
 -- what an error says of what may be read: that there is nothing, or nothing is said
 abbrev pub Refuses : {A : Type 0} → (A → Type 0) → LineError → Type 0

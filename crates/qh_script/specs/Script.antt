@@ -1,7 +1,7 @@
 -- What the refusal of a script says, and of a line of it.
 use Rattle.std.specs.Prelude.{◌≡◌, ℕ, ◌+◌, List, ◌∷◌, ◌++◌, length}
-use Rattle.qh_spec.specs.Lines.{lines}
-use Rattle.qh_spec.specs.Script.{Script, IsTaken, AreTaken, IsRefusedAt}
+use Rattle.qh_spec.specs.Lines.{lines, InTurn}
+use Rattle.qh_spec.specs.Script.{IsRefusedAt}
 use Rattle.qh_script.specs.declared.script.ScriptError.{ScriptError}
 use Rattle.qh_script.specs.declared.script.ScriptError.TheVariants.{Refused, Memory}
 use Rattle.qh_script.specs.declared.script.untaken.Untaken.{Untaken}
@@ -17,18 +17,19 @@ abbrev pub WhenRefused : Untaken → Type 0 → Type 0
 WhenRefused untaken.Refused P = P
 WhenRefused untaken.Memory P = Unit {0}
 
--- the n-th line of the text, counted from 1, is the first that isn't taken where the script before it is s
-pub record IsFirstRefused (text : List ℕ) (s : Script) (n : ℕ) : Type 0 where
+-- The n-th line of the text, counted from 1, is the first that isn't taken, where a line makes one state of another and s is
+-- the state before the first.
+pub record IsFirstRefused {S : Type 0} (makes : List ℕ → S → S → Type 0) (text : List ℕ) (s : S) (n : ℕ) : Type 0 where
   pub front : List (List ℕ)
   pub line : List ℕ
   pub rest : List (List ℕ)
-  pub mid : Script
+  pub mid : S
   pub is : lines text ≡ front ++ line ∷ rest
-  pub taken : AreTaken front s mid
-  pub refused : (t : Script) → IsTaken line mid t → ⊥
+  pub taken : InTurn makes front s mid
+  pub refused : (t : S) → makes line mid t → ⊥
   pub count : n ≡ length front + 1
 
 -- the same of an error, or nothing
-abbrev pub RefusesLines : List ℕ → Script → ScriptError → Type 0
-RefusesLines text s (Refused n) = IsFirstRefused text s n
-RefusesLines text s Memory = Unit {0}
+abbrev pub RefusesLines : {S : Type 0} → (List ℕ → S → S → Type 0) → List ℕ → S → ScriptError → Type 0
+RefusesLines makes text s (Refused n) = IsFirstRefused makes text s n
+RefusesLines makes text s Memory = Unit {0}

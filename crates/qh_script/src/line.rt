@@ -20,10 +20,10 @@ use http::Method;
 use http_header::{HeaderName, HeaderValue};
 use http_uri::Uri;
 use keywords::keyword_of;
-pub(crate) use numbers::read_below;
+pub(crate) use numbers::{NUMBER_END, read_below, read_number};
 use qh_spec::{Setting, Upset};
 use std::alloc::{AllocError, AllocFailed, Global};
-use words::split_first;
+pub(crate) use words::split_first;
 
 /// What a line says.
 #[derive(Drop)]

@@ -2,6 +2,7 @@ ghost use Rattle.std.specs.Prelude.{◌≡◌, ◌++◌, map, codes, decimal, fl
 ghost use Rattle.http_header.specs.HeaderMap.{keys, IsHeaderMap};
 ghost use Rattle.qh_spec.specs.Echoed.{HasMaps};
 ghost use Rattle.qh_spec.specs.Report.{report, block, entry_block, answer_block, ok_line, newline, head_text, map_lines, name_lines, value_line, body_lines, in_byte_order};
+ghost use Rattle.qh_spec.specs.TokenScript.{token_line};
 ghost use Rattle.qh_service.specs.Message.{head_of};
 ghost use Rattle.qh_script.specs.Report.{HasGrown, HaveMaps};
 
@@ -67,6 +68,14 @@ pub fn put_block(
         Some(trailers) => put_map(alloc, out, "trailer", trailers),
         None => Ok(()),
     }
+}
+
+/// Appends the line of a token: `ok` where it counts, else `reused`.
+pub fn put_token_line(out: &mut Vec<u8>, counts: bool) -> Result<(), Memory>
+    ensures ok { IfOk result (λ _. out.new.items ≡ out.old.items ++ token_line counts) }
+    ensures err { OnErr result (HasGrown out.old.items out.new.items) }
+{
+    put_text(out, if counts { "ok\n" } else { "reused\n" })
 }
 
 // The block of an entry, and that of the answer to it.

@@ -1,6 +1,6 @@
 ghost use Rattle.std.specs.Prelude.{◌≡◌, ◌≤◌, length, IfOk, IfErr};
 ghost use Rattle.qh_spec.specs.Lines.{lines};
-ghost use Rattle.qh_spec.specs.Script.{empty_script, AreTaken, IsScript};
+ghost use Rattle.qh_spec.specs.Script.{empty_script, IsTaken, AreTaken, IsScript};
 ghost use Rattle.qh_script.specs.Script.{RefusesLines, RefusesScript};
 
 mod apply;
@@ -18,7 +18,7 @@ use qh_service::Message;
 use qh_spec::Upset;
 use std::alloc::Global;
 use std::marker::Model;
-use untaken::Untaken;
+pub(crate) use untaken::Untaken;
 
 /// The greatest length of a script, in bytes.
 pub const MAX_SCRIPT: usize = 16_777_216;
@@ -47,8 +47,8 @@ impl Model for Script {
 /// Why a script wasn't read.
 #[derive(Clone, Copy, Debug, PartialEq, Eq)]
 pub enum ScriptError {
-    /// This line, counted from 1, is refused: 0 for a script that is too long, one past the lines where the settings don't
-    /// fit.
+    /// This line, counted from 1, is refused: 0 for a text that is too long, one past the lines where the settings don't
+    /// fit or no limits are given.
     Refused(usize),
     Memory,
 }
@@ -100,7 +100,7 @@ impl Script {
         ensures taken { IfOk result (λ n. AreTaken (lines text.now) self.old self.new) }
         ensures count { IfOk result (λ n. n ≡ length (lines text.now)) }
         ensures bound { IfOk result (λ n. n ≤ length text.now) }
-        ensures refused { IfErr result (RefusesLines text.now self.old) }
+        ensures refused { IfErr result (RefusesLines IsTaken text.now self.old) }
     {
         let mut rest = text;
         let mut count = 0;

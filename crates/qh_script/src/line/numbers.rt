@@ -3,10 +3,10 @@
 ghost use Rattle.std.specs.Prelude.{◌≡◌, ℕ, ◌<◌, ◌↔◌, length, slice_index, MatchOption, IsTrue};
 ghost use Rattle.qh_script.specs.Line.{IsNumber, IsNoNumber};
 
-/// What numbers lie below.
+/// What most numbers lie below.
 pub(crate) const NUMBER_END: u64 = 1 << 63;
 
-/// A decimal number without a sign and without leading zeros.
+/// A decimal number below 2^64 without a sign and without leading zeros.
 pub(crate) fn read_number(text: &[u8]) -> Option<u64>
     ensures { MatchOption result (IsNoNumber text.now) (IsNumber text.now) }
 {
@@ -21,16 +21,11 @@ pub(crate) fn read_number(text: &[u8]) -> Option<u64>
         if !digit.is_ascii_digit() {
             return None;
         }
-        if number >= NUMBER_END / 10 + 1 {
-            return None;
-        }
-        number = number * 10 + u64::from(*digit - b'0');
+        number = number
+            .checked_mul(10)?
+            .checked_add(u64::from(*digit - b'0'))?;
     }
-    if number < NUMBER_END {
-        Some(number)
-    } else {
-        None
-    }
+    Some(number)
 }
 
 /// A number below this one.

@@ -1,20 +1,20 @@
 //! What may stand behind a line's word.
 
-ghost use Rattle.std.specs.Prelude.{◌≡◌, ◌≢◌, ◌≤◌, ◌++◌, codes, MatchOption};
+ghost use Rattle.std.specs.Prelude.{◌≡◌, ◌≢◌, ◌<◌, ◌≤◌, ◌^◌, ◌++◌, codes, MatchOption};
 ghost use Rattle.qh_spec.specs.ScriptLine.{IsSelect, side_word};
 ghost use Rattle.qh_spec.specs.declared.link.Select.{Select as TheSelect};
 ghost use Rattle.qh_spec.specs.declared.sides.Side.{Side as TheSide};
 ghost use Rattle.qh_script.specs.Line.{IsNumber, IsNoPositive};
 
-use super::numbers::read_number;
+use super::numbers::{NUMBER_END, read_below};
 use super::words::split_first;
 use qh_spec::{Select, Side};
 
-/// A number from 1 on.
+/// A number from 1 on, below 2^63.
 pub(crate) fn read_positive(text: &[u8]) -> Option<u64>
-    ensures { MatchOption result (IsNoPositive text.now) (λ n. IsNumber text.now n × (1 ≤ n)) }
+    ensures { MatchOption result (IsNoPositive text.now) (λ n. IsNumber text.now n × (1 ≤ n) × (n < 2 ^ 63)) }
 {
-    match read_number(text) {
+    match read_below(text, NUMBER_END) {
         Some(0) => None,
         other => other,
     }

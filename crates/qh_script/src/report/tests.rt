@@ -1,4 +1,4 @@
-use super::{put_entries, put_ok_line, put_report};
+use super::{put_entries, put_ok_line, put_report, put_token_line};
 use http::{Method, StatusCode};
 use http_header::{HeaderMap, HeaderName, HeaderValue};
 use http_uri::Uri;
@@ -81,6 +81,18 @@ fn is_text(found: Option<Vec<u8>>, wanted: &[u8]) -> bool {
         Some(bytes) => bytes.as_slice() == wanted,
         None => false,
     }
+}
+
+fn token_lines(alloc: Global) -> Option<Vec<u8>> {
+    let mut out = Vec::new(alloc);
+    put_token_line(&mut out, true).ok()?;
+    put_token_line(&mut out, false).ok()?;
+    Some(out)
+}
+
+#[test]
+fn tokens(rt: HostRuntime) {
+    assert!(rt; is_text(token_lines(rt.alloc()), b"ok\nreused\n"));
 }
 
 #[test]

@@ -3,7 +3,7 @@ use std::alloc::{AllocError, AllocFailed};
 
 /// Why a line isn't taken.
 #[derive(Clone, Copy, Debug, PartialEq, Eq)]
-pub(super) enum Untaken {
+pub(crate) enum Untaken {
     /// It is no line, or none that counts where it stands.
     Refused,
     Memory,

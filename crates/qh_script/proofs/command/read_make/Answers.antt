@@ -1,4 +1,4 @@
-use Rattle.std.proofs.Common.{◌≡◌, ◌∙◌, List, [], ◌∷◌, sym}
+use Rattle.std.proofs.Common.{◌∙◌, sym}
 use Rattle.qh_spec.specs.Words.{make}
 use Rattle.qh_script.proofs.Decimals.{three_words}
 use Rattle.qh_script.proofs.command.read_make.Goals as goal

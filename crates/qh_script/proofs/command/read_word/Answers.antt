@@ -1,4 +1,4 @@
-use Rattle.std.proofs.Common.{◌≡◌, ℕ, List, [], ◌∷◌, ap}
+use Rattle.std.proofs.Common.{ℕ, List, [], ◌∷◌, ap}
 use Rattle.qh_spec.specs.Words.{exchange, tokens}
 use Rattle.qh_script.proofs.command.read_word.Goals as goal
 

@@ -6,4 +6,4 @@ pub returns : goal.returns
 returns c =
     let n = c.in_ok-number.ensures in
     let w : c.args.word.now ≡ codes "each" = search rules in
-    each c.in_ok-number.number (rw (w, n.0.0) refl) n.1 n.0.1
+    each c.in_ok-number.number (rw (w, n.0.0) refl) n.1 n.2

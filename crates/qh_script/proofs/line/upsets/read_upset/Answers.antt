@@ -20,4 +20,4 @@ returns-in-None-read_late-clause-refused c = rw (c.in-Late.is) (no_late_upset c.
 pub returns-in-Some-read_positive-clause-found : goal.returns-in-Some-read_positive-clause-found
 returns-in-Some-read_positive-clause-found c =
     let n = c.in-Some-read_positive.ensures in
-    rw (c.in-Fail.is) (fail c.in-Some-read_positive.number refl n.0.0 n.1 n.0.1)
+    rw (c.in-Fail.is) (fail c.in-Some-read_positive.number refl n.0.0 n.1 n.2)
