@@ -4,9 +4,11 @@ pub mod FramesWritten
 pub mod Growing
 pub mod Heads
 pub mod Lengths
+pub mod Listed
 pub mod Means
 pub mod Pairs
 pub mod ReadAgain
+pub mod ReadBack
 pub mod Readable
 pub mod Requests
 pub mod Room
@@ -14,4 +16,5 @@ pub mod SettingsFrames
 pub mod SettingsRead
 pub mod SettingsReading
 pub mod SettingsWritten
+pub mod Targets
 pub mod WriteBufs

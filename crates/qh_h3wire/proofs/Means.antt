@@ -47,7 +47,7 @@ pseudo_has : (name : List ℕ) (P : List ℕ → Type 0) (fs : List Field) (v : 
 pseudo_has name P fs v w t e = last_has P (values_of name fs) v (all_values name P fs w (taken_readable [] fs t)) e
 
 -- the first host field of the map is that of the fields
-first_bytes : (vs : List FieldValue) → option_map (λ (v : FieldValue). v.bytes) (slice_get vs 0) ≡ slice_get (map (λ (v : FieldValue). v.bytes) vs) 0
+pub first_bytes : (vs : List FieldValue) → option_map (λ (v : FieldValue). v.bytes) (slice_get vs 0) ≡ slice_get (map (λ (v : FieldValue). v.bytes) vs) 0
 first_bytes [] = refl
 first_bytes (v ∷ vs) = refl
 
@@ -80,7 +80,7 @@ some_mapped None = refl
 some_mapped (Some p) = refl
 
 -- a target by its parts
-same_target : (t u : PlainTarget) → t.scheme ≡ u.scheme → t.authority ≡ u.authority → t.path_and_query ≡ u.path_and_query → SameTarget t u
+pub same_target : (t u : PlainTarget) → t.scheme ≡ u.scheme → t.authority ≡ u.authority → t.path_and_query ≡ u.path_and_query → SameTarget t u
 same_target t u s a d =
     let both : ◌≡◌ {A = Option (List ℕ) × List ℕ} (t.scheme, t.path_and_query) (u.scheme, u.path_and_query) = cc in
     record {

@@ -131,11 +131,11 @@ status_readable (Some s) h = (s, h, refl)
 
 head_readable : (h : PlainHeader) → IsSendable h → AreReadable (header_fields h)
 head_readable h s =
-    both_hold IsReadable (optional_field (codes ":method") h.method) _ (one_readable (codes ":method") h.method IsToken s.method (λ x v. method refl v))
-    (both_hold IsReadable (optional_field (codes ":scheme") h.scheme) _ (one_readable (codes ":scheme") h.scheme IsScheme s.scheme (λ x v. scheme refl v))
-    (both_hold IsReadable (optional_field (codes ":authority") h.authority) _ (one_readable (codes ":authority") h.authority IsAuthority s.authority (λ x v. authority refl v))
-    (both_hold IsReadable (optional_field (codes ":path") (option_map or_slash h.path)) _ (one_readable (codes ":path") (option_map or_slash h.path) IsPathInput (path_readable h.path s.path) (λ x v. path refl v))
-    (one_readable (codes ":status") (option_map code_digits h.status) IsCodeText (status_readable h.status s.status) (λ x v. status refl v)))))
+    both_hold IsReadable (optional_field (codes ":method") h.method) _ (one_readable (codes ":method") h.method IsToken s.kinds.method (λ x v. method refl v))
+    (both_hold IsReadable (optional_field (codes ":scheme") h.scheme) _ (one_readable (codes ":scheme") h.scheme IsScheme s.kinds.scheme (λ x v. scheme refl v))
+    (both_hold IsReadable (optional_field (codes ":authority") h.authority) _ (one_readable (codes ":authority") h.authority IsAuthority s.kinds.authority (λ x v. authority refl v))
+    (both_hold IsReadable (optional_field (codes ":path") (option_map or_slash h.path)) _ (one_readable (codes ":path") (option_map or_slash h.path) IsPathInput (path_readable h.path s.kinds.path) (λ x v. path refl v))
+    (one_readable (codes ":status") (option_map code_digits h.status) IsCodeText (status_readable h.status s.kinds.status) (λ x v. status refl v)))))
 
 all_readable : (h : PlainHeader) → IsSendable h → AreReadable (written_fields h)
 all_readable h s = both_hold IsReadable (header_fields h) (map_fields h.fields) (head_readable h s) s.readable
@@ -168,7 +168,7 @@ same h k s w = record {
   scheme = w.scheme ∙ written_pseudo (codes ":scheme") h h.scheme s.names (fields_mean [] h.fields (codes ":scheme") tt s.names) (scheme_values h);
   authority = w.authority ∙ written_pseudo (codes ":authority") h h.authority s.names (fields_mean [] h.fields (codes ":authority") tt s.names) (authority_values h);
   path = w.path
-      ∙ ap (option_map without_fragment) (written_pseudo (codes ":path") h (option_map or_slash h.path) s.names (fields_mean [] h.fields (codes ":path") tt s.names) (path_values h)) ∙ kept_path h.path s.path;
+      ∙ ap (option_map without_fragment) (written_pseudo (codes ":path") h (option_map or_slash h.path) s.names (fields_mean [] h.fields (codes ":path") tt s.names) (path_values h)) ∙ kept_path h.path s.kinds.path;
   status = same_status k.status h.status
       (w.status ∙ written_pseudo (codes ":status") h (option_map code_digits h.status) s.names (fields_mean [] h.fields (codes ":status") tt s.names) (status_values h));
   fields = λ name.

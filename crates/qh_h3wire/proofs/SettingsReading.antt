@@ -8,14 +8,14 @@ use Rattle.std.specs.BTreeSet.{contains}
 use Rattle.std.specs.BTreeMap.{is_at}
 use Rattle.std.specs.Cmp.{unsigned_tied}
 use Rattle.std.specs.Ordering.{nat_cmp}
-use Rattle.qh_h3wire.specs.Settings.{Entry, PlainSettings, ids_of, settings_of, is_kept, pair_of, value_or, no_limit, AreAllowed, IsSettingsFault, MeansSettings}
+use Rattle.qh_h3wire.specs.Settings.{Entry, PlainSettings, ids_of, settings_of, is_kept, pair_of, value_or, no_limit, AreAllowed, IsSettingsFault}
 use Rattle.qh_h3wire.specs.SettingsAt.{has_id, own_fault, fault_of, entry_of}
 use Rattle.qh_base.proofs.Varints.{IsBytes}
-use Rattle.qh_h3wire.proofs.SettingsRead.{no_id, so_far_none, so_far_end, so_far_cut, so_far_more, so_far_fault, allowed_is, fault_is, pair_shortens}
+use Rattle.qh_h3wire.proofs.SettingsRead.{no_id, so_far_cut, so_far_more, so_far_fault, allowed_is, fault_is, pair_shortens}
 use Rattle.qh_h3wire.specs.Pair.{pair_at}
 use Rattle.qh_h3wire.specs.SettingsReading.{with_entry, HasRead, SoFar, IsReading, UnlessMemory}
 use Rattle.qh_h3wire.specs.declared.pair.Pair.{Pair}
-use Rattle.qh_h3wire.specs.SettingsValue.{plain_of, default_settings}
+use Rattle.qh_h3wire.specs.SettingsValue.{plain_of}
 use Rattle.qh_spec.proofs.Members.{distinct_more}
 use Rattle.qh_spec.specs.Lists.{In, Distinct}
 use Rattle.qh_h3wire.specs.declared.settings.Reading.{Reading}

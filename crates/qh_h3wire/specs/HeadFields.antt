@@ -1,7 +1,9 @@
 -- Field lines as a head keeps them.
 use Rattle.std.specs.Prelude.{Some}
-use Rattle.http_header.specs.FieldValue.{FieldValue}
+use Rattle.http_header.specs.FieldName.{IsHeaderName}
+use Rattle.http_header.specs.FieldValue.{FieldValue, IsFieldValue}
 use Rattle.http_header.specs.HeaderMap.{Entries, append}
+use Rattle.qh_spec.specs.Fields.{Field}
 use Rattle.qh_h3wire.specs.PlainHeader.{PlainHeader}
 use Rattle.qh_h3wire.specs.declared.headers.field.ParsedField.{ParsedField}
 use Rattle.qh_h3wire.specs.declared.headers.field.ParsedField.TheVariants.{Method, Scheme, Authority, Path, Status, Plain}
@@ -18,3 +20,7 @@ with_parsed (Authority a) h = record h { authority = Some a }
 with_parsed (Path d) h = record h { path = Some d }
 with_parsed (Status n) h = record h { status = Some n }
 with_parsed (Plain n v) h = record h { fields = append h.fields n v }
+
+-- a field of a message: a name in lower case, and a value
+abbrev pub IsPlainField : Field → Type 0
+IsPlainField f = IsHeaderName f.name × IsFieldValue f.value

@@ -1,5 +1,6 @@
 -- Heads of messages, and the fields that stand for them (RFC 9114, section 4.3).
 use Rattle.std.specs.Prelude.{◌≡◌, ℕ, ◌↔◌, List, [], ◌++◌, codes, Option, Some, None, IsSome, IfSome, option_map, unwrap_or, if◌then◌else◌}
+use Rattle.std.specs.List.{AllByRecursion}
 use Rattle.http.specs.StatusCode.{IsStatusCode, code_digits}
 use Rattle.http_header.specs.FieldValue.{FieldValue}
 use Rattle.http_header.specs.HeaderMap.{Entries, get, IsHeaderMap}
@@ -11,6 +12,7 @@ use Rattle.qh_spec.specs.Message.{PlainTarget, has_path}
 use Rattle.qh_spec.specs.Refusal.{fields_map}
 use Rattle.qh_spec.specs.Same.{SameFields}
 use Rattle.qh_spec.specs.Written.{HasPlainNames}
+use Rattle.qh_qpack.specs.SectionFault.{IsWritable}
 use Rattle.qh_h3wire.specs.PlainHeader.{PlainHeader}
 
 -- the head of a request; a target that has an authority alone has no path
@@ -74,15 +76,20 @@ pub record IsTargetOf (h : PlainHeader) (t : PlainTarget) : Type 0 where
   pub path_kept : t.path_and_query ≡ unwrap_or h.path []
 
 -- each part is of its kind, and the path as it is written has no fragment
-pub record IsSendable (h : PlainHeader) : Type 0 where
+pub record HasKinds (h : PlainHeader) : Type 0 where
   pub method : IfSome h.method IsToken
   pub scheme : IfSome h.scheme IsScheme
   pub authority : IfSome h.authority IsAuthority
   pub path : IfSome h.path (λ p. IsPathInput (or_slash p) × (without_fragment (or_slash p) ≡ or_slash p))
   pub status : IfSome h.status IsStatusCode
+
+-- the parts and the fields are such as can be read, and each name and each value is short enough to be written
+pub record IsSendable (h : PlainHeader) : Type 0 where
+  pub kinds : HasKinds h
   pub readable : AreReadable (map_fields h.fields)
   pub names : HasPlainNames h.fields
   pub is_map : IsHeaderMap h.fields
+  pub short : AllByRecursion IsWritable (written_fields h)
 
 -- the same head, an empty path as `/`, and the same fields
 pub record IsReadAgain (h k : PlainHeader) : Type 0 where

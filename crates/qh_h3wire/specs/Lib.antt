@@ -10,6 +10,7 @@ pub mod HeaderFault
 pub mod Kinds
 pub mod Pair
 pub mod PlainHeader
+pub mod ReadBack
 pub mod Settings
 pub mod SettingsAt
 pub mod SettingsReading

@@ -6,7 +6,7 @@ ghost use Rattle.qh_spec.specs.Meaning.{MeansRequest, MeansResponse};
 ghost use Rattle.qh_spec.specs.Message.{PlainTarget, target_of};
 ghost use Rattle.qh_spec.specs.Refusal.{AreTaken, IsRefused, IsRequestFault, IsResponseFault, MissingStatus};
 ghost use Rattle.qh_h3wire.specs.HeadFields.{with_fields};
-ghost use Rattle.qh_h3wire.specs.Header.{request_header, response_header, trailer_header, written_fields, IsHeaderOf, IsTargetOf, map_host};
+ghost use Rattle.qh_h3wire.specs.Header.{request_header, response_header, trailer_header, written_fields, IsHeaderOf, IsSendable, IsTargetOf, map_host};
 ghost use Rattle.qh_h3wire.specs.HeaderFault.{authority_fault, IfFault, IsAuthorityAnswer, IsHostAnswer, IsPartsFault};
 ghost use Rattle.qh_h3wire.specs.PlainHeader.{PlainHeader};
 
@@ -80,9 +80,12 @@ impl From<Memory> for HeaderError {
 }
 
 impl Header {
-    /// The head of a request. Its authority may stand in the target, in a host field or, with the same bytes, in both.
+    /// The head of a request. Its authority may stand in the target, in a host field or, with the same bytes, in both. Where
+    /// it stands in the target, the parts of the head make this target again. A target that is a path alone has no scheme,
+    /// so `into_request_parts` refuses its head.
     pub fn request(method: Method, uri: Uri, fields: HeaderMap) -> Result<Header, HeaderError>
         ensures value { IfOk result (λ h. h ≡ request_header method (target_of uri) fields) }
+        ensures target { IfOk result (λ h. IsSome (target_of uri).authority → IsTargetOf h (target_of uri)) }
         ensures missing { IsErrOf result HeaderError.MissingAuthority
             ↔ ((target_of uri).authority ≡ None) × (map_host fields ≡ None) }
         ensures contradicted { IsErrOf result HeaderError.ContradictedAuthority
@@ -145,9 +148,11 @@ impl Header {
     }
 
     /// The field lines in the order in which they are written: the pseudo fields, and then the fields name by name. An
-    /// empty path is written as `/` (section 4.3.1).
+    /// empty path is written as `/` (section 4.3.1). What is listed can be sent: `heads_are_read_back` tells that it is
+    /// read as the same head.
     pub fn into_list(self, alloc: Global) -> Result<Vec<HeaderField>, HeaderError>
         ensures value { IfOk result (λ list. list.items ≡ written_fields self) }
+        ensures sendable { IfOk result (λ list. IsSendable self) }
         ensures err { IfErr result (λ e. e ≡ HeaderError.Memory) }
     {
         let Header { pseudo, fields } = self;

@@ -13,7 +13,7 @@ mod write_buf;
 
 pub use frame::{Frame, FrameError, payloads_mean_one_frame, written_frames_are_read};
 pub use headers::{Header, HeaderError};
-pub use laws::read_again;
+pub use laws::{heads_are_read_back, read_again};
 pub use settings::{Settings, SettingsError, settings_faults};
 pub use stream_type::StreamType;
 pub use write_buf::WriteBuf;

@@ -4,8 +4,10 @@ ghost use Rattle.qh_h3wire.specs.FrameBytes.{IsWritable};
 use crate::Frame;
 use bytes::Bytes;
 
+mod faults;
 mod frames;
 mod heads;
+mod read_back;
 mod settings;
 mod write_buf;
 

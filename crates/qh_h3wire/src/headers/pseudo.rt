@@ -1,11 +1,15 @@
 //! The pseudo-header fields of a head.
-ghost use Rattle.std.specs.Prelude.{◌≡◌, ◌++◌, [], None, OnOk, OnErr, IfOk, IfErr, option_copied};
+ghost use Rattle.std.specs.Prelude.{◌≡◌, ◌++◌, [], None, OnOk, OnErr, IfOk, IfErr, IfSome, option_copied};
+ghost use Rattle.std.specs.List.{AllByRecursion};
 ghost use Rattle.std.specs.Option.{option_map};
-ghost use Rattle.http.specs.StatusCode.{code_digits};
-ghost use Rattle.http_uri.specs.Grammar.{or_slash};
+ghost use Rattle.http.specs.StatusCode.{code_digits, IsStatusCode};
+ghost use Rattle.http_header.specs.HeaderMap.{IsHeaderMap};
+ghost use Rattle.http_header.specs.Token.{IsToken};
+ghost use Rattle.http_uri.specs.Grammar.{or_slash, IsAuthority, IsPathAndQuery, IsScheme};
+ghost use Rattle.qh_qpack.specs.SectionFault.{IsWritable};
 ghost use Rattle.qh_spec.specs.Fields.{optional_field, map_fields};
-ghost use Rattle.qh_h3wire.specs.HeadFields.{with_fields, with_parsed};
-ghost use Rattle.qh_h3wire.specs.Header.{header_fields};
+ghost use Rattle.qh_h3wire.specs.HeadFields.{with_fields, with_parsed, IsPlainField};
+ghost use Rattle.qh_h3wire.specs.Header.{header_fields, HasKinds};
 ghost use Rattle.qh_h3wire.specs.HeaderFault.{RefusesMore, HasRoomFor};
 
 use super::HeaderError;
@@ -67,7 +71,9 @@ impl Pseudo {
 
     /// The fields that are there, in the order in which they are written.
     pub(super) fn fields(&self, alloc: Global) -> Result<Vec<HeaderField>, Memory>
-        ensures { IfOk result (λ fields. fields.items ≡ header_fields (with_fields [] self.now)) }
+        ensures value { IfOk result (λ fields. fields.items ≡ header_fields (with_fields [] self.now)) }
+        ensures kinds { IfOk result (λ fields. HasKinds (with_fields [] self.now)) }
+        ensures short { IfOk result (λ fields. AllByRecursion IsWritable fields.items) }
     {
         let mut fields = Vec::new(alloc);
         push_field(alloc, &mut fields, ":method", self.method_str())?;
@@ -79,7 +85,8 @@ impl Pseudo {
     }
 
     fn method_str(&self) -> Option<&str>
-        ensures { option_copied result ≡ self.now.method }
+        ensures value { option_copied result ≡ self.now.method }
+        ensures kind { IfSome self.now.method IsToken }
     {
         match &self.method {
             Some(method) => Some(method.as_str()),
@@ -88,7 +95,8 @@ impl Pseudo {
     }
 
     fn scheme_str(&self) -> Option<&str>
-        ensures { option_copied result ≡ self.now.scheme }
+        ensures value { option_copied result ≡ self.now.scheme }
+        ensures kind { IfSome self.now.scheme IsScheme }
     {
         match &self.scheme {
             Some(scheme) => Some(scheme.as_str()),
@@ -97,7 +105,8 @@ impl Pseudo {
     }
 
     fn authority_str(&self) -> Option<&str>
-        ensures { option_copied result ≡ self.now.authority }
+        ensures value { option_copied result ≡ self.now.authority }
+        ensures kind { IfSome self.now.authority IsAuthority }
     {
         match &self.authority {
             Some(authority) => Some(authority.as_str()),
@@ -106,7 +115,8 @@ impl Pseudo {
     }
 
     fn path_str(&self) -> Option<&str>
-        ensures { option_copied result ≡ option_map or_slash self.now.path }
+        ensures value { option_copied result ≡ option_map or_slash self.now.path }
+        ensures kind { IfSome self.now.path IsPathAndQuery }
     {
         match &self.path {
             Some(path) => Some(path.as_str()),
@@ -115,10 +125,15 @@ impl Pseudo {
     }
 
     fn status_str(&self) -> Option<&str>
-        ensures { option_copied result ≡ option_map code_digits self.now.status }
+        ensures value { option_copied result ≡ option_map code_digits self.now.status }
+        ensures kind { IfSome self.now.status IsStatusCode }
     {
         match &self.status {
-            Some(status) => Some(status.as_str()),
+            Some(status) => {
+                // The proof takes from this call that the number has three digits.
+                let _ = status.as_u16();
+                Some(status.as_str())
+            }
             None => None,
         }
     }
@@ -131,7 +146,8 @@ fn push_field(
     name: &'static str,
     value: Option<&str>,
 ) -> Result<(), Memory>
-    ensures { OnOk result (fields.new.items ≡ fields.old.items ++ optional_field name.now (option_copied value.entry)) }
+    ensures value { OnOk result (fields.new.items ≡ fields.old.items ++ optional_field name.now (option_copied value.entry)) }
+    ensures short { OnOk result (AllByRecursion IsWritable fields.old.items → AllByRecursion IsWritable fields.new.items) }
 {
     if let Some(value) = value {
         fields.push(copied_field(alloc, name.as_bytes(), value.as_bytes())?)?;
@@ -145,8 +161,12 @@ pub(super) fn push_map(
     fields: &mut Vec<HeaderField>,
     map: &HeaderMap,
 ) -> Result<(), Memory>
-    ensures { OnOk result (fields.new.items ≡ fields.old.items ++ map_fields map.now) }
+    ensures value { OnOk result (fields.new.items ≡ fields.old.items ++ map_fields map.now) }
+    ensures plain { OnOk result (AllByRecursion IsPlainField (map_fields map.now)) }
+    ensures is_map { OnOk result (IsHeaderMap map.now) }
+    ensures short { OnOk result (AllByRecursion IsWritable fields.old.items → AllByRecursion IsWritable fields.new.items) }
 {
+    fields.reserve(map.len())?;
     for (name, value) in map.iter() {
         fields.push(copied_field(alloc, name.as_bytes(), value.as_bytes())?)?;
     }
@@ -155,7 +175,8 @@ pub(super) fn push_map(
 
 /// A field with bytes of its own.
 fn copied_field(alloc: Global, name: &[u8], value: &[u8]) -> Result<HeaderField, Memory>
-    ensures { IfOk result (λ f. f ≡ record { name = name.now; value = value.now }) }
+    ensures value { IfOk result (λ f. f ≡ record { name = name.now; value = value.now }) }
+    ensures short { IfOk result IsWritable }
 {
     let name = Octets::copied_from(alloc, name)?;
     let value = Octets::copied_from(alloc, value)?;

@@ -6,7 +6,7 @@ use qh_qpack::{HeaderField, Octets};
 use std::alloc::Global;
 use std::test::Fail;
 
-type Row = (&'static [u8], &'static [u8]);
+pub(super) type Row = (&'static [u8], &'static [u8]);
 
 const GET: Row = (b":method", b"GET");
 
@@ -33,7 +33,7 @@ fn lines(alloc: Global, rows: &[Row]) -> Result<Vec<HeaderField>, Fail> {
 }
 
 // A map of these fields, in order.
-fn map(alloc: Global, rows: &[Row]) -> Result<HeaderMap, Fail> {
+pub(super) fn map(alloc: Global, rows: &[Row]) -> Result<HeaderMap, Fail> {
     let mut fields = HeaderMap::new(alloc);
     for row in rows {
         let name = HeaderName::from_bytes(alloc, row.0)?;
@@ -50,49 +50,56 @@ fn request_error(alloc: Global, rows: &[Row]) -> Result<Option<HeaderError>, Fai
     }
 }
 
+// Whether each list of lines is a request, or is refused with its error.
+fn answer(alloc: Global, rows: &[(&[Row], Option<HeaderError>)]) -> Result<bool, Fail> {
+    for (lines, wanted) in rows {
+        if request_error(alloc, lines)? != *wanted {
+            return Ok(false);
+        }
+    }
+    Ok(true)
+}
+
 #[test]
-fn requests_are_refused(rt: HostRuntime) -> Result<(), Fail> {
-    let rows: [(&[Row], Option<HeaderError>); 14] = [
+fn requests_have_a_method_and_a_target(rt: HostRuntime) -> Result<(), Fail> {
+    let rows: [(&[Row], Option<HeaderError>); 13] = [
         (&[GET, HTTPS, OWN, ROOT], None),
         (&[GET, HTTPS, OWN, ROOT, HOST], None),
         (&[GET, HTTPS, ROOT, HOST], None),
         (&[GET, OWN], None),
+        (&[GET, HOST], None),
+        (&[GET, OWN, HOST], None),
         (&[HTTPS, OWN, ROOT], Some(HeaderError::MissingMethod)),
         (&[GET], Some(HeaderError::MissingAuthority)),
         (
-            &[
-                GET,
-                (b":authority", b"authority.com"),
-                (b"host", b"host.com"),
-            ],
+            &[GET, OWN, (b"host", b"b.test")],
             Some(HeaderError::ContradictedAuthority),
-        ),
-        (
-            &[GET, (b":authority", b"")],
-            Some(HeaderError::InvalidHeaderValue),
         ),
         (&[GET, (b"host", b"")], Some(HeaderError::InvalidRequest)),
         (&[GET, HTTPS, OWN], Some(HeaderError::InvalidRequest)),
-        (
-            &[GET, OWN, (b"Accept", b"*/*")],
-            Some(HeaderError::InvalidHeaderName),
-        ),
-        (
-            &[GET, OWN, (b":protocol", b"x")],
-            Some(HeaderError::InvalidHeaderName),
-        ),
-        (
-            &[GET, OWN, (b"a", b"b\n")],
-            Some(HeaderError::InvalidHeaderValue),
-        ),
-        (
-            &[(b"a", b"\n"), (b"B", b"")],
-            Some(HeaderError::InvalidHeaderValue),
-        ),
+        (&[GET, OWN, ROOT], Some(HeaderError::InvalidRequest)),
+        (&[GET, ROOT, HOST], Some(HeaderError::InvalidRequest)),
     ];
-    for (lines, wanted) in rows {
-        assert!(rt; request_error(rt.alloc(), lines)? == wanted);
-    }
+    assert!(rt; answer(rt.alloc(), &rows)?);
+    Ok(())
+}
+
+#[test]
+fn fields_have_names_and_values(rt: HostRuntime) -> Result<(), Fail> {
+    let wrong_name = Some(HeaderError::InvalidHeaderName);
+    let wrong_value = Some(HeaderError::InvalidHeaderValue);
+    let rows: [(&[Row], Option<HeaderError>); 9] = [
+        (&[GET, OWN, (b"Accept", b"*/*")], wrong_name),
+        (&[GET, OWN, (b"", b"x")], wrong_name),
+        (&[GET, OWN, (b":protocol", b"x")], wrong_name),
+        (&[GET, (b":authority", b"")], wrong_value),
+        (&[(b":method", b"")], wrong_value),
+        (&[(b":scheme", b"a b")], wrong_value),
+        (&[(b":path", b"")], wrong_value),
+        (&[GET, OWN, (b"a", b"b\n")], wrong_value),
+        (&[(b"a", b"\n"), (b"B", b"")], wrong_value),
+    ];
+    assert!(rt; answer(rt.alloc(), &rows)?);
     Ok(())
 }
 

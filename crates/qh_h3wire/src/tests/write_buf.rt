@@ -1,7 +1,7 @@
 use super::promise;
 use crate::{Frame, Settings, StreamType, WriteBuf};
 use bytes::Bytes;
-use qh_base::Memory;
+use qh_base::{Memory, VarInt};
 use std::test::Fail;
 
 // Whether the buffer gives just these bytes, taken in steps of at most this size.
@@ -49,6 +49,8 @@ fn buffers_give_their_bytes(rt: HostRuntime) -> Result<(), Fail> {
                 b"\x05\x04\x40\x40hi"
             )
         );
+        let goaway = Frame::Goaway(VarInt::from_u32(2));
+        assert!(rt; walks(WriteBuf::of_frame(alloc, goaway), step, b"\x07\x01\x02"));
         let grease = WriteBuf::of_both(alloc, StreamType::GREASE, Frame::Grease);
         assert!(rt; walks(grease, step, b"\x21\x21\x06grease"));
         assert!(rt;
