@@ -1,20 +1,21 @@
 -- How runs end.
-use Rattle.std.proofs.Common.{◌≡◌, ◌≢◌, ℕ, zero, suc, ◌+◌, ◌<◌, ◌≤◌, List, [], ◌∷◌, ◌++◌, length, Result, Option, refl, sym, ap, ◌∙◌, subst, arith, true, false}
-use Rattle.std.specs.Prelude.{IfOk, Ok, Err, Some, None, IfSome, IfNone}
-use Rattle.std.proofs.lemmas.Bool.{false≢true}
+use Rattle.std.proofs.Common.{◌≡◌, ◌≢◌, ◌⊎◌, inl, inr, ℕ, suc, ◌+◌, ◌≤◌, List, [], ◌∷◌, ◌++◌, length, Result, Option, refl, sym, ap, ◌∙◌, subst, arith}
+use Rattle.std.specs.Prelude.{IfOk, Ok, Some, None, IfSome, IfNone}
 use Rattle.std.proofs.lemmas.Result.{IfOk-weaker}
 use Rattle.qh_base.specs.declared.memory.Memory.{Memory}
 use Rattle.qh_link.specs.ScriptLink.{PlainLink}
-use Rattle.qh_spec.specs.Lines.{lines}
 use Rattle.qh_spec.specs.Message.{PlainMessage}
 use Rattle.qh_spec.specs.Record.{PlainEntry}
-use Rattle.qh_spec.specs.Report.{report, report_of}
+use Rattle.qh_spec.specs.Report.{report_of}
 use Rattle.qh_spec.specs.Schedule.{IsUnforged}
-use Rattle.qh_spec.specs.Script.{Script, IsScript, IsRefusedAt, max_script}
-use Rattle.qh_spec.specs.Words.{IsCommand, Exchange, Make, Workers, Tokens}
+use Rattle.qh_spec.specs.Script.{Script, IsScript, max_script}
+use Rattle.qh_spec.specs.TokenFilter.{TokenLimits}
+use Rattle.qh_spec.specs.TokenLog.{Token}
+use Rattle.qh_spec.specs.TokenScript.{IsTokenScript, token_report}
+use Rattle.qh_spec.specs.Words.{Command, IsCommand, Exchange, Make, Workers, Tokens}
 use Rattle.qh_exchange.specs.declared.error.ExchangeError.{ExchangeError}
 use Rattle.qh_exchange.specs.declared.program.Ending.{Ending}
-use Rattle.qh_exchange.specs.Program.{IsLastLine, invalid, timed_out, out_of_rounds, link, protocol, memory_wanting, not_built, HasRun, ScriptEnds, answered, failed, TextEnds, refused, unbuilt, ran, Ends, usage, unbuilt_words, read_fault, read, memory, HasEnded, IsAnswered}
+use Rattle.qh_exchange.specs.Program.{IsLastLine, invalid, timed_out, out_of_rounds, link, protocol, memory_wanting, not_built, HasRun, ScriptEnds, answered, failed, TextEnds, refused, unbuilt, ran, TokensEnd, looked, Ends, usage, unbuilt_words, read_fault, read, tokens, memory, AreLookedAt, IsAnswered}
 use Rattle.qh_exchange.specs.Reading.{IsRead, IsInput, all, front, IsAppended, IsWritten, whole, cut}
 use Rattle.qh_exchange.specs.Unbuilt.{IsUnbuiltLine, IsUnbuiltAt}
 use Rattle.qh_exchange.proofs.Unbuilt.{AreBuilt}
@@ -42,15 +43,15 @@ at_some P o x e h = subst (λ (z : _). IfSome z P) e h
 pub at_none : {X : Type 0} (P : Type 0) (o : Option X) → o ≡ None → IfNone o P → P
 at_none P o e h = subst (λ (z : _). IfNone z P) e h
 
--- words that ask for something else
-pub not_make : {count seed : ℕ} → Make count seed ≢ Exchange
-not_make e = cc
+-- words that ask for what isn't built
+abbrev pub IsOther : Command → Type 0
+IsOther c = (c ≢ Exchange) × (c ≢ Tokens)
 
-pub not_workers : {count : ℕ} → Workers count ≢ Exchange
-not_workers e = cc
+pub other_make : {count seed : ℕ} → IsOther (Make count seed)
+other_make = (λ e. cc, λ e. cc)
 
-pub not_tokens : Tokens ≢ Exchange
-not_tokens e = cc
+pub other_workers : {count : ℕ} → IsOther (Workers count)
+other_workers = (λ e. cc, λ e. cc)
 
 -- ---- the first line that isn't built
 
@@ -110,14 +111,33 @@ pub record IsAllDone (words : List (List ℕ)) (left_before left_after : Option 
   pub read : IsRead left_before left_after text
   pub done : IsTextDone text l served written
 
+pub record IsTokensDone (text written : List ℕ) : Type 0 where
+  pub limits : TokenLimits
+  pub tokens : List Token
+  pub commands : IsTokenScript text limits tokens
+  pub told : written ≡ token_report limits tokens
+
+tokens_done : (text : List ℕ) (status : ℕ) (written : List ℕ) → status ≡ 0 → TokensEnd text status written → IsTokensDone text written
+tokens_done text status written z (refused n r) = absurd (omega arith)
+tokens_done text status written z (looked limits ts commands) = record { limits = limits; tokens = ts; commands = commands; told = refl }
+
+pub record AreAllLookedAt (words : List (List ℕ)) (left_before left_after : Option (List ℕ)) (written : List ℕ) : Type 0 where
+  pub words_are : IsCommand words Tokens
+  pub text : List ℕ
+  pub read : IsRead left_before left_after text
+  pub done : IsTokensDone text written
+
 all_done : (words : List (List ℕ)) (left_before left_after : Option (List ℕ)) (f g : ℕ) (l : PlainLink) (served : List PlainEntry) (status : ℕ) (written : List ℕ) → status ≡ 0
-    → Ends words left_before left_after f g l served status written → IsAllDone words left_before left_after l served written
+    → Ends words left_before left_after f g l served status written → IsAllDone words left_before left_after l served written ⊎ AreAllLookedAt words left_before left_after written
 all_done words left_before left_after f g l served status written z (usage u) = absurd (omega arith)
-all_done words left_before left_after f g l served status written z (unbuilt_words c is n) = absurd (omega arith)
+all_done words left_before left_after f g l served status written z (unbuilt_words c is n m) = absurd (omega arith)
 all_done words left_before left_after f g l served status written z (read_fault w r) = absurd (omega arith)
 all_done words left_before left_after f g l served status written z (read text st w is input ends) =
     let done = text_done text l served st w z ends in
-    record { words_are = is; text = text; read = read_whole left_before left_after text done.is_script.short input; done = done }
+    inl (record { words_are = is; text = text; read = read_whole left_before left_after text done.is_script.short input; done = done })
+all_done words left_before left_after f g l served status written z (tokens text st w is input ends) =
+    let done = tokens_done text st w z ends in
+    inr (record { words_are = is; text = text; read = read_whole left_before left_after text done.commands.short input; done = done })
 all_done words left_before left_after f g l served status written z memory = absurd (omega arith)
 
 written_whole : (status : ℕ) (text : List ℕ) (before after : Option (List ℕ)) (f g result : ℕ) → result ≡ 0 → IsWritten status text before after f g result
@@ -128,17 +148,31 @@ written_whole status text before after f g result z (cut a b e w r) = absurd (om
 pub answered_whole : (words : List (List ℕ)) (left_before left_after : Option (List ℕ)) (f g : ℕ) (l : PlainLink) (served : List PlainEntry)
     (written_before written_after : Option (List ℕ)) (h k result : ℕ) (status : ℕ) (text : List ℕ) → result ≡ 0
     → Ends words left_before left_after f g l served status text → IsWritten status text written_before written_after h k result
-    → IsAnswered words left_before left_after written_before written_after l served
+    → IsAnswered words left_before left_after written_before written_after l served ⊎ AreLookedAt words left_before left_after written_before written_after
 answered_whole words left_before left_after f g l served written_before written_after h k result status text z ends writes =
     let w = written_whole status text written_before written_after h k result z writes in
-    let d = all_done words left_before left_after f g l served status text w.0 ends in
-    record {
-      words_are = d.words_are;
-      text = d.text;
-      read = d.read;
-      script = d.done.script;
-      is_script = d.done.is_script;
-      answers = d.done.done.answers;
-      run = d.done.done.run;
-      written = λ u. subst (IsAppended written_before written_after) (d.done.done.told u) w.1;
-    }
+    elim (all_done words left_before left_after f g l served status text w.0 ends) [
+      | inl d ↦
+          inl
+          (record {
+            words_are = d.words_are;
+            text = d.text;
+            read = d.read;
+            script = d.done.script;
+            is_script = d.done.is_script;
+            answers = d.done.done.answers;
+            run = d.done.done.run;
+            written = λ u. subst (IsAppended written_before written_after) (d.done.done.told u) w.1;
+          })
+      | inr d ↦
+          inr
+          (record {
+            words_are = d.words_are;
+            text = d.text;
+            read = d.read;
+            limits = d.done.limits;
+            tokens = d.done.tokens;
+            commands = d.done.commands;
+            written = subst (IsAppended written_before written_after) d.done.told w.1;
+          })
+    ]

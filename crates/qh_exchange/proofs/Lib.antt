@@ -7,5 +7,6 @@ pub mod Parts
 pub mod Pieces
 pub mod Rounds
 pub mod Runs
+pub mod TokenRuns
 pub mod Unbuilt
 pub mod Written

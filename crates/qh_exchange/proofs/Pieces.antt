@@ -1,10 +1,10 @@
 -- Texts that are read and written piece by piece.
-use Rattle.std.proofs.Common.{◌≡◌, inl, inr, ℕ, ◌+◌, ◌^◌, ◌<◌, ◌≤◌, List, [], ◌∷◌, ◌++◌, length, take, drop, Option, Some, refl, sym, ap, ◌∙◌, subst, arith, append_assoc, append-nil, length-append, length-drop}
+use Rattle.std.proofs.Common.{◌≡◌, inl, inr, ℕ, ◌+◌, ◌<◌, ◌≤◌, List, [], ◌∷◌, ◌++◌, length, take, drop, Option, Some, refl, sym, ap, ◌∙◌, subst, arith, append_assoc, append-nil, length-append, length-drop}
 use Rattle.std.specs.Prelude.{option_map}
 use Rattle.std.proofs.lemmas.List.{take-append-drop}
 use Rattle.qh_spec.specs.Fault.{Rose}
 use Rattle.qh_spec.specs.Script.{max_script}
-use Rattle.qh_exchange.specs.Reading.{HasRead, IsRead, IsInput, all, front, IsAppended, IsWritten, whole, cut, IsPiece, IsAtEnd}
+use Rattle.qh_exchange.specs.Reading.{HasRead, IsInput, all, front, IsAppended, IsWritten, whole, cut, IsPiece, IsAtEnd}
 
 -- ---- reading
 

@@ -9,7 +9,6 @@ use Rattle.qh_spec.specs.Config.{PlainConfig}
 use Rattle.qh_spec.specs.Fault.{Rose, CountsFaults}
 use Rattle.qh_spec.specs.Headline.{ServedOnce, IsRecordedAnswer, AnsweredOnce}
 use Rattle.qh_spec.specs.Honest.{IsHonest}
-use Rattle.qh_spec.specs.Lists.{In}
 use Rattle.qh_spec.specs.Message.{PlainHead, Request, Response, PlainMessage, IsRequest}
 use Rattle.qh_spec.specs.Record.{PlainEntry}
 use Rattle.qh_spec.specs.Same.{bytes_under}

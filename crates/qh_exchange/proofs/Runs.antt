@@ -1,5 +1,5 @@
 -- What an exchange of a script's requests leaves behind, where a service echoes over a link in memory.
-use Rattle.std.proofs.Common.{◌≡◌, ◌≢◌, inl, inr, ℕ, zero, suc, ◌+◌, ◌*◌, ◌<◌, ◌≤◌, List, [], ◌∷◌, ◌++◌, length, Option, Some, None, Result, Ok, Err, refl, sym, ap, ◌∙◌, subst, arith, append-nil}
+use Rattle.std.proofs.Common.{◌≡◌, ◌≢◌, inl, inr, ℕ, zero, suc, ◌≤◌, List, [], ◌∷◌, length, Option, Some, None, Result, Ok, Err, refl, sym, ap, ◌∙◌, subst, arith}
 use Rattle.std.specs.Prelude.{IfOk, IfErr, IsOk, All, slice_get}
 use Rattle.std.proofs.lemmas.Bool.{false≢true}
 use Rattle.std.proofs.lemmas.Result.{IfOk-weaker}
@@ -17,7 +17,6 @@ use Rattle.qh_spec.specs.Link.{moments_of}
 use Rattle.qh_spec.specs.Lists.{In}
 use Rattle.qh_spec.specs.Message.{PlainMessage}
 use Rattle.qh_spec.specs.Record.{PlainEntry}
-use Rattle.qh_spec.specs.Report.{report, report_of}
 use Rattle.qh_spec.specs.Same.{SameMessage}
 use Rattle.qh_spec.specs.Schedule.{Plan, IsScheduled, IsUnforged}
 use Rattle.qh_spec.specs.Script.{Script, rounds_of}

@@ -1,5 +1,5 @@
 -- What a run of the program reads, does and writes, by its status (own).
-use Rattle.std.specs.Prelude.{◌≡◌, ◌≢◌, ℕ, ◌<◌, ◌≤◌, List, [], ◌++◌, codes, decimal, flat_map, Option, Some, Result, Ok, Err, IfOk, IfErr}
+use Rattle.std.specs.Prelude.{◌≡◌, ◌≢◌, ◌⊎◌, ℕ, ◌<◌, ◌≤◌, List, [], ◌++◌, codes, decimal, flat_map, Option, Some, Result, Ok, Err, IfOk, IfErr}
 use Rattle.qh_spec.specs.Fault.{Rose, CountsFaults}
 use Rattle.qh_spec.specs.Headline.{ServedOnce, AnsweredOnce}
 use Rattle.qh_spec.specs.Link.{moments_of}
@@ -10,7 +10,10 @@ use Rattle.qh_spec.specs.Report.{newline, entry_block, report, report_of}
 use Rattle.qh_spec.specs.Schedule.{IsUnforged}
 use Rattle.qh_spec.specs.Service.{echo}
 use Rattle.qh_spec.specs.Script.{Script, IsScript, IsRefusedAt, rounds_of}
-use Rattle.qh_spec.specs.Words.{Command, Exchange, IsCommand, AreUnknown}
+use Rattle.qh_spec.specs.TokenFilter.{TokenLimits}
+use Rattle.qh_spec.specs.TokenLog.{Token}
+use Rattle.qh_spec.specs.TokenScript.{IsTokenScript, IsTokenRefusedAt, token_report}
+use Rattle.qh_spec.specs.Words.{Command, Exchange, Tokens, IsCommand, AreUnknown}
 use Rattle.qh_base.specs.declared.connection_error.ConnectionError.{ConnectionError}
 use Rattle.qh_link.specs.ScriptLink.{PlainLink}
 use Rattle.qh_exchange.specs.declared.error.ExchangeError.{ExchangeError}
@@ -91,15 +94,26 @@ pub data TextEnds (text : List ℕ) (link : PlainLink) (served : List PlainEntry
   ran : (s : Script) (status : ℕ) (written : List ℕ) → IsScript text s → ((m : ℕ) → IsUnbuiltAt text m → ⊥) → ScriptEnds s link served status written
       → TextEnds text link served status written
 
+-- How a run ends that read commands on a token log: a line of them is refused, or each token was looked at.
+pub data TokensEnd (text : List ℕ) : (status : ℕ) → (written : List ℕ) → Type 0 where
+  refused : (n : ℕ) → IsTokenRefusedAt text n → TokensEnd text 3 (refused_line n)
+  looked : (limits : TokenLimits) (tokens : List Token) → IsTokenScript text limits tokens → TokensEnd text 0 (token_report limits tokens)
+
+-- the words with which the program reads its input
+abbrev pub IsReading : List (List ℕ) → Type 0
+IsReading words = IsCommand words Exchange ⊎ IsCommand words Tokens
+
 -- How a run ends: its status and what it has to write, by its words, by what it reads, and by what it leaves on the bench.
 pub data Ends (words : List (List ℕ)) (left_before left_after : Option (List ℕ)) (faults_before faults_after : ℕ) (link : PlainLink) (served : List PlainEntry)
     : (status : ℕ) → (written : List ℕ) → Type 0 where
   usage : AreUnknown words → Ends words left_before left_after faults_before faults_after link served 2 usage_line
-  unbuilt_words : (c : Command) → IsCommand words c → c ≢ Exchange → Ends words left_before left_after faults_before faults_after link served 12 unbuilt_line
-  read_fault : IsCommand words Exchange → Rose faults_before faults_after
+  unbuilt_words : (c : Command) → IsCommand words c → c ≢ Exchange → c ≢ Tokens → Ends words left_before left_after faults_before faults_after link served 12 unbuilt_line
+  read_fault : IsReading words → Rose faults_before faults_after
       → Ends words left_before left_after faults_before faults_after link served 10 (codes "read fault" ++ newline)
   read : (text : List ℕ) (status : ℕ) (written : List ℕ) → IsCommand words Exchange → IsInput left_before left_after text
       → TextEnds text link served status written → Ends words left_before left_after faults_before faults_after link served status written
+  tokens : (text : List ℕ) (status : ℕ) (written : List ℕ) → IsCommand words Tokens → IsInput left_before left_after text
+      → TokensEnd text status written → Ends words left_before left_after faults_before faults_after link served status written
   memory : Ends words left_before left_after faults_before faults_after link served 9 memory_line
 
 -- How a run ends: what it read, did and wrote, and its status.
@@ -111,6 +125,17 @@ pub record HasEnded (words : List (List ℕ)) (left_before left_after : Option (
   pub writes : IsWritten status text written_before written_after failed_before failed_after result
 
 -- ---- status 0
+
+-- The words are `tokens`, the source was read to its end, its text has commands on a token log, and what was written is what
+-- the log answers, and nothing else.
+pub record AreLookedAt (words : List (List ℕ)) (left_before left_after written_before written_after : Option (List ℕ)) : Type 0 where
+  pub words_are : IsCommand words Tokens
+  pub text : List ℕ
+  pub read : IsRead left_before left_after text
+  pub limits : TokenLimits
+  pub tokens : List Token
+  pub commands : IsTokenScript text limits tokens
+  pub written : IsAppended written_before written_after (token_report limits tokens)
 
 -- The words are `exchange`, the source was read to its end, its text is a script, its requests were exchanged, and what was
 -- written is their report and nothing else, where the schedule forges nothing.

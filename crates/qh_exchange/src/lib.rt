@@ -11,6 +11,7 @@ mod script;
 mod stream;
 #[cfg(test)]
 mod tests;
+mod tokens;
 mod valid;
 
 pub use error::ExchangeError;

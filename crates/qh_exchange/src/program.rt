@@ -1,4 +1,4 @@
-ghost use Rattle.std.specs.Prelude.{◌≡◌, ◌<◌, ◌^◌, ◌++◌, [], ℕ, List, map, string_bytes, All, IfOk, IfErr};
+ghost use Rattle.std.specs.Prelude.{◌≡◌, ◌⊎◌, ◌<◌, ◌^◌, ◌++◌, [], ℕ, List, map, string_bytes, All, IfOk, IfErr};
 ghost use Rattle.qh_link.specs.ScriptLink.{PlainLink};
 ghost use Rattle.qh_spec.specs.Record.{PlainEntry};
 ghost use Rattle.qh_spec.specs.Config.{Fits};
@@ -6,11 +6,12 @@ ghost use Rattle.qh_spec.specs.Echoed.{HasMaps};
 ghost use Rattle.qh_spec.specs.Script.{Script as PlainScript, IsScript, IsRefusedAt, rounds_of};
 ghost use Rattle.qh_spec.specs.Words.{Exchange, IsCommand};
 ghost use Rattle.qh_exchange.specs.Endings.{EndsAnswered, EndsFailed, IsRunAs};
-ghost use Rattle.qh_exchange.specs.Program.{Ends, HasEnded, IsAnswered, IsLastLine, ScriptEnds, TextEnds, entries_told, refused_line};
+ghost use Rattle.qh_exchange.specs.Program.{AreLookedAt, Ends, HasEnded, IsAnswered, IsLastLine, ScriptEnds, TextEnds, entries_told, refused_line};
 
 use crate::input::read_text;
 use crate::output::write_text;
 use crate::script::unbuilt_line;
+use crate::tokens::run_tokens;
 use crate::{Config, Echo, ExchangeError, Message, ScriptLink, enough, exchange};
 use qh_base::{Memory, Sink, Source};
 use qh_script::{Command, Script, ScriptError, put_entries, put_report, read_command, read_script};
@@ -28,19 +29,20 @@ const USAGE: &str = "usage: h3run exchange, make N SEED, workers N, tokens\n";
 // One more than the greatest number of rounds.
 const MAX_ROUNDS: u64 = 1 << 48;
 
-// A run's status, and what it writes.
+/// A run's status, and what it writes.
 #[derive(Drop)]
-struct Ending {
-    status: u8,
-    text: Vec<u8>,
+pub(crate) struct Ending {
+    pub(crate) status: u8,
+    pub(crate) text: Vec<u8>,
 }
 
 /// Does what the program's words ask for, with its input and its output, and answers its status: 0 where every request
-/// has its answer, 2 for other words, 3 for a script that is refused, 4 to 8 for an exchange that failed, 9 for want of
-/// memory, 10 and 11 for a fault of the input and of the output, 12 for what isn't built yet. Before the last line of
-/// status 0 stands the report, before that of 4 to 9 the entries of the record.
+/// has its answer, or where each token was looked at, 2 for other words, 3 for a script or for commands that are refused,
+/// 4 to 8 for an exchange that failed, 9 for want of memory, 10 and 11 for a fault of the input and of the output, 12 for
+/// what isn't built yet. Before the last line of status 0 stands the report, or the line of each token, before that of 4
+/// to 9 the entries of the record. Nothing is written before the input was read.
 ///
-/// The service has served nothing. `exchange` puts a new link into the bench.
+/// The service has served nothing. `exchange` puts a new link into the bench, and other words leave the bench as it is.
 pub fn run<S: Source, K: Sink>(
     alloc: Global,
     words: &[String],
@@ -52,9 +54,13 @@ pub fn run<S: Source, K: Sink>(
     // Each status comes by its row of `Ends` alone.
     ensures ends { HasEnded (map string_bytes words.now) (S.left source.old) (S.left source.new) (S.faults source.old) (S.faults source.new) bench.new.link bench.new.service
         (K.written sink.old) (K.written sink.new) (K.faults sink.old) (K.faults sink.new) result }
-    // Status 0 means that the words are `exchange`, the input was read to its end and is a script, its requests were
-    // exchanged over the link on the bench, and their report was written and nothing else.
-    ensures answered { result ≡ 0 → IsAnswered (map string_bytes words.now) (S.left source.old) (S.left source.new) (K.written sink.old) (K.written sink.new) bench.new.link bench.new.service }
+    // Status 0 means that the input was read to its end, and either the words are `exchange`, the input is a script, its
+    // requests were exchanged over the link on the bench, and their report was written and nothing else; or the words are
+    // `tokens`, the input has commands on a token log, and the line of each token and their number were written and nothing
+    // else.
+    ensures answered { result ≡ 0 → IsAnswered (map string_bytes words.now) (S.left source.old) (S.left source.new) (K.written sink.old) (K.written sink.new) bench.new.link bench.new.service
+        ⊎ AreLookedAt (map string_bytes words.now) (S.left source.old) (S.left source.new) (K.written sink.old) (K.written sink.new) }
+    ensures unused { (IsCommand (map string_bytes words.now) Exchange → ⊥) → bench.new ≡ bench.old }
 {
     match ending_of(alloc, words, source, bench) {
         Ok(ending) => write_text(sink, &ending.text, ending.status),
@@ -69,14 +75,15 @@ fn ending_of<S: Source>(
     bench: &mut Bench<Echo, ScriptLink>,
 ) -> Result<Ending, Memory>
     requires { bench.old.service ≡ [] }
-    ensures { IfOk result (λ e. Ends (map string_bytes words.now) (S.left source.old) (S.left source.new) (S.faults source.old) (S.faults source.new) bench.new.link bench.new.service
+    ensures ends { IfOk result (λ e. Ends (map string_bytes words.now) (S.left source.old) (S.left source.new) (S.faults source.old) (S.faults source.new) bench.new.link bench.new.service
         e.status e.text.items) }
+    ensures unused { (IsCommand (map string_bytes words.now) Exchange → ⊥) → bench.new ≡ bench.old }
 {
     match read_command(words) {
         Some(Command::Exchange) => run_exchange(alloc, source, bench),
         Some(Command::Make { .. }) => line(alloc, 12, "unbuilt\n"),
         Some(Command::Workers { .. }) => line(alloc, 12, "unbuilt\n"),
-        Some(Command::Tokens) => line(alloc, 12, "unbuilt\n"),
+        Some(Command::Tokens) => run_tokens(alloc, source),
         None => line(alloc, 2, USAGE),
     }
 }
@@ -123,7 +130,8 @@ fn refusal(alloc: Global, text: &[u8], number: usize) -> Result<Ending, Memory>
     }
 }
 
-fn refused(alloc: Global, number: usize) -> Result<Ending, Memory>
+/// The line that says which line of the input is refused.
+pub(crate) fn refused(alloc: Global, number: usize) -> Result<Ending, Memory>
     ensures { IfOk result (λ e. (e.status ≡ 3) × (e.text.items ≡ refused_line number)) }
 {
     line(alloc, 3, format!(in alloc; "line {number}\n")?.as_str())
@@ -271,7 +279,8 @@ fn last_line(alloc: Global, error: ExchangeError) -> Result<Ending, Memory>
     }
 }
 
-fn line(alloc: Global, status: u8, text: &str) -> Result<Ending, Memory>
+/// An ending with this text.
+pub(crate) fn line(alloc: Global, status: u8, text: &str) -> Result<Ending, Memory>
     ensures { IfOk result (λ e. (e.status ≡ status) × (e.text.items ≡ text.now)) }
 {
     let text = text.as_bytes().to_vec(alloc)?;

@@ -75,7 +75,7 @@ fn a_script_is_run(rt: HostRuntime) -> Result<(), Fail> {
 fn words_and_faults_have_their_statuses(rt: HostRuntime) -> Result<(), Fail> {
     let alloc = rt.alloc();
     let usage = b"usage: h3run exchange, make N SEED, workers N, tokens\n".as_slice();
-    let rows: [(&[&str], u8, &[u8]); 9] = [
+    let rows: [(&[&str], u8, &[u8]); 8] = [
         (&["exchang"], 2, usage),
         (&[], 2, usage),
         (&["exchange", "now"], 2, usage),
@@ -84,7 +84,6 @@ fn words_and_faults_have_their_statuses(rt: HostRuntime) -> Result<(), Fail> {
         (&["workers", "65"], 2, usage),
         (&["make", "3", "0"], 12, b"unbuilt\n"),
         (&["workers", "64"], 12, b"unbuilt\n"),
-        (&["tokens"], 12, b"unbuilt\n"),
     ];
     for (words, status, text) in &rows {
         let (answered, sink, bench) = ran(
@@ -107,6 +106,34 @@ fn words_and_faults_have_their_statuses(rt: HostRuntime) -> Result<(), Fail> {
     assert_eq!(rt; write, 11);
     assert!(rt; sink.bytes().is_empty());
     assert_eq!(rt; bench.service.served().len(), 1);
+    Ok(())
+}
+
+#[test]
+fn tokens_are_looked_at(rt: HostRuntime) -> Result<(), Fail> {
+    let alloc = rt.alloc();
+    let commands = b"tokenlog 800 22\ntoken 7 0 10\ntoken 7 0 10\ntoken 8 0 0\n".as_slice();
+    let rows: [(&[u8], Option<u64>, Option<u64>, u8, &[u8]); 6] = [
+        (commands, None, None, 0, b"ok\nreused\nreused\nok 3\n"),
+        (b"tokenlog 0 1", None, None, 0, b"ok 0\n"),
+        (b"", None, None, 3, b"line 1\n"),
+        (
+            b"tokenlog 800 22\ntoken 7 0 10\ntoken 7 0\n",
+            None,
+            None,
+            3,
+            b"line 3\n",
+        ),
+        (commands, Some(1), None, 10, b"read fault\n"),
+        (commands, None, Some(1), 11, b""),
+    ];
+    for (text, read_fails, write_fails, status, written) in &rows {
+        let (answered, sink, bench) = ran(alloc, &["tokens"], text, *read_fails, *write_fails)?;
+        assert_eq!(rt; answered, *status);
+        assert_eq!(rt; sink.bytes(), *written);
+        assert!(rt; bench.link.events().is_empty());
+        assert!(rt; bench.service.served().is_empty());
+    }
     Ok(())
 }
 

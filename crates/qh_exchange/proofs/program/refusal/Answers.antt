@@ -1,4 +1,4 @@
-use Rattle.std.proofs.Common.{ℕ, List, ◌≡◌, ◌<◌, ◌≤◌, arith}
+use Rattle.std.proofs.Common.{arith}
 use Rattle.qh_spec.proofs.ScriptLaws.{refused_one}
 use Rattle.qh_exchange.specs.Program.{TextEnds, refused, unbuilt}
 use Rattle.qh_exchange.proofs.Endings.{ends_as, one_unbuilt}

@@ -10,7 +10,7 @@ returns-in-Ok-clause-answered g c = λ z.
     (λ (t : List ℕ). IsWritten c.in-Ok.ending.status t (g.K.Sink.written c.args.sink.now) (g.K.Sink.written c.write_text.new.sink) (g.K.Sink.faults c.args.sink.now)
     (g.K.Sink.faults c.write_text.new.sink) c.write_text.result)
     c.deref.ensures.value c.write_text.ensures in
-    answered_whole _ _ _ _ _ _ _ _ _ _ _ _ _ _ z c.in-Ok.ensures writes
+    answered_whole _ _ _ _ _ _ _ _ _ _ _ _ _ _ z c.in-Ok.ensures.ends writes
 
 pub returns-in-Err-clause-ends : goal.returns-in-Err-clause-ends
 returns-in-Err-clause-ends g c = record { status = 9; text = memory_line; ends = memory; writes = c.write_text-in-Err.ensures }

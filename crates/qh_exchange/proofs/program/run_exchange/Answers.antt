@@ -1,7 +1,5 @@
-use Rattle.std.proofs.Common.{List, ℕ, Option, Vec, subst, sym, ◌≡◌}
-use Rattle.std.specs.Prelude.{IfSome, IfNone}
+use Rattle.std.proofs.Common.{List, ℕ, inl, subst, sym}
 use Rattle.std.proofs.lemmas.Result.{IfOk-weaker}
-use Rattle.qh_spec.specs.Fault.{Rose}
 use Rattle.qh_exchange.specs.Program.{Ends, read, read_fault}
 use Rattle.qh_exchange.specs.Reading.{IsInput}
 use Rattle.qh_exchange.proofs.Endings.{ends_as, at_some, at_none}
@@ -17,4 +15,4 @@ pub returns-in-None : goal.returns-in-None
 returns-in-None g c = λ words w.
     let rose = at_none _ c.in_ok-text.field-0 c.in-None.is c.in_ok-text.ensures.fault in
     ends_as _ (Ends words (g.S.Source.left c.args.source.now) (g.S.Source.left c.read_text.new.source) (g.S.Source.faults c.args.source.now) (g.S.Source.faults c.read_text.new.source) c.args.bench.now.link c.args.bench.now.service)
-    _ _ (read_fault w rose) c.line.ensures
+    _ _ (read_fault (inl w) rose) c.line.ensures

@@ -1,4 +1,4 @@
-use Rattle.std.proofs.Common.{◌≡◌, ◌∙◌, ◌≤◌, ap, sym, subst, arith}
+use Rattle.std.proofs.Common.{◌∙◌, ap, sym, subst, arith}
 use Rattle.std.specs.Prelude.{All}
 use Rattle.qh_spec.specs.Echoed.{HasMaps}
 use Rattle.qh_spec.specs.Schedule.{IsUpset}

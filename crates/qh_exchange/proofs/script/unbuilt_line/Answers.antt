@@ -1,6 +1,6 @@
-use Rattle.std.proofs.Common.{◌≡◌, ap, sym, ◌∙◌, true, false, arith}
+use Rattle.std.proofs.Common.{ap, sym, ◌∙◌}
 use Rattle.std.proofs.lemmas.Bool.{false≢true}
-use Rattle.qh_exchange.specs.Unbuilt.{IsUnbuiltLine, is_unbuilt_word}
+use Rattle.qh_exchange.specs.Unbuilt.{is_unbuilt_word}
 use Rattle.qh_exchange.proofs.Unbuilt.{seen_more, seen_found, seen_all, no_length}
 use Rattle.qh_exchange.proofs.script.unbuilt_line.Goals as goal
 
