@@ -20,7 +20,7 @@ pub use put::{
     put_application_close, put_connection_close, put_crypto, put_datagram, put_max_data,
     put_max_stream_data, put_max_streams, put_new_connection_id, put_new_token, put_padding,
     put_path_response, put_ping, put_reset_stream, put_retire_connection_id, put_stop_sending,
-    put_stream,
+    put_stream, put_stream_head,
 };
 pub use read::get_frame;
 pub use written_ack::put_ack;

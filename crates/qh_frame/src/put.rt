@@ -205,6 +205,30 @@ pub fn put_stream(out: &mut Vec<u8>, stream: Stream<'_>) -> Result<(), Memory>
     }
 }
 
+/// Appends the head of a STREAM frame, as `put_stream` writes it, or nothing. With so many bytes behind it, it is that frame.
+pub fn put_stream_head(
+    out: &mut Vec<u8>,
+    id: StreamId,
+    offset: VarInt,
+    payload_len: u64,
+    fin: bool,
+) -> Result<(), Memory>
+    requires id { id.0 < 2 ^ 62 }
+    requires payload { payload_len < 2 ^ 62 }
+    ensures ok { OnOk result ((payload : List ℕ) → length payload ≡ payload_len
+        → IsPut out.old.items (out.new.items ++ payload) (stream_form (record { id = id.0; offset = offset; payload = payload; fin = fin })) (25 + payload_len)) }
+    ensures err { OnErr result (out.new.items ≡ out.old.items) }
+{
+    let offset = offset.into_inner();
+    if offset == 0 {
+        let kind = stream_type(false, fin);
+        put_numbers(out, &[kind, id.0, payload_len])
+    } else {
+        let kind = stream_type(true, fin);
+        put_numbers(out, &[kind, id.0, offset, payload_len])
+    }
+}
+
 // The type of a STREAM frame with a length.
 fn stream_type(has_offset: bool, fin: bool) -> u64
     ensures { result ≡ 10 + (if has_offset then 4 else 0) + (if fin then 1 else 0) }
