@@ -1,15 +1,15 @@
 -- What was sent of a stream lies within what was taken of it.
-use Rattle.std.proofs.Common.{◌≡◌, ℕ, ◌+◌, ◌-◌, ◌<◌, ◌≤◌, true, false, List, [], ◌∷◌, map, refl, sym, ap, ◌∙◌, arith, inl, inr, Option, None, nat_lt}
+use Rattle.std.proofs.Common.{◌≡◌, ℕ, ◌+◌, ◌-◌, ◌<◌, ◌≤◌, true, false, List, [], ◌∷◌, map, refl, sym, ap, ◌∙◌, arith, inl, inr, Option, Some, None, Bool, if◌then◌else◌, le_of_lt, nat_lt}
 use Rattle.std.proofs.lemmas.Bool.{cases_lt, le-ltb, lt-ltb, false≢true}
 use Rattle.qh_spec.specs.Lists.{In}
 use Rattle.qh_buffers.specs.declared.send_buffer.Mark.{Mark}
 use Rattle.qh_buffers.specs.declared.send_buffer.Mark.TheVariants.{Sent, Queued, Acked}
 use Rattle.qh_buffers.specs.declared.send_buffer.Piece.{Piece}
-use Rattle.qh_buffers.specs.SendBuffer.{PlainSendBuffer, taken_to, mark_in, mark_at, waits, is_queued, IsCut, IsSpan, IsAcknowledged}
+use Rattle.qh_buffers.specs.SendBuffer.{PlainSendBuffer, taken_to, mark_in, mark_at, waits, is_queued, IsCut, IsSpan, IsAcknowledged, IsHandedOut}
 use Rattle.qh_buffers.proofs.Pieces.{mark_first, mark_later, between_high}
 use Rattle.qh_streams.specs.declared.send.SendState.{SendState}
 use Rattle.qh_streams.specs.declared.send.SendState.TheVariants.{Ready, DataSent, ResetSent}
-use Rattle.qh_streams.specs.Send.{PlainSend, IsSentAsTaken, IsEndOut, is_end_queued}
+use Rattle.qh_streams.specs.Send.{PlainSend, IsHeld, IsSentAsTaken, IsEndOut, is_end_queued}
 
 -- the bytes before the end of a piece were sent
 sent_by_end : (ps : List Piece) (to k : ℕ) → k < to → In to (map (λ (p : Piece). p.end) ps) → mark_in ps k ≡ None → ⊥
@@ -92,3 +92,23 @@ end_is_out old end all none queued is = record {
     is_cut_to = rw is (all_is_sent old.buffer all none);
   };
 }
+
+-- what is handed out is held
+pub handed_out_held : (old new : PlainSendBuffer) (room from to : ℕ) → IsSentAsTaken old → IsHandedOut old new room from to → IsHeld new from to
+handed_out_held old new room from to all out =
+    let behind : old.start ≤ from = elim (cases_lt from old.start) [
+      | inr within ↦ within
+      | inl before ↦
+          let acked : is_queued old from ≡ false = ap (λ (b : Bool). waits (if b then Some Acked else mark_in old.pieces from) (nat_lt from (taken_to old))) (lt-ltb from old.start before) in
+          absurd (false≢true (sym acked ∙ out.queued from (omega arith) out.some))
+    ] in
+    let taken : to ≤ taken_to old = elim (cases_lt (taken_to old) to) [
+      | inr within ↦ within
+      | inl past ↦
+          let k = to - 1 in
+          let some = out.some in
+          let low : taken_to old ≤ k = omega arith in
+          let none : is_queued old k ≡ false = ap (λ (o : Option Mark). waits o (nat_lt k (taken_to old))) (all k low) ∙ le-ltb k (taken_to old) low in
+          absurd (false≢true (sym none ∙ out.queued k (omega arith) (omega arith)))
+    ] in
+    rw (out.start_is, out.bytes_are) (behind, le_of_lt out.some, taken)

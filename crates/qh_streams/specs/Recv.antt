@@ -3,6 +3,10 @@ use Rattle.std.specs.Prelude.{◌≡◌, ℕ, ◌+◌, ◌-◌, ◌<◌, ◌≤�
 use Rattle.qh_buffers.specs.declared.assembler.Chunk.{Chunk}
 use Rattle.qh_buffers.specs.Ranges.{count_of}
 use Rattle.qh_buffers.specs.Assembler.{PlainAssembler, empty_assembler, IsInserted, HasNothing, IsGiven, IsFrontPiece, IsLeastPiece, to_give, was_given, read_to}
+use Rattle.qh_buffers.specs.declared.send_buffer.Mark.{Mark}
+use Rattle.qh_buffers.specs.declared.send_buffer.Mark.TheVariants.{Queued, Acked}
+use Rattle.qh_streams.specs.Send.{lost_mark}
+use Rattle.qh_streams.specs.declared.recv.StopFrame.{StopFrame}
 use Rattle.qh_streams.specs.declared.recv.RecvState.{RecvState}
 use Rattle.qh_streams.specs.declared.recv.RecvState.TheVariants.{Recv, ResetRecvd}
 use Rattle.qh_streams.specs.declared.recv.IngestFault.{IngestFault}
@@ -26,6 +30,10 @@ pub record PlainRecv : Type 0 where
   pub is_given : Bool
   -- an unordered read was begun
   pub is_unordered : Bool
+  -- what was done with the last limit that was announced
+  pub limit_mark : Mark
+  -- the STOP_SENDING frame, where the peer is told
+  pub stop_frame : Option StopFrame
 
 -- the final size, where it is known
 abbrev pub final_size : RecvState → Option ℕ
@@ -46,6 +54,8 @@ new_recv max_data = record {
   is_stopped = false;
   is_given = false;
   is_unordered = false;
+  limit_mark = Acked;
+  stop_frame = None;
 }
 
 -- how many bytes reads gave
@@ -124,9 +134,60 @@ is_at_end r = ends_at r.state (bytes_read r)
 abbrev pub is_done : PlainRecv → Bool
 is_done r = r.is_given || (r.is_stopped && is_some (final_size r.state))
 
--- the stream's limit rises: its bytes are still wanted, its end isn't known, and the limit exceeds the one announced
-abbrev pub is_limit_due : PlainRecv → (limit : ℕ) → Bool
-is_limit_due r limit = not r.is_stopped && (not (is_some (final_size r.state)) && nat_lt r.sent_max_stream_data limit)
+-- more bytes are wanted: it wasn't stopped, and the final size isn't known
+abbrev pub wants_more : PlainRecv → Bool
+wants_more r = not r.is_stopped && not (is_some (final_size r.state))
+
+-- the limit that the bytes read and the window make, at most 2^62 - 1 (RFC 9000, section 4.1); it never falls
+abbrev pub limit_of : PlainRecv → (window : ℕ) → ℕ
+limit_of r window = max (min (2 ^ 62 - 1) (bytes_read r + window)) r.sent_max_stream_data
+
+abbrev pub is_queued_mark : Mark → Bool
+is_queued_mark Queued = true
+is_queued_mark _ = false
+
+abbrev pub is_acked_mark : Mark → Bool
+is_acked_mark Acked = true
+is_acked_mark _ = false
+
+-- the stream's limit is to be announced: more bytes are wanted, and it exceeds the last one or a frame with that one is lost
+abbrev pub is_limit_due : PlainRecv → (window : ℕ) → Bool
+is_limit_due r window = wants_more r && (is_queued_mark r.limit_mark || nat_lt r.sent_max_stream_data (limit_of r window))
+
+-- a MAX_STREAM_DATA frame with this limit is still to be acknowledged
+abbrev pub owes_limit : PlainRecv → (limit : ℕ) → Bool
+owes_limit r limit = wants_more r && (limit == r.sent_max_stream_data && not (is_acked_mark r.limit_mark))
+
+-- ---- STOP_SENDING: it is of use as long as the final size isn't known (RFC 9000, section 3.5)
+
+abbrev pub frame_is : (Mark → Bool) → Option StopFrame → Bool
+frame_is test None = false
+frame_is test (Some f) = test f.mark
+
+abbrev pub is_stop_due : PlainRecv → Bool
+is_stop_due r = not (is_some (final_size r.state)) && frame_is is_queued_mark r.stop_frame
+
+abbrev pub owes_stop : PlainRecv → Bool
+owes_stop r = not (is_some (final_size r.state)) && frame_is (λ m. not (is_acked_mark m)) r.stop_frame
+
+abbrev pub acked_stop : StopFrame → StopFrame
+acked_stop f = record { code = f.code; mark = Acked }
+
+abbrev pub lost_stop : StopFrame → StopFrame
+lost_stop f = record { code = f.code; mark = lost_mark f.mark }
+
+-- the frame of a stream that is stopped, where the final size isn't known
+abbrev pub new_stop : RecvState → (code : ℕ) → Option StopFrame
+new_stop (Recv None) code = Some (record { code = code; mark = Queued })
+new_stop _ code = None
+
+-- a STOP_SENDING or a MAX_STREAM_DATA frame waits to be sent
+abbrev pub is_frame_due : PlainRecv → (window : ℕ) → Bool
+is_frame_due r window = is_stop_due r || is_limit_due r window
+
+-- how many bytes count as read for the connection's limit: after a stop or a reset all that came
+abbrev pub counted : PlainRecv → ℕ
+counted r = if keeps_bytes r then bytes_read r else r.end
 
 -- ---- what is read
 
@@ -161,22 +222,16 @@ pub data IsReadAnswer (old new : PlainRecv) (max_length : ℕ) : Result (Option 
   blocked : 0 < max_length → WaitsForMore old → is_at_end old ≡ false → reset_code old.state ≡ None → new ≡ old → IsReadAnswer old new max_length (Err Blocked)
   memory : new ≡ old → IsReadAnswer old new max_length (Err Memory)
 
--- The stream is stopped: what waited is dropped, so many bytes that no read gave; the peer is told where the final size isn't known.
-pub record IsStopped (old new : PlainRecv) (is_told : Bool) (dropped : ℕ) : Type 0 where
+-- The stream is stopped: what waited is dropped, and the peer is told where the final size isn't known.
+pub record IsStopped (old new : PlainRecv) (code : ℕ) : Type 0 where
   pub not_closed : is_closed old ≡ false
-  pub told : is_told ≡ not (is_some (final_size old.state))
-  pub dropped_are : dropped + bytes_read old ≡ old.end
   pub none : HasNothing new.assembler
   pub given_is : new.assembler.given ≡ old.assembler.given
-  pub rest_is : new ≡ record old { assembler = new.assembler; is_stopped = true }
+  pub rest_is : new ≡ record old { assembler = new.assembler; is_stopped = true; stop_frame = new_stop old.state code }
 
 -- the reset counts as given, where one came
 abbrev pub with_reset_given : PlainRecv → PlainRecv
 with_reset_given r = record r { is_given = is_some (reset_code r.state) }
-
--- the limit that the bytes read and the window make (RFC 9000, section 4.1)
-abbrev pub limit_of : PlainRecv → (window : ℕ) → ℕ
-limit_of r window = min (2 ^ 62 - 1) (bytes_read r + window)
 
 -- what reads gave came before, bytes that wait came and lie before a known end, and the limit was never passed
 pub record IsRecv (r : PlainRecv) : Type 0 where

@@ -1,8 +1,8 @@
 -- The sending half of a stream (RFC 9000, section 3.1).
-use Rattle.std.specs.Prelude.{◌≡◌, ℕ, ℤ, ◌-◌, ◌<◌, ◌≤◌, ◌==◌, min, Bool, true, false, ◌&&◌, ◌||◌, List, [], ◌∷◌, ◌++◌, ◌+◌, nat_lt, length, drop, Option, Some, None, if◌then◌else◌}
+use Rattle.std.specs.Prelude.{◌≡◌, ◌⊎◌, ℕ, ℤ, pos, ◌-◌, ◌<◌, ◌≤◌, ◌==◌, min, Bool, true, false, ◌&&◌, ◌||◌, List, [], ◌∷◌, ◌++◌, ◌+◌, nat_lt, length, drop, Option, Some, None, if◌then◌else◌}
 use Rattle.qh_buffers.specs.declared.send_buffer.Mark.{Mark}
 use Rattle.qh_buffers.specs.declared.send_buffer.Mark.TheVariants.{Sent, Queued, Acked}
-use Rattle.qh_buffers.specs.SendBuffer.{PlainSendBuffer, taken_to, mark_at, is_queued, is_acked, IsSpan, IsHandedOut, IsQueuedAgain, IsAcknowledged}
+use Rattle.qh_buffers.specs.SendBuffer.{PlainSendBuffer, empty_buffer, taken_to, mark_at, is_queued, is_acked, IsSpan, IsHandedOut, IsQueuedAgain, IsAcknowledged}
 use Rattle.qh_streams.specs.declared.send.SendState.{SendState}
 use Rattle.qh_streams.specs.declared.send.SendState.TheVariants.{Ready, DataSent, ResetSent}
 use Rattle.qh_streams.specs.declared.fault.WriteFault.{WriteFault}
@@ -19,6 +19,10 @@ pub record PlainSend : Type 0 where
   -- the code of the peer's STOP_SENDING, where one came
   pub stop_reason : Option ℕ
   pub priority : ℤ
+
+-- before the first byte, with this limit of the peer
+abbrev pub new_send : (max_data : ℕ) → PlainSend
+new_send max_data = record { buffer = empty_buffer; max_data = max_data; state = Ready; stop_reason = None; priority = pos 0 }
 
 abbrev pub is_done_in : SendState → (held : ℕ) → Bool
 is_done_in (DataSent Acked) held = held == 0
@@ -93,6 +97,10 @@ is_end_queued _ = false
 abbrev pub IsPending : PlainSend → Type 0
 IsPending s = (is_reset s.state ≡ false) × (((k : ℕ) → is_queued s.buffer k ≡ false) → is_end_queued s.state ≡ true)
 
+-- the bytes in between are held
+abbrev pub IsHeld : PlainSendBuffer → (from to : ℕ) → Type 0
+IsHeld v from to = (v.start ≤ from) × (from ≤ to) × (to ≤ taken_to v)
+
 -- Bytes in between are handed out, with the end where they reach it and the stream was finished.
 pub record IsPieceOut (old new : PlainSend) (room from to : ℕ) (fin : Bool) : Type 0 where
   pub not_reset : is_reset old.state ≡ false
@@ -165,3 +173,21 @@ is_reset_queued _ = false
 -- nothing was sent of what wasn't taken
 abbrev pub IsSentAsTaken : PlainSendBuffer → Type 0
 IsSentAsTaken v = (k : ℕ) → taken_to v ≤ k → mark_at v k ≡ None
+
+-- a RESET_STREAM frame is still to be acknowledged
+abbrev pub owes_reset : SendState → Bool
+owes_reset (ResetSent code Acked) = false
+owes_reset (ResetSent code mark) = true
+owes_reset other = false
+
+-- the bytes that a half holds to send: none after a reset
+abbrev pub held : PlainSend → ℕ
+held h = if is_reset h.state then 0 else length h.buffer.bytes
+
+-- bytes, an end or a reset wait to be sent
+abbrev pub Waits : PlainSend → Type 0
+Waits h = IsPending h ⊎ (is_reset_queued h.state ≡ true)
+
+-- it takes bytes, and its limit permits some
+abbrev pub is_writable : PlainSend → Bool
+is_writable s = is_ready s.state && nat_lt (taken_to s.buffer) s.max_data

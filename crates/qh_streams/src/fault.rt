@@ -1,4 +1,4 @@
-use qh_base::VarInt;
+use qh_base::{TransportError, VarInt};
 use std::alloc::AllocError;
 use thiserror::Error;
 
@@ -56,6 +56,17 @@ pub enum ReadFault {
     #[error("reset by the peer")]
     Reset(VarInt),
     /// The allocator had no memory. Nothing was given.
+    #[error("out of memory")]
+    Memory,
+}
+
+/// Why a frame of the peer's is refused.
+#[derive(Debug, PartialEq, Eq, Drop, Error)]
+pub enum StreamFault {
+    /// The frame is at fault: the connection ends with this error.
+    #[error("the peer is at fault")]
+    Transport(TransportError),
+    /// The allocator had no memory. Nothing changed.
     #[error("out of memory")]
     Memory,
 }

@@ -1,6 +1,9 @@
 ghost use Rattle.std.specs.Prelude.{◌≡◌, ◌⊎◌, ℕ, Bool, ◌+◌, ◌-◌, ◌<◌, ◌≤◌, ◌^◌, ◌==◌, min, length, Option, Some, None, true, false, OnOk, OnErr, IfOk, IfErr, IfSome, MatchOption, if◌then◌else◌};
 ghost use Rattle.qh_buffers.specs.Assembler.{end_of, IsInserted};
-ghost use Rattle.qh_streams.specs.Recv.{new_recv, ingest_fault, contradicts, readable_fault, with_order, with_size, keeps_bytes, IsRead, IsReadAnswer, WaitsForMore, IsStopped, with_reset_given, limit_of, final_size, reset_code, bytes_read, IsIngested, IsResetBy, is_closed, is_at_end, is_done, is_limit_due};
+ghost use Rattle.qh_streams.specs.Recv.{new_recv, ingest_fault, contradicts, readable_fault, with_order, with_size, keeps_bytes, IsRead, IsReadAnswer, WaitsForMore, IsStopped, with_reset_given, limit_of, final_size, reset_code, bytes_read, IsIngested, IsResetBy, is_closed, is_at_end, is_done, is_limit_due, counted, owes_limit, owes_stop, is_stop_due, is_frame_due, wants_more, acked_stop, lost_stop, new_stop};
+ghost use Rattle.std.specs.Option.{option_map};
+ghost use Rattle.qh_streams.specs.Send.{lost_mark};
+ghost use Rattle.qh_buffers.specs.declared.send_buffer.Mark.TheVariants.{Sent, Queued, Acked};
 ghost use Rattle.qh_streams.specs.declared.recv.IngestFault.TheVariants.{Memory as Wanting};
 ghost use Rattle.qh_streams.specs.declared.recv.RecvState.TheVariants.{ResetRecvd};
 
@@ -10,7 +13,7 @@ mod tests;
 use crate::{ClosedStream, ReadFault, ReadableFault};
 use bytes::Bytes;
 use qh_base::{Memory, VarInt};
-use qh_buffers::{Assembler, Chunk};
+use qh_buffers::{Assembler, Chunk, Mark};
 use std::alloc::Global;
 use std::marker::Model;
 
@@ -102,6 +105,15 @@ impl From<Memory> for ReadFault {
     }
 }
 
+/// The STOP_SENDING frame of a stream (RFC 9000, section 19.5).
+#[derive(Clone, Copy, Debug, PartialEq, Eq)]
+pub struct StopFrame {
+    /// The application's code.
+    pub code: VarInt,
+    /// What was done with it.
+    pub mark: Mark,
+}
+
 /// The receiving half of a stream.
 #[derive(Drop)]
 pub struct Recv {
@@ -112,6 +124,8 @@ pub struct Recv {
     is_stopped: bool,
     is_given: bool,
     is_unordered: bool,
+    limit_mark: Mark,
+    stop_frame: Option<StopFrame>,
 }
 
 impl Model for Recv {
@@ -119,11 +133,11 @@ impl Model for Recv {
 
     ghost Value = { PlainRecv };
 
-    ghost view = { λ r. record { assembler = r.assembler; end = r.end; sent_max_stream_data = r.sent_max_stream_data; state = r.state; is_stopped = r.is_stopped; is_given = r.is_given; is_unordered = r.is_unordered } };
+    ghost view = { λ r. record { assembler = r.assembler; end = r.end; sent_max_stream_data = r.sent_max_stream_data; state = r.state; is_stopped = r.is_stopped; is_given = r.is_given; is_unordered = r.is_unordered; limit_mark = r.limit_mark; stop_frame = r.stop_frame } };
 
     ghost use Rattle.qh_streams.specs.Recv.{IsRecv};
 
-    ghost invariant = { λ r. IsRecv (record { assembler = r.assembler; end = r.end; sent_max_stream_data = r.sent_max_stream_data; state = r.state; is_stopped = r.is_stopped; is_given = r.is_given; is_unordered = r.is_unordered }) };
+    ghost invariant = { λ r. IsRecv (record { assembler = r.assembler; end = r.end; sent_max_stream_data = r.sent_max_stream_data; state = r.state; is_stopped = r.is_stopped; is_given = r.is_given; is_unordered = r.is_unordered; limit_mark = r.limit_mark; stop_frame = r.stop_frame }) };
 }
 
 impl Recv {
@@ -139,6 +153,8 @@ impl Recv {
             is_stopped: false,
             is_given: false,
             is_unordered: false,
+            limit_mark: Mark::Acked,
+            stop_frame: None,
         }
     }
 
@@ -228,18 +244,18 @@ impl Recv {
         Ok(None)
     }
 
-    /// No more bytes are wanted. Answers whether the peer is to be told, and how many bytes came that no read gave.
-    pub fn stop(&mut self) -> Result<(bool, u64), ClosedStream>
-        ensures ok { IfOk result (λ (told : Bool × ℕ). IsStopped self.old self.new told.0 told.1) }
+    /// No more bytes are wanted: what waits is dropped. Where the final size isn't known the peer is to be told, with this code.
+    pub fn stop(&mut self, code: VarInt) -> Result<(), ClosedStream>
+        ensures ok { OnOk result (IsStopped self.old self.new code) }
         ensures fault { OnErr result ((is_closed self.old ≡ true) × (self.new ≡ self.old)) }
     {
         if self.is_closed() {
             return Err(ClosedStream);
         }
-        let dropped = self.end - self.assembler.bytes_read();
         self.assembler.clear();
         self.is_stopped = true;
-        Ok((self.state.final_size().is_none(), dropped))
+        self.stop_frame = stop_frame(self.state, code);
+        Ok(())
     }
 
     /// The code of the peer's reset, where one came. It counts as given then.
@@ -269,23 +285,157 @@ impl Recv {
         self.assembler.bytes_read()
     }
 
-    /// The stream's limit that is to be announced, where it rose over the last one: the bytes that were read and the window, at
-    /// most 2^62 - 1. It counts as announced then.
-    pub fn max_stream_data(&mut self, window: u64) -> Option<u64>
-        ensures some { IfSome result (λ limit. (limit ≡ limit_of self.old window) × (is_limit_due self.old limit ≡ true) × (self.new ≡ record self.old { sent_max_stream_data = limit })) }
-        ensures none { result ≡ None → (is_limit_due self.old (limit_of self.old window) ≡ false) × (self.new ≡ self.old) }
+    /// How many bytes count as read for the connection's limit: those that reads gave, and after a stop or a reset all that
+    /// came.
+    pub fn counted(&self) -> u64
+        ensures counted { result ≡ counted self.now }
+        ensures within { result ≤ self.now.end }
+    {
+        if self.keeps_bytes() {
+            return self.assembler.bytes_read();
+        }
+        self.end
+    }
+
+    /// It was stopped.
+    pub fn is_stopped(&self) -> bool
+        ensures { result ≡ self.now.is_stopped }
+    {
+        self.is_stopped
+    }
+
+    /// The stream's limit that is to be announced, where it rose over the last one or a frame with the last one is lost: the
+    /// bytes that were read and the window, at most 2^62 - 1, and not less than was announced. It counts as announced then.
+    pub fn max_stream_data(&mut self, window: u64) -> Option<VarInt>
+        ensures some { IfSome result (λ limit. (limit ≡ limit_of self.old window) × (is_limit_due self.old window ≡ true) × (self.new ≡ record self.old { sent_max_stream_data = limit; limit_mark = Sent })) }
+        ensures none { result ≡ None → (is_limit_due self.old window ≡ false) × (self.new ≡ self.old) }
+    {
+        if !self.is_limit_due(window) {
+            return None;
+        }
+        let limit = self.limit(window);
+        self.sent_max_stream_data = limit;
+        self.limit_mark = Mark::Sent;
+        VarInt::from_u64(limit)
+    }
+
+    /// A MAX_STREAM_DATA frame with this limit is acknowledged.
+    pub fn ack_max_stream_data(&mut self, limit: VarInt)
+        ensures { self.new ≡ record self.old { limit_mark = (if limit == self.old.sent_max_stream_data then Acked else self.old.limit_mark) } }
+    {
+        let is_last = limit.into_inner() == self.sent_max_stream_data;
+        self.limit_mark = if is_last {
+            Mark::Acked
+        } else {
+            self.limit_mark
+        };
+    }
+
+    /// A MAX_STREAM_DATA frame with this limit is lost: where none with a greater one was sent, it waits again.
+    pub fn lose_max_stream_data(&mut self, limit: VarInt)
+        ensures { self.new ≡ record self.old { limit_mark = (if limit == self.old.sent_max_stream_data then lost_mark self.old.limit_mark else self.old.limit_mark) } }
+    {
+        let is_last = limit.into_inner() == self.sent_max_stream_data;
+        self.limit_mark = if is_last {
+            lost(self.limit_mark)
+        } else {
+            self.limit_mark
+        };
+    }
+
+    /// Whether a MAX_STREAM_DATA frame with this limit is still to be acknowledged: it is the last one, and more bytes are
+    /// wanted.
+    pub fn owes_max_stream_data(&self, limit: VarInt) -> bool
+        ensures { result ≡ owes_limit self.now limit }
+    {
+        self.wants_more()
+            && limit.into_inner() == self.sent_max_stream_data
+            && self.limit_mark != Mark::Acked
+    }
+
+    /// The code of the STOP_SENDING frame that is to be sent; None where none waits. It counts as sent.
+    pub fn take_stop_frame(&mut self) -> Option<VarInt>
+        ensures some { IfSome result (λ code. (is_stop_due self.old ≡ true) × (self.old.stop_frame ≡ Some (record { code = code; mark = Queued })) × (self.new ≡ record self.old { stop_frame = Some (record { code = code; mark = Sent }) })) }
+        ensures none { result ≡ None → (is_stop_due self.old ≡ false) × (self.new ≡ self.old) }
+    {
+        if !self.is_stop_due() {
+            return None;
+        }
+        let code = self.stop_frame?.code;
+        self.stop_frame = Some(StopFrame {
+            code,
+            mark: Mark::Sent,
+        });
+        Some(code)
+    }
+
+    /// The STOP_SENDING frame is acknowledged.
+    pub fn ack_stop(&mut self)
+        ensures { self.new ≡ record self.old { stop_frame = option_map acked_stop self.old.stop_frame } }
+    {
+        self.stop_frame = self.stop_frame.map(StopFrame::acked);
+    }
+
+    /// The STOP_SENDING frame is lost: where it isn't acknowledged it waits again.
+    pub fn lose_stop(&mut self)
+        ensures { self.new ≡ record self.old { stop_frame = option_map lost_stop self.old.stop_frame } }
+    {
+        self.stop_frame = self.stop_frame.map(StopFrame::lost);
+    }
+
+    /// Whether the STOP_SENDING frame is still to be acknowledged: the final size isn't known yet.
+    pub fn owes_stop(&self) -> bool
+        ensures { result ≡ owes_stop self.now }
+    {
+        match self.stop_frame {
+            Some(frame) => self.state.final_size().is_none() && frame.mark != Mark::Acked,
+            None => false,
+        }
+    }
+
+    /// Whether a STOP_SENDING or a MAX_STREAM_DATA frame waits to be sent.
+    pub fn is_frame_due(&self, window: u64) -> bool
+        ensures { result ≡ is_frame_due self.now window }
+    {
+        self.is_stop_due() || self.is_limit_due(window)
+    }
+
+    /// A STOP_SENDING frame waits to be sent.
+    fn is_stop_due(&self) -> bool
+        ensures { result ≡ is_stop_due self.now }
+    {
+        match self.stop_frame {
+            Some(frame) => self.state.final_size().is_none() && frame.mark == Mark::Queued,
+            None => false,
+        }
+    }
+
+    /// The limit that the bytes read and the window make, at least the one that was announced.
+    fn limit(&self, window: u64) -> u64
+        ensures { result ≡ limit_of self.now window }
     {
         let read = self.assembler.bytes_read();
         let limit = read.saturating_add(window).min(VarInt::MAX_VALUE);
-        if !self.is_limit_due(limit) {
-            return None;
-        }
-        self.sent_max_stream_data = limit;
-        Some(limit)
+        limit.max(self.sent_max_stream_data)
+    }
+
+    /// More bytes are wanted: it wasn't stopped, and the final size isn't known.
+    fn wants_more(&self) -> bool
+        ensures { result ≡ wants_more self.now }
+    {
+        !self.is_stopped && self.state.final_size().is_none()
+    }
+
+    /// Whether the stream's limit is to be announced.
+    pub fn is_limit_due(&self, window: u64) -> bool
+        ensures { result ≡ is_limit_due self.now window }
+    {
+        self.wants_more()
+            && (self.limit_mark == Mark::Queued || self.sent_max_stream_data < self.limit(window))
     }
 
     /// Reads are refused: it was stopped, or its end or its reset was given.
-    fn is_closed(&self) -> bool
+    pub fn is_closed(&self) -> bool
         ensures { result ≡ is_closed self.now }
     {
         self.is_stopped || self.is_given
@@ -368,12 +518,48 @@ impl Recv {
             _ => false,
         }
     }
+}
 
-    /// The limit is to be announced.
-    fn is_limit_due(&self, limit: u64) -> bool
-        ensures { result ≡ is_limit_due self.now limit }
+impl StopFrame {
+    fn acked(self) -> StopFrame
+        ensures { result ≡ acked_stop self }
     {
-        !self.is_stopped && self.state.final_size().is_none() && self.sent_max_stream_data < limit
+        StopFrame {
+            code: self.code,
+            mark: Mark::Acked,
+        }
+    }
+
+    fn lost(self) -> StopFrame
+        ensures { result ≡ lost_stop self }
+    {
+        StopFrame {
+            code: self.code,
+            mark: lost(self.mark),
+        }
+    }
+}
+
+/// The mark of what is lost.
+pub(crate) fn lost(mark: Mark) -> Mark
+    ensures { result ≡ lost_mark mark }
+{
+    match mark {
+        Mark::Sent => Mark::Queued,
+        other => other,
+    }
+}
+
+/// The STOP_SENDING frame of a stream that is stopped in this state, where the peer is to be told.
+fn stop_frame(state: RecvState, code: VarInt) -> Option<StopFrame>
+    ensures { result ≡ new_stop state code }
+{
+    match state {
+        RecvState::Recv(None) => Some(StopFrame {
+            code,
+            mark: Mark::Queued,
+        }),
+        _ => None,
     }
 }
 

@@ -1,15 +1,16 @@
-ghost use Rattle.std.specs.Prelude.{◌≡◌, ◌⊎◌, ℕ, pos, ◌+◌, ◌<◌, ◌≤◌, ◌^◌, ◌++◌, ◌==◌, ◌↔◌, min, max as max_of, List, length, take, Option, Some, None, true, false, OnOk, OnErr, IfOk, IfErr, MatchOption, MatchResult, drop, IfSome, IsTrue, if◌then◌else◌};
+ghost use Rattle.std.specs.Prelude.{◌≡◌, ◌⊎◌, ℕ, ◌+◌, ◌<◌, ◌≤◌, ◌^◌, ◌++◌, ◌==◌, ◌↔◌, min, max as max_of, List, length, take, Option, Some, None, true, false, OnOk, OnErr, IfOk, IfErr, MatchOption, MatchResult, drop, IfSome, IsTrue, if◌then◌else◌};
 ghost use Rattle.std.specs.List.{concat};
-ghost use Rattle.qh_buffers.specs.SendBuffer.{empty_buffer, taken_to, is_queued, IsSpan};
+ghost use Rattle.qh_buffers.specs.SendBuffer.{taken_to, is_queued, bytes_between, IsSpan};
 ghost use Rattle.qh_streams.specs.declared.fault.WriteFault.TheVariants.{Memory as Wanting};
 ghost use Rattle.qh_streams.specs.declared.send.SendState.TheVariants.{Ready, DataSent, ResetSent};
 ghost use Rattle.qh_buffers.specs.declared.send_buffer.Mark.TheVariants.{Sent, Queued, Acked};
-ghost use Rattle.qh_streams.specs.Send.{PlainSend, is_done, is_ready, is_finished, is_end_queued, is_end_acked, is_reset_refused, credit, write_fault, with_bytes, finish_fault, is_reset, is_reset_queued, IsPending, IsPieceOut, IsEndOut, IsPieceAcked, IsPieceQueued, IsSettled, with_end_sent, with_end_acked, with_end_lost, with_reset_mark, with_reset_lost, lost_mark, chunks_after, whole_chunks};
+ghost use Rattle.qh_streams.specs.Send.{PlainSend, is_done, is_ready, is_finished, is_end_queued, is_end_acked, is_reset_refused, credit, write_fault, with_bytes, finish_fault, is_reset, is_reset_queued, IsPending, IsPieceOut, IsEndOut, IsPieceAcked, IsPieceQueued, IsSettled, with_end_sent, with_end_acked, with_end_lost, with_reset_mark, with_reset_lost, lost_mark, chunks_after, whole_chunks, new_send, owes_reset, held, Waits, is_writable, IsHeld};
 
 mod chunks;
 #[cfg(test)]
 mod tests;
 
+use crate::recv::lost;
 use crate::{ClosedStream, FinishFault, WriteFault};
 use bytes::Bytes;
 use qh_base::{Memory, VarInt};
@@ -27,16 +28,6 @@ pub enum SendState {
     DataSent(Mark),
     /// It was reset, with this code. The mark is that of the RESET_STREAM frame.
     ResetSent(VarInt, Mark),
-}
-
-// The mark of what is lost.
-fn lost(mark: Mark) -> Mark
-    ensures { result ≡ lost_mark mark }
-{
-    match mark {
-        Mark::Sent => Mark::Queued,
-        other => other,
-    }
 }
 
 impl SendState {
@@ -190,7 +181,7 @@ pub struct ResetFrame {
     /// The application's code.
     pub code: VarInt,
     /// How many bytes were taken of the stream.
-    pub final_size: u64,
+    pub final_size: VarInt,
 }
 
 /// The sending half of a stream.
@@ -221,7 +212,7 @@ impl Model for Send {
 impl Send {
     /// A half that takes bytes up to the peer's limit.
     pub fn new(alloc: Global, max_data: VarInt) -> Send
-        ensures { result ≡ record { buffer = empty_buffer; max_data = max_data; state = Ready; stop_reason = None; priority = pos 0 } }
+        ensures { result ≡ new_send max_data }
     {
         Send {
             pending: SendBuffer::new(alloc),
@@ -391,11 +382,17 @@ impl Send {
         ensures value { self.new ≡ record self.old { max_data = max_of self.old.max_data max } }
         ensures unblocked { IsTrue result ↔ (self.old.max_data < max) × (taken_to self.old.buffer ≡ self.old.max_data) × (self.old.state ≡ Ready) }
     {
-        let max = max.into_inner();
-        let is_blocked = self.pending.offset() == self.max_data && self.state.is_ready();
-        let is_unblocked = is_blocked && self.max_data < max;
-        self.max_data = self.max_data.max(max);
+        let is_unblocked = self.is_unblocked_by(max);
+        self.max_data = self.max_data.max(max.into_inner());
         is_unblocked
+    }
+
+    /// Whether this limit of the peer permits bytes again that the one before forbade.
+    pub fn is_unblocked_by(&self, max: VarInt) -> bool
+        ensures { IsTrue result ↔ (self.now.max_data < max) × (taken_to self.now.buffer ≡ self.now.max_data) × (self.now.state ≡ Ready) }
+    {
+        let is_blocked = self.pending.offset() == self.max_data && self.state.is_ready();
+        is_blocked && self.max_data < max.into_inner()
     }
 
     /// What is to be sent next, at most so many bytes; None where nothing waits. It counts as sent. Bytes come first, and the
@@ -405,6 +402,8 @@ impl Send {
         ensures none { IfOk result (λ o. o ≡ None → (self.new ≡ self.old) × (IsPending self.old → ⊥)) }
         ensures some { IfOk result (λ o. MatchOption o (Unit {0}) (λ out. IsPieceOut self.old self.new max_len out.offsets.start out.offsets.end out.fin
             ⊎ IsEndOut self.old self.new out.offsets.start out.offsets.end out.fin)) }
+        ensures bound { IfOk result (λ o. IfSome o (λ out. out.offsets.end < 2 ^ 62)) }
+        ensures held { IfOk result (λ o. IfSome o (λ out. IsHeld self.new.buffer out.offsets.start out.offsets.end)) }
         ensures err { OnErr result (self.new ≡ self.old) }
     {
         if self.state.is_reset() {
@@ -475,6 +474,15 @@ impl Send {
         self.pending.owes(frame.offsets.start..frame.offsets.end)
     }
 
+    /// Appends the bytes at these offsets, which must be held.
+    pub fn put(&self, offsets: Range<u64>, out: &mut Vec<u8>) -> Result<(), Memory>
+        requires { IsHeld self.now.buffer offsets.start offsets.end }
+        ensures ok { OnOk result (out.new.items ≡ out.old.items ++ bytes_between self.now.buffer offsets.start offsets.end) }
+        ensures err { OnErr result (out.new.items ≡ out.old.items) }
+    {
+        self.pending.put(offsets, out)
+    }
+
     /// Whether a byte or the end waits to be sent.
     pub fn is_pending(&self) -> bool
         ensures some { result ≡ true → IsPending self.now }
@@ -496,6 +504,13 @@ impl Send {
         Ok(self.priority)
     }
 
+    /// The priority, whether the half is done or not.
+    pub fn rank(&self) -> i32
+        ensures { result ≡ self.now.priority }
+    {
+        self.priority
+    }
+
     /// Sets the priority among the streams that wait to be sent. ClosedStream where the half is done.
     pub fn set_priority(&mut self, priority: i32) -> Result<(), ClosedStream>
         ensures ok { OnOk result ((is_done self.old ≡ false) × (self.new ≡ record self.old { priority = priority })) }
@@ -514,7 +529,7 @@ impl Send {
         ensures none { result ≡ None → (is_reset_queued self.old.state ≡ false) × (self.new ≡ self.old) }
     {
         let code = self.state.queued_reset()?;
-        let final_size = self.pending.offset();
+        let final_size = VarInt::from_u64(self.pending.offset()).unwrap();
         self.state = self.state.with_reset_mark(Mark::Sent);
         Some(ResetFrame { code, final_size })
     }
@@ -531,5 +546,41 @@ impl Send {
         ensures { self.new ≡ record self.old { state = with_reset_lost self.old.state } }
     {
         self.state = self.state.with_reset_lost();
+    }
+
+    /// Whether a RESET_STREAM frame is still to be acknowledged.
+    pub fn owes_reset(&self) -> bool
+        ensures { result ≡ owes_reset self.now.state }
+    {
+        match self.state {
+            SendState::ResetSent(_, Mark::Acked) => false,
+            SendState::ResetSent(..) => true,
+            _ => false,
+        }
+    }
+
+    /// How many bytes it holds to send: none after a reset.
+    pub fn held(&self) -> u64
+        ensures { result ≡ held self.now }
+    {
+        if self.state.is_reset() {
+            return 0;
+        }
+        self.pending.unacked()
+    }
+
+    /// Whether bytes, the end or a reset wait to be sent.
+    pub fn waits(&self) -> bool
+        ensures some { result ≡ true → Waits self.now }
+        ensures none { result ≡ false → Waits self.now → ⊥ }
+    {
+        self.state.queued_reset().is_some() || self.is_pending()
+    }
+
+    /// Whether it takes bytes and its limit permits some.
+    pub fn is_writable(&self) -> bool
+        ensures { result ≡ is_writable self.now }
+    {
+        self.state.is_ready() && self.pending.offset() < self.max_data
     }
 }

@@ -24,11 +24,30 @@ enum Step {
     // A read gives the reset with this code.
     Refused(u32),
     // It is stopped.
-    Stop(Result<(bool, u64), ClosedStream>),
+    Stop(Result<(), ClosedStream>),
     // The limit that a window makes is asked for.
     Limit(u64, Option<u64>),
     // How many bytes were given, and whether it is done.
     Is(u64, bool),
+    // A frame that it has to send.
+    Control(ControlStep),
+}
+
+// What happens to the frames that a receiving half has to send, and what it has to answer.
+#[derive(Clone, Copy)]
+enum ControlStep {
+    // A frame waits, where the window is this one.
+    Due(u64, bool),
+    // MAX_STREAM_DATA with this limit is acknowledged, or lost, or still to be acknowledged.
+    LimitAcked(u32),
+    LimitLost(u32),
+    OwesLimit(u32, bool),
+    // The code of the STOP_SENDING frame that is to be sent.
+    StopFrame(Option<u32>),
+    // STOP_SENDING is acknowledged, or lost, or still to be acknowledged.
+    StopAcked,
+    StopLost,
+    OwesStop(bool),
 }
 
 fn comes(
@@ -73,6 +92,23 @@ fn lacks(rt: &impl Abort, recv: &mut Recv, fault: ReadFault) {
     assert_eq!(rt; reads(rt, recv, 4).err(), Some(fault));
 }
 
+fn controls(rt: &impl Abort, recv: &mut Recv, step: ControlStep) {
+    match step {
+        ControlStep::Due(window, answer) => assert_eq!(rt; recv.is_frame_due(window), answer),
+        ControlStep::LimitAcked(limit) => recv.ack_max_stream_data(VarInt::from_u32(limit)),
+        ControlStep::LimitLost(limit) => recv.lose_max_stream_data(VarInt::from_u32(limit)),
+        ControlStep::OwesLimit(limit, answer) => {
+            assert_eq!(rt; recv.owes_max_stream_data(VarInt::from_u32(limit)), answer);
+        }
+        ControlStep::StopFrame(answer) => {
+            assert_eq!(rt; recv.take_stop_frame(), answer.map(VarInt::from_u32));
+        }
+        ControlStep::StopAcked => recv.ack_stop(),
+        ControlStep::StopLost => recv.lose_stop(),
+        ControlStep::OwesStop(answer) => assert_eq!(rt; recv.owes_stop(), answer),
+    }
+}
+
 fn act(rt: &impl Abort, recv: &mut Recv, step: Step) -> Result<(), ReadFault> {
     match step {
         Step::Piece(offset, text, fin, answer) => {
@@ -92,12 +128,16 @@ fn act(rt: &impl Abort, recv: &mut Recv, step: Step) -> Result<(), ReadFault> {
         Step::End => assert!(rt; reads(rt, recv, 4)?.is_none()),
         Step::Blocked => lacks(rt, recv, ReadFault::Blocked),
         Step::Refused(code) => lacks(rt, recv, ReadFault::Reset(VarInt::from_u32(code))),
-        Step::Stop(answer) => assert_eq!(rt; recv.stop(), answer),
-        Step::Limit(window, answer) => assert_eq!(rt; recv.max_stream_data(window), answer),
+        Step::Stop(answer) => assert_eq!(rt; recv.stop(VarInt::from_u32(7)), answer),
+        Step::Limit(window, answer) => {
+            let limit = recv.max_stream_data(window).map(VarInt::into_inner);
+            assert_eq!(rt; limit, answer);
+        },
         Step::Is(read, is_done) => {
             assert_eq!(rt; recv.bytes_read(), read);
             assert_eq!(rt; recv.is_done(), is_done);
         }
+        Step::Control(step) => controls(rt, recv, step),
     }
     Ok(())
 }
@@ -180,7 +220,7 @@ const UNORDERED: &[Step] = &[
 
 const STOPPED: &[Step] = &[
     Step::Piece(3, b"def", false, Ok(6)),
-    Step::Stop(Ok((true, 6))),
+    Step::Stop(Ok(())),
     Step::Limit(9, None),
     Step::Piece(7, b"h", false, Ok(2)),
     Step::Piece(0, b"abc", false, Ok(0)),
@@ -194,8 +234,72 @@ const STOPPED: &[Step] = &[
 const STOPPED_LATE: &[Step] = &[
     Step::Piece(0, b"abc", true, Ok(3)),
     Step::Begin(true, Ok(())),
-    Step::Stop(Ok((false, 3))),
+    Step::Stop(Ok(())),
+    Step::Control(ControlStep::StopFrame(None)),
     Step::Is(0, true),
+];
+
+const LIMIT_LOST: &[Step] = &[
+    Step::Piece(0, b"abc", false, Ok(3)),
+    Step::Begin(true, Ok(())),
+    Step::Control(ControlStep::OwesLimit(8, false)),
+    Step::Control(ControlStep::Due(8, false)),
+    Step::Give(0, b"abc"),
+    Step::Control(ControlStep::Due(8, true)),
+    Step::Limit(8, Some(11)),
+    Step::Control(ControlStep::OwesLimit(11, true)),
+    Step::Control(ControlStep::Due(8, false)),
+    Step::Control(ControlStep::LimitLost(11)),
+    Step::Control(ControlStep::Due(8, true)),
+    Step::Limit(8, Some(11)),
+    Step::Control(ControlStep::LimitAcked(11)),
+    Step::Control(ControlStep::OwesLimit(11, false)),
+    Step::Control(ControlStep::LimitLost(11)),
+    Step::Limit(8, None),
+];
+
+const OLD_LIMIT_LOST: &[Step] = &[
+    Step::Limit(9, Some(9)),
+    Step::Limit(10, Some(10)),
+    Step::Control(ControlStep::LimitLost(9)),
+    Step::Control(ControlStep::Due(10, false)),
+    Step::Control(ControlStep::OwesLimit(9, false)),
+    Step::Control(ControlStep::LimitAcked(9)),
+    Step::Control(ControlStep::OwesLimit(10, true)),
+    Step::Control(ControlStep::LimitLost(10)),
+    Step::Piece(0, b"abc", true, Ok(3)),
+    Step::Control(ControlStep::Due(10, false)),
+    Step::Control(ControlStep::OwesLimit(10, false)),
+    Step::Limit(10, None),
+];
+
+const STOP_LOST: &[Step] = &[
+    Step::Piece(0, b"abc", false, Ok(3)),
+    Step::Control(ControlStep::StopFrame(None)),
+    Step::Control(ControlStep::OwesStop(false)),
+    Step::Stop(Ok(())),
+    Step::Control(ControlStep::Due(8, true)),
+    Step::Control(ControlStep::StopFrame(Some(7))),
+    Step::Control(ControlStep::StopFrame(None)),
+    Step::Control(ControlStep::OwesStop(true)),
+    Step::Control(ControlStep::StopLost),
+    Step::Control(ControlStep::StopFrame(Some(7))),
+    Step::Control(ControlStep::StopAcked),
+    Step::Control(ControlStep::OwesStop(false)),
+    Step::Control(ControlStep::StopLost),
+    Step::Control(ControlStep::Due(8, false)),
+    Step::Control(ControlStep::StopFrame(None)),
+];
+
+const STOP_OF_NO_USE: &[Step] = &[
+    Step::Stop(Ok(())),
+    Step::Control(ControlStep::StopFrame(Some(7))),
+    Step::Control(ControlStep::OwesStop(true)),
+    Step::Piece(3, b"", true, Ok(3)),
+    Step::Control(ControlStep::OwesStop(false)),
+    Step::Control(ControlStep::StopLost),
+    Step::Control(ControlStep::Due(8, false)),
+    Step::Control(ControlStep::StopFrame(None)),
 ];
 
 #[test]
@@ -208,6 +312,10 @@ fn it_gives_what_came(rt: HostRuntime) -> Result<(), Fail> {
         UNORDERED,
         STOPPED,
         STOPPED_LATE,
+        LIMIT_LOST,
+        OLD_LIMIT_LOST,
+        STOP_LOST,
+        STOP_OF_NO_USE,
     ] {
         let mut recv = Recv::new(rt.alloc(), VarInt::from_u32(WINDOW));
         for step in steps {

@@ -201,7 +201,7 @@ fn resets(rt: &impl Abort, alloc: Global, half: &mut Send) {
 fn sends_its_reset(rt: &impl Abort, half: &mut Send) {
     let frame = ResetFrame {
         code: code(),
-        final_size: 5,
+        final_size: VarInt::from_u32(5),
     };
     assert_eq!(rt; half.reset_frame(), Some(frame));
     assert_eq!(rt; half.reset_frame(), None);

@@ -7,7 +7,7 @@ use Rattle.qh_streams.proofs.recv.Recv.ingest.Goals as goal
 pub invariant_of-self-2 : goal.invariant_of-self-2
 invariant_of-self-2 c =
     let s = c.self.inside in
-    let r : PlainRecv = record { assembler = s.assembler; end = s.end; sent_max_stream_data = s.sent_max_stream_data; state = s.state; is_stopped = s.is_stopped; is_given = s.is_given; is_unordered = s.is_unordered } in
+    let r : PlainRecv = record { assembler = s.assembler; end = s.end; sent_max_stream_data = s.sent_max_stream_data; state = s.state; is_stopped = s.is_stopped; is_given = s.is_given; is_unordered = s.is_unordered; limit_mark = s.limit_mark; stop_frame = s.stop_frame } in
     let to = c.end_of-to.result in
     let fault : c.ingest_fault.result ≡ ingest_fault r to c.args.fin c.args.received c.args.max_data =
     c.ingest_fault.ensures ∙ ap (λ (x : PlainRecv). ingest_fault x to c.args.fin c.args.received c.args.max_data) (sym c.self.view_is) in

@@ -1,0 +1,6 @@
+use Rattle.std.proofs.Common.{refl}
+use Rattle.qh_streams.proofs.StreamsKept.{by_result, send_kept, send_step, send_same}
+use Rattle.qh_streams.proofs.streams.Streams.reset.Goals as goal
+
+pub invariant_of-self : goal.invariant_of-self
+invariant_of-self c = send_kept c.self.invariant (by_result c.reset.result (λ _ e. send_step (rw e at c.reset.ensures.ok)) (λ _ e. send_same (rw e at c.reset.ensures.fault).1)) refl
