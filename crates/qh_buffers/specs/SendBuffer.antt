@@ -38,6 +38,11 @@ mark_in (p ∷ ps) k = if nat_lt k p.end then Some p.mark else mark_in ps k
 abbrev pub mark_at : PlainSendBuffer → ℕ → Option Mark
 mark_at v k = if nat_lt k v.start then Some Acked else mark_in v.pieces k
 
+-- the mark of what is lost: what was sent waits again, where it isn't acknowledged
+abbrev pub lost_mark : Mark → Mark
+lost_mark Sent = Queued
+lost_mark other = other
+
 abbrev pub is_acked_mark : Option Mark → Bool
 is_acked_mark (Some Acked) = true
 is_acked_mark _ = false

@@ -1,5 +1,5 @@
 ghost use Rattle.std.specs.Prelude.{◌≡◌, ◌⊎◌, ℕ, ◌+◌, ◌<◌, ◌≤◌, ◌^◌, ◌++◌, ◌==◌, List, length, Option, Some, None, true, false, OnOk, OnErr, IfOk, MatchOption};
-ghost use Rattle.qh_buffers.specs.SendBuffer.{PlainSendBuffer, empty_buffer, taken_to, sent_to, is_acked, is_queued, bytes_between, IsSpan, IsHandedOut, IsQueuedAgain, IsAcknowledged};
+ghost use Rattle.qh_buffers.specs.SendBuffer.{PlainSendBuffer, empty_buffer, taken_to, sent_to, is_acked, is_queued, lost_mark, bytes_between, IsSpan, IsHandedOut, IsQueuedAgain, IsAcknowledged};
 ghost use Rattle.qh_buffers.specs.SendState.{marked, first_queued};
 
 mod pieces;
@@ -34,6 +34,16 @@ impl Mark {
         match self {
             Mark::Acked => Mark::Acked,
             _ => to,
+        }
+    }
+
+    /// The mark of what is lost: what was sent is to be sent again, where it isn't acknowledged.
+    pub fn lost(self) -> Mark
+        ensures { result ≡ lost_mark self }
+    {
+        match self {
+            Mark::Sent => Mark::Queued,
+            other => other,
         }
     }
 }
