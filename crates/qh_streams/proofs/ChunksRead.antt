@@ -2,12 +2,12 @@
 use Rattle.std.proofs.Common.{◌≡◌, ℕ, Bool, true, false, ◌&&◌, ◌||◌, Option, Some, None, is_some, unwrap_or, Result, Ok, Err, refl, sym, ap, ap₂, ◌∙◌, ◌==◌, if◌then◌else◌}
 use Rattle.std.proofs.lemmas.Bool.{eq-eqb, or_parts}
 use Rattle.qh_buffers.specs.declared.assembler.Chunk.{Chunk}
-use Rattle.qh_streams.specs.declared.fault.ReadFault.{ReadFault}
+use Rattle.qh_half.specs.declared.fault.ReadFault.{ReadFault}
 use Rattle.qh_streams.specs.declared.halves.ChunksState.{ChunksState}
 use Rattle.qh_streams.specs.declared.halves.ChunksState.TheVariants.{Readable, Finished, Reset}
 use Rattle.qh_streams.specs.Halves.{IsChunk, finished, was_reset, last_answer, state_after}
-use Rattle.qh_streams.specs.Recv.{PlainRecv, IsReadAnswer, bytes, nothing, end, reset, blocked, memory, is_closed, is_done, final_size}
-use Rattle.qh_streams.specs.RecvHalves.{PlainRecvHalves, IsRecvStep, Reads, half_is_closed, unless_done, is_closed_at, recv_at}
+use Rattle.qh_half.specs.Recv.{PlainRecv, IsReadAnswer, bytes, nothing, end, reset, blocked, memory, is_closed, is_done, final_size}
+use Rattle.qh_halves.specs.RecvHalves.{PlainRecvHalves, IsRecvStep, Reads, half_is_closed, unless_done, is_closed_at, recv_at}
 use Rattle.qh_streams.specs.Streams.{PlainStreams}
 
 some_is : {X : Type 0} {x y : X} → Some x ≡ Some y → x ≡ y

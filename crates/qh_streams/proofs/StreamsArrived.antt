@@ -8,12 +8,12 @@ use Rattle.qh_spec.specs.declared.sides.Dir.{Dir}
 use Rattle.qh_spec.specs.declared.sides.Dir.TheVariants.{Bi, Uni}
 use Rattle.qh_spec.specs.StreamId.{side_bit, dir_bit}
 use Rattle.qh_streams.specs.declared.frames.StreamEvent.{StreamEvent}
-use Rattle.qh_streams.specs.declared.state.counts.StreamCounts.{StreamCounts}
-use Rattle.qh_streams.specs.Counts.{AreCounts, is_own, is_bi, index_of, is_in_range}
-use Rattle.qh_streams.specs.Send.{new_send}
-use Rattle.qh_streams.specs.SendHalves.{PlainSendHalves, send_at, AreAdded}
-use Rattle.qh_streams.specs.Recv.{new_recv}
-use Rattle.qh_streams.specs.RecvHalves.{PlainRecvHalves, recv_at, AreRecvAdded}
+use Rattle.qh_halves.specs.declared.counts.StreamCounts.{StreamCounts}
+use Rattle.qh_halves.specs.Counts.{AreCounts, is_own, is_bi, index_of, is_in_range}
+use Rattle.qh_half.specs.Send.{new_send}
+use Rattle.qh_halves.specs.SendHalves.{PlainSendHalves, send_at, AreAdded}
+use Rattle.qh_half.specs.Recv.{new_recv}
+use Rattle.qh_halves.specs.RecvHalves.{PlainRecvHalves, recv_at, AreRecvAdded}
 use Rattle.qh_streams.specs.Streams.{PlainStreams, AreStreams, AreOpened, IsWithinCount, counts_of, was_opened, is_two_way, first_limit, new_send_half, new_recv_half, arrives_with}
 use Rattle.qh_streams.proofs.StreamsOpened.{opened_is, set_here, one_are, other_are}
 use Rattle.qh_streams.proofs.StreamsKept.{both_set}

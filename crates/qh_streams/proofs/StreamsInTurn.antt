@@ -3,14 +3,14 @@ use Rattle.std.proofs.Common.{◌≡◌, ℕ, Bool, true, false, List, [], ◌�
 use Rattle.std.proofs.lemmas.Bool.{false≢true}
 use Rattle.std.proofs.lemmas.Bool.Decides.{eqb_tells}
 use Rattle.qh_spec.specs.Lists.{In}
-use Rattle.qh_streams.specs.declared.send.SendState.{SendState}
-use Rattle.qh_streams.specs.declared.send.SendState.TheVariants.{Ready, DataSent, ResetSent}
+use Rattle.qh_half.specs.declared.send.SendState.{SendState}
+use Rattle.qh_half.specs.declared.send.SendState.TheVariants.{Ready, DataSent, ResetSent}
 use Rattle.qh_streams.specs.declared.frames.SentFrame.{SentFrame}
-use Rattle.qh_streams.specs.declared.state.counts.StreamCounts.{StreamCounts}
-use Rattle.qh_streams.specs.declared.state.send_halves.Transmission.{Transmission}
-use Rattle.qh_streams.specs.declared.state.send_halves.Transmission.TheVariants.{Stream, Reset}
-use Rattle.qh_streams.specs.Send.{PlainSend, Waits, is_reset, is_end_queued}
-use Rattle.qh_streams.specs.SendHalves.{PlainSendHalves, send_at, half_priority, Gives, IsSentNext}
+use Rattle.qh_halves.specs.declared.counts.StreamCounts.{StreamCounts}
+use Rattle.qh_halves.specs.declared.send_halves.Transmission.{Transmission}
+use Rattle.qh_halves.specs.declared.send_halves.Transmission.TheVariants.{Stream, Reset}
+use Rattle.qh_half.specs.Send.{PlainSend, Waits, is_reset, is_end_queued}
+use Rattle.qh_halves.specs.SendHalves.{PlainSendHalves, send_at, half_priority, Gives, IsSentNext}
 use Rattle.qh_streams.specs.Streams.{PlainStreams, with_counts, IsHandedOver, AreWritten}
 use Rattle.qh_streams.specs.Streams.AreWritten.{none as none_written, more as more_written}
 use Rattle.qh_streams.specs.Streams.IsHandedOver.{stream as stream_handed, reset as reset_handed, stop as stop_handed, max_stream_data as max_stream_data_handed, max_data as max_data_handed, max_streams as max_streams_handed}
@@ -68,8 +68,8 @@ data Comes (old new : PlainStreams) (f : SentFrame) : Type 0 where
   of_none : sender_of f ≡ None → new.send ≡ old.send → Comes old new f
 
 comes : (old new : PlainStreams) (room : ℕ) (f : SentFrame) → IsHandedOver old new room f → Comes old new f
-comes old new room f (stream_handed id piece next rest) = of_half _ id.0 (Stream piece) refl next
-comes old new room f (reset_handed id reset next rest) = of_half _ id.0 (Reset reset) refl next
+comes old new room f (stream_handed id piece idle next rest) = of_half _ id.0 (Stream piece) refl next
+comes old new room f (reset_handed id reset idle next rest) = of_half _ id.0 (Reset reset) refl next
 comes old new room f (stop_handed id code step rest) = of_none refl (ap (λ (s : PlainStreams). s.send) rest)
 comes old new room f (max_stream_data_handed id limit step rest) = of_none refl (ap (λ (s : PlainStreams). s.send) rest)
 comes old new room f (max_data_handed limit is due rest) = of_none refl (ap (λ (s : PlainStreams). s.send) rest)
@@ -95,15 +95,15 @@ come_first old new f (of_none is same) id k e w = cc
 
 waits_before : (room : ℕ) (old new : PlainStreams) (fs : List SentFrame) (bytes : List ℕ) → AreWritten room old new fs bytes → (k : ℕ) → WaitsAt new.send k → WaitsAt old.send k
 waits_before room old new fs bytes (none_written _ _) k w = w
-waits_before room old new fs bytes (more_written _ _ mid _ f _ rest handed fits others) k w =
+waits_before room old new fs bytes (more_written _ _ mid _ f _ rest handed fits back others) k w =
     come_waits old mid f (comes old mid room f handed) k (waits_before _ mid new _ rest others k w)
 
 later_waits : (room : ℕ) (old new : PlainStreams) (fs : List SentFrame) (bytes : List ℕ) → AreWritten room old new fs bytes
     → (g : SentFrame) (k : ℕ) → In g fs → sender_of g ≡ Some k → WaitsAt old.send k
 later_waits room old new fs bytes (none_written _ _) g k there e = absurd there
-later_waits room old new fs bytes (more_written _ _ mid _ f _ rest handed fits others) g k (inl same) e =
+later_waits room old new fs bytes (more_written _ _ mid _ f _ rest handed fits back others) g k (inl same) e =
     sender_waits old mid f (comes old mid room f handed) k (ap sender_of same ∙ e)
-later_waits room old new fs bytes (more_written _ _ mid _ f _ rest handed fits others) g k (inr there) e =
+later_waits room old new fs bytes (more_written _ _ mid _ f _ rest handed fits back others) g k (inr there) e =
     come_waits old mid f (comes old mid room f handed) k (later_waits _ mid new _ rest others g k there e)
 
 not_before : (a b : PlainSendHalves) → ((k : ℕ) → half_priority (send_at a k) ≡ half_priority (send_at b k)) → (k id : ℕ) → ComesNotBefore a k id → ComesNotBefore b k id
@@ -116,7 +116,7 @@ in_turn a b same (f ∷ fs) h = (λ g id k there from to. not_before a b same k 
 
 pub written_in_turn : (room : ℕ) (old new : PlainStreams) (fs : List SentFrame) (bytes : List ℕ) → AreWritten room old new fs bytes → AreInTurn old.send fs
 written_in_turn room old new fs bytes (none_written _ _) = tt
-written_in_turn room old new fs bytes (more_written _ _ mid _ f more rest handed fits others) =
+written_in_turn room old new fs bytes (more_written _ _ mid _ f more rest handed fits back others) =
     let from = comes old mid room f handed in (
       λ g id k there from_is to_is. come_first old mid f from id k from_is (come_waits old mid f from k (later_waits _ mid new more rest others g k there to_is)),
       in_turn mid.send old.send (come_priority old mid f from) more (written_in_turn _ mid new more rest others),
@@ -124,8 +124,8 @@ written_in_turn room old new fs bytes (more_written _ _ mid _ f more rest handed
 
 pub none_passed : (room : ℕ) (old new : PlainStreams) (fs : List SentFrame) (bytes : List ℕ) → AreWritten room old new fs bytes → NoneIsPassed old.send new.send fs
 none_passed room old new fs bytes (none_written _ _) g id k there e w = absurd there
-none_passed room old new fs bytes (more_written _ _ mid _ f more rest handed fits others) g id k (inl same) e w =
+none_passed room old new fs bytes (more_written _ _ mid _ f more rest handed fits back others) g id k (inl same) e w =
     let from = comes old mid room f handed in
     come_first old mid f from id k (ap sender_of same ∙ e) (come_waits old mid f from k (waits_before _ mid new more rest others k w))
-none_passed room old new fs bytes (more_written _ _ mid _ f more rest handed fits others) g id k (inr there) e w =
+none_passed room old new fs bytes (more_written _ _ mid _ f more rest handed fits back others) g id k (inr there) e w =
     not_before mid.send old.send (come_priority old mid f (comes old mid room f handed)) k id (none_passed _ mid new more rest others g id k there e w)

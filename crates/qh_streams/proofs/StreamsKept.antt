@@ -2,13 +2,13 @@
 use Rattle.std.proofs.Common.{◌≡◌, ℕ, ◌+◌, ◌≤◌, ◌==◌, nat_lt, Bool, true, false, length, Option, Some, None, is_some, Result, Ok, Err, if◌then◌else◌, refl, sym, ap, ap₂, ◌∙◌, arith, inl, inr}
 use Rattle.std.proofs.lemmas.Bool.{false≢true}
 use Rattle.std.proofs.lemmas.Bool.Decides.{eqb_tells}
-use Rattle.qh_streams.specs.declared.state.counts.StreamCounts.{StreamCounts}
+use Rattle.qh_halves.specs.declared.counts.StreamCounts.{StreamCounts}
 use Rattle.qh_streams.specs.declared.frames.SentFrame.TheVariants as sent
-use Rattle.qh_streams.specs.Counts.{AreCounts, AreNoFewer, is_own, is_bi, index_of}
-use Rattle.qh_streams.specs.Send.{PlainSend}
-use Rattle.qh_streams.specs.SendHalves.{PlainSendHalves, send_at, IsStep, IsLast, IsSettledBy, absent, on, done, KeepsSpans}
-use Rattle.qh_streams.specs.Recv.{PlainRecv}
-use Rattle.qh_streams.specs.RecvHalves.{PlainRecvHalves, recv_at, unless_done, IsRecvStep}
+use Rattle.qh_halves.specs.Counts.{AreCounts, AreNoFewer, is_own, is_bi, index_of}
+use Rattle.qh_half.specs.Send.{PlainSend}
+use Rattle.qh_halves.specs.SendHalves.{PlainSendHalves, send_at, IsStep, IsLast, IsSettledBy, absent, on, done, KeepsSpans}
+use Rattle.qh_half.specs.Recv.{PlainRecv}
+use Rattle.qh_halves.specs.RecvHalves.{PlainRecvHalves, recv_at, unless_done, IsRecvStep}
 use Rattle.qh_streams.specs.Streams.{PlainStreams, AreStreams, KeepsOut, counts_of, with_counts, counted_closed, was_opened}
 
 -- what holds where a call went well, and where it didn't

@@ -9,13 +9,13 @@ use Rattle.qh_spec.specs.declared.sides.Dir.TheVariants.{Bi, Uni}
 use Rattle.qh_spec.specs.StreamId.{stream_id}
 use Rattle.qh_streams.specs.declared.frames.SentFrame.TheVariants as sent
 use Rattle.qh_streams.specs.declared.frames.StreamEvent.{StreamEvent}
-use Rattle.qh_streams.specs.declared.send.Outgoing.{Outgoing}
-use Rattle.qh_streams.specs.declared.state.counts.StreamCounts.{StreamCounts}
-use Rattle.qh_streams.specs.Counts.{AreCounts, AreNoFewer, is_own, is_bi, index_of, has_send, has_recv}
-use Rattle.qh_streams.specs.Send.{PlainSend, new_send}
-use Rattle.qh_streams.specs.SendHalves.{PlainSendHalves, send_at, half_is_span, IsHalf}
-use Rattle.qh_streams.specs.Recv.{PlainRecv, new_recv}
-use Rattle.qh_streams.specs.RecvHalves.{PlainRecvHalves, recv_at, IsRecvHalf}
+use Rattle.qh_half.specs.declared.send.Outgoing.{Outgoing}
+use Rattle.qh_halves.specs.declared.counts.StreamCounts.{StreamCounts}
+use Rattle.qh_halves.specs.Counts.{AreCounts, AreNoFewer, is_own, is_bi, index_of, has_send, has_recv}
+use Rattle.qh_half.specs.Send.{PlainSend, new_send}
+use Rattle.qh_halves.specs.SendHalves.{PlainSendHalves, send_at, half_is_span, IsHalf}
+use Rattle.qh_half.specs.Recv.{PlainRecv, new_recv}
+use Rattle.qh_halves.specs.RecvHalves.{PlainRecvHalves, recv_at, IsRecvHalf}
 use Rattle.qh_streams.specs.Streams.{PlainStreams, AreStreams, AreOpened, KeepsOut, counts_of, was_opened, is_two_way, first_limit, new_send_half, new_recv_half}
 use Rattle.qh_streams.proofs.StreamsKept.{AreLater, still_opened, both_set}
 

@@ -7,7 +7,7 @@ use Rattle.std.proofs.lemmas.Bool.Decides.{eqb_tells}
 use Rattle.qh_base.specs.declared.stream_id.StreamId.{StreamId}
 use Rattle.qh_streams.specs.declared.frames.StreamEvent.{StreamEvent}
 use Rattle.qh_streams.specs.declared.frames.StreamEvent.TheVariants.{Writable}
-use Rattle.qh_streams.specs.SendHalves.{send_at, write_limit, half_is_writable}
+use Rattle.qh_halves.specs.SendHalves.{send_at, write_limit, half_is_writable}
 use Rattle.qh_streams.specs.Streams.{PlainStreams, AreStreams, NoneWritable, IsWritablePolled, still_blocked, IsPolled, KeepsOut, some as found, none as nothing, writable, queued}
 use Rattle.qh_streams.proofs.StreamsKept.{halves_kept, send_same, recv_same, out_kept, later_same}
 

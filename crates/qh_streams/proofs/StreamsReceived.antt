@@ -7,15 +7,15 @@ use Rattle.qh_base.specs.declared.stream_id.StreamId.{StreamId}
 use Rattle.qh_buffers.specs.declared.assembler.Chunk.{Chunk}
 use Rattle.qh_streams.specs.declared.fault.StreamFault.{StreamFault}
 use Rattle.qh_streams.specs.declared.fault.StreamFault.TheVariants.{Transport, Memory as Wanting}
-use Rattle.qh_streams.specs.declared.recv.IngestFault.{IngestFault}
-use Rattle.qh_streams.specs.declared.recv.IngestFault.TheVariants.{Memory as NoMemory}
+use Rattle.qh_half.specs.declared.recv.IngestFault.{IngestFault}
+use Rattle.qh_half.specs.declared.recv.IngestFault.TheVariants.{Memory as NoMemory}
 use Rattle.qh_streams.specs.declared.frames.StreamEvent.{StreamEvent}
 use Rattle.qh_streams.specs.declared.frames.StreamEvent.TheVariants.{Readable}
-use Rattle.qh_streams.specs.Counts.{is_own, is_bi, has_recv}
-use Rattle.qh_streams.specs.Recv.{PlainRecv, new_recv, is_done, IsIngested, IsResetBy}
-use Rattle.qh_streams.specs.RecvHalves.{PlainRecvHalves, recv_at, unless_done, half_ingest_fault, half_is_wanted, IsRecvStep, IsRecvAbsent, IsPieceTaken, IsResetTaken}
+use Rattle.qh_halves.specs.Counts.{is_own, is_bi, has_recv}
+use Rattle.qh_half.specs.Recv.{PlainRecv, new_recv, is_done, IsIngested, IsResetBy}
+use Rattle.qh_halves.specs.RecvHalves.{PlainRecvHalves, recv_at, unless_done, half_ingest_fault, half_is_wanted, IsRecvStep, IsRecvAbsent, IsPieceTaken, IsResetTaken}
 use Rattle.qh_streams.specs.Streams.{PlainStreams, was_opened, is_live, counted_closed, arrives_with, counts_of, new_recv_half, recv_or_new, readable_events, HasArrived, IsWithinCount, IsRefusal, ingest_refusal, IsPieceReceived, IsResetReceived, IsReceived, HasUnblocked, KeepsOut}
-use Rattle.qh_streams.specs.SendHalves.{PlainSendHalves, IsStep, IsAbsent, HasLimit, KeepsSpans}
+use Rattle.qh_halves.specs.SendHalves.{PlainSendHalves, IsStep, IsAbsent, HasLimit, KeepsSpans}
 use Rattle.qh_streams.specs.declared.frames.StreamFrame.TheVariants.{Stream, ResetStream, MaxStreamData}
 use Rattle.qh_streams.specs.Streams.IsReceived.{stream, reset, max_stream_data}
 use Rattle.qh_streams.proofs.StreamsKept.{out_kept, later_same, AreRecvKept, recv_same, recv_step}

@@ -4,17 +4,17 @@ use Rattle.std.proofs.lemmas.Bool.{false≢true, cases_Bool}
 use Rattle.std.proofs.lemmas.List.{length-append}
 use Rattle.qh_streams.specs.declared.streams.Streams.TheInside.{Inside}
 use Rattle.qh_streams.specs.declared.frames.StreamEvent.{StreamEvent}
-use Rattle.qh_streams.specs.declared.state.limit.AnnouncedLimit.{AnnouncedLimit}
-use Rattle.qh_streams.specs.declared.state.counts.StreamCounts.{StreamCounts}
+use Rattle.qh_halves.specs.declared.limit.AnnouncedLimit.{AnnouncedLimit}
+use Rattle.qh_halves.specs.declared.counts.StreamCounts.{StreamCounts}
 use Rattle.qh_base.specs.declared.stream_id.StreamId.{StreamId}
 use Rattle.qh_streams.specs.declared.frames.SentFrame.TheVariants.{Stream, ResetStream}
-use Rattle.qh_streams.specs.declared.send.Outgoing.{Outgoing}
-use Rattle.qh_streams.specs.declared.send.ResetFrame.{ResetFrame}
-use Rattle.qh_streams.specs.Counts.{AreCounts, AreNoFewer, is_own, is_bi}
-use Rattle.qh_streams.specs.Send.{PlainSend}
-use Rattle.qh_streams.specs.SendHalves.{PlainSendHalves, IsStep, IsAbsent, IsSettledBy, absent, on, done, IsAcked, IsResetAcked}
-use Rattle.qh_streams.specs.Recv.{PlainRecv}
-use Rattle.qh_streams.specs.RecvHalves.{PlainRecvHalves, IsRecvStep, IsRecvAbsent}
+use Rattle.qh_half.specs.declared.send.Outgoing.{Outgoing}
+use Rattle.qh_half.specs.declared.send.ResetFrame.{ResetFrame}
+use Rattle.qh_halves.specs.Counts.{AreCounts, AreNoFewer, is_own, is_bi}
+use Rattle.qh_half.specs.Send.{PlainSend}
+use Rattle.qh_halves.specs.SendHalves.{PlainSendHalves, IsStep, IsAbsent, IsSettledBy, absent, on, done, IsAcked, IsResetAcked}
+use Rattle.qh_half.specs.Recv.{PlainRecv}
+use Rattle.qh_halves.specs.RecvHalves.{PlainRecvHalves, IsRecvStep, IsRecvAbsent}
 use Rattle.qh_streams.specs.Streams.{PlainStreams, with_counts, counted_closed, is_live, finished_events, IsAckedFrame}
 use Rattle.qh_streams.specs.Streams.IsAckedFrame.{stream, reset}
 use Rattle.qh_streams.proofs.StreamsKept.{AreSendKept, AreRecvKept, send_same, send_step, recv_same, recv_step}

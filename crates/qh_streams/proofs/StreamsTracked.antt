@@ -7,24 +7,24 @@ use Rattle.std.proofs.lemmas.Bool.Decides.{eqb_tells}
 use Rattle.qh_spec.specs.Lists.{In}
 use Rattle.qh_spec.specs.declared.sides.Dir.{Dir}
 use Rattle.qh_spec.specs.declared.sides.Dir.TheVariants.{Bi, Uni}
-use Rattle.qh_buffers.specs.SendBuffer.{PlainSendBuffer, mark_at, is_between, requeued, IsHandedOut, IsQueuedAgain, IsAcknowledged}
+use Rattle.qh_buffers.specs.SendBuffer.{lost_mark, PlainSendBuffer, mark_at, is_between, requeued, IsHandedOut, IsQueuedAgain, IsAcknowledged}
 use Rattle.qh_buffers.specs.declared.send_buffer.Mark.{Mark}
 use Rattle.qh_buffers.specs.declared.send_buffer.Mark.TheVariants.{Sent, Queued, Acked}
 use Rattle.qh_streams.specs.declared.frames.SentFrame.{SentFrame}
 use Rattle.qh_streams.specs.declared.frames.SentFrame.TheVariants as sent
-use Rattle.qh_streams.specs.declared.recv.StopFrame.{StopFrame}
-use Rattle.qh_streams.specs.declared.send.SendState.{SendState}
-use Rattle.qh_streams.specs.declared.send.SendState.TheVariants.{Ready, DataSent, ResetSent}
-use Rattle.qh_streams.specs.declared.send.Outgoing.{Outgoing}
-use Rattle.qh_streams.specs.declared.send.ResetFrame.{ResetFrame}
-use Rattle.qh_streams.specs.declared.state.counts.StreamCounts.{StreamCounts}
-use Rattle.qh_streams.specs.declared.state.limit.AnnouncedLimit.{AnnouncedLimit}
+use Rattle.qh_half.specs.declared.recv.StopFrame.{StopFrame}
+use Rattle.qh_half.specs.declared.send.SendState.{SendState}
+use Rattle.qh_half.specs.declared.send.SendState.TheVariants.{Ready, DataSent, ResetSent}
+use Rattle.qh_half.specs.declared.send.Outgoing.{Outgoing}
+use Rattle.qh_half.specs.declared.send.ResetFrame.{ResetFrame}
+use Rattle.qh_halves.specs.declared.counts.StreamCounts.{StreamCounts}
+use Rattle.qh_halves.specs.declared.limit.AnnouncedLimit.{AnnouncedLimit}
 use Rattle.qh_base.specs.declared.stream_id.StreamId.{StreamId}
-use Rattle.qh_streams.specs.Limit.{acked_at, lost_at}
-use Rattle.qh_streams.specs.Send.{PlainSend, is_reset, with_end_sent, with_end_acked, with_end_lost, with_reset_mark, with_reset_lost, lost_mark, IsPieceOut, IsEndOut, IsPieceAcked, IsPieceQueued}
-use Rattle.qh_streams.specs.SendHalves.{PlainSendHalves, send_at, IsStep, IsLast, IsAbsent, IsSettledBy, absent, on, done, GivesPiece, GivesReset, IsAcked, IsLost, IsResetAcked, IsResetLost}
-use Rattle.qh_streams.specs.Recv.{PlainRecv, is_done, acked_stop, lost_stop}
-use Rattle.qh_streams.specs.RecvHalves.{PlainRecvHalves, recv_at, unless_done, IsRecvStep, IsRecvAbsent}
+use Rattle.qh_halves.specs.Limit.{acked_at, lost_at}
+use Rattle.qh_half.specs.Send.{PlainSend, is_reset, with_end_sent, with_end_acked, with_end_lost, with_reset_mark, with_reset_lost, IsPieceOut, IsEndOut, IsPieceAcked, IsPieceQueued}
+use Rattle.qh_halves.specs.SendHalves.{PlainSendHalves, send_at, IsStep, IsLast, IsAbsent, IsSettledBy, absent, on, done, GivesPiece, GivesReset, IsAcked, IsLost, IsResetAcked, IsResetLost}
+use Rattle.qh_half.specs.Recv.{PlainRecv, is_done, acked_stop, lost_stop}
+use Rattle.qh_halves.specs.RecvHalves.{PlainRecvHalves, recv_at, unless_done, IsRecvStep, IsRecvAbsent}
 use Rattle.qh_streams.specs.Streams.{PlainStreams, counts_of, with_counts, is_two_way, counted_closed}
 use Rattle.qh_streams.specs.Tracked.{OneIs, HasByte, HasEnd, HasReset, HasStop, HasStreamLimit, HasDataLimit, HasCount, AreTracked, AreAmong}
 

@@ -7,21 +7,21 @@ use Rattle.qh_buffers.specs.SendBuffer.{mark_at}
 use Rattle.qh_buffers.specs.declared.assembler.Chunk.{Chunk}
 use Rattle.qh_buffers.specs.declared.send_buffer.Mark.{Mark}
 use Rattle.qh_buffers.specs.declared.send_buffer.Mark.TheVariants.{Sent, Queued, Acked}
-use Rattle.qh_streams.specs.declared.fault.ReadFault.{ReadFault}
+use Rattle.qh_half.specs.declared.fault.ReadFault.{ReadFault}
 use Rattle.qh_streams.specs.declared.frames.SentFrame.{SentFrame}
 use Rattle.qh_streams.specs.declared.frames.StreamFrame.{StreamFrame}
-use Rattle.qh_streams.specs.declared.recv.StopFrame.{StopFrame}
-use Rattle.qh_streams.specs.declared.recv.RecvState.{RecvState}
-use Rattle.qh_streams.specs.declared.recv.RecvState.TheVariants.{Recv, ResetRecvd}
-use Rattle.qh_streams.specs.declared.send.SendState.{SendState}
-use Rattle.qh_streams.specs.declared.send.SendState.TheVariants.{Ready, DataSent, ResetSent}
-use Rattle.qh_streams.specs.declared.state.limit.AnnouncedLimit.{AnnouncedLimit}
-use Rattle.qh_streams.specs.Counts.{is_bi, index_of, has_send, has_recv, with_max_opened}
-use Rattle.qh_streams.specs.Send.{PlainSend, new_send, is_reset, is_ready, finish_fault, stopped_or_closed}
-use Rattle.qh_streams.specs.SendHalves.{PlainSendHalves, send_at, IsStep, IsAbsent, Takes, Finishes, IsResetWith, HasPriority, IsStoppedWith, HasLimit}
-use Rattle.qh_streams.specs.Recv.{PlainRecv, new_recv, new_stop, IsIngested, IsResetBy, IsReadAnswer}
-use Rattle.qh_streams.specs.Recv.IsReadAnswer.{bytes as bytes_read, nothing as nothing_read, end as end_read, reset as reset_read, blocked as blocked_read, memory as memory_read}
-use Rattle.qh_streams.specs.RecvHalves.{PlainRecvHalves, recv_at, IsRecvStep, IsRecvAbsent, IsPieceTaken, IsResetTaken, Reads, Begins, Stops, TakesReset}
+use Rattle.qh_half.specs.declared.recv.StopFrame.{StopFrame}
+use Rattle.qh_half.specs.declared.recv.RecvState.{RecvState}
+use Rattle.qh_half.specs.declared.recv.RecvState.TheVariants.{Recv, ResetRecvd}
+use Rattle.qh_half.specs.declared.send.SendState.{SendState}
+use Rattle.qh_half.specs.declared.send.SendState.TheVariants.{Ready, DataSent, ResetSent}
+use Rattle.qh_halves.specs.declared.limit.AnnouncedLimit.{AnnouncedLimit}
+use Rattle.qh_halves.specs.Counts.{is_bi, index_of, has_send, has_recv, with_max_opened}
+use Rattle.qh_half.specs.Send.{PlainSend, new_send, is_reset, is_ready, finish_fault, stopped_or_closed}
+use Rattle.qh_halves.specs.SendHalves.{PlainSendHalves, send_at, IsStep, IsAbsent, Takes, Finishes, IsResetWith, HasPriority, IsStoppedWith, HasLimit}
+use Rattle.qh_half.specs.Recv.{PlainRecv, new_recv, new_stop, IsIngested, IsResetBy, IsReadAnswer}
+use Rattle.qh_half.specs.Recv.IsReadAnswer.{bytes as bytes_read, nothing as nothing_read, end as end_read, reset as reset_read, blocked as blocked_read, memory as memory_read}
+use Rattle.qh_halves.specs.RecvHalves.{PlainRecvHalves, recv_at, IsRecvStep, IsRecvAbsent, IsPieceTaken, IsResetTaken, Reads, Begins, Stops, TakesReset}
 use Rattle.qh_streams.specs.Streams.{PlainStreams, counts_of, with_counts, is_two_way, is_live, counted_closed, was_opened, first_limit, new_send_half, new_recv_half, AreOpened, IsOpened, HasArrived, IsReceived, IsPieceReceived, IsResetReceived, readable_events, available_events, with_opened, arrives_with}
 use Rattle.qh_streams.specs.Streams.IsReceived.{stream as stream_received, reset as reset_received, stop as stop_received, stopped_before, max_data as max_data_received, max_stream_data as max_stream_data_received, max_streams as max_streams_received}
 use Rattle.qh_streams.specs.Tracked.{SameCounts, IsFresh, IsSendingStep, IsReceivingStep, AreTracked}

@@ -28,7 +28,7 @@ front_to_end f fs g (inr there) = in_behind f g fs there
 
 all_written : (room : ℕ) (old new : PlainStreams) (fs : List SentFrame) (bytes : List ℕ) (out : List SentFrame) → AreWritten room old new fs bytes → AreTracked old out → AreTracked new (out ++ fs)
 all_written room old new fs bytes out (none_written _ _) t = rw (append-nil out) t
-all_written room old new fs bytes out (more_written _ _ mid _ f rest more handed fits others) t =
+all_written room old new fs bytes out (more_written _ _ mid _ f rest more handed fits back others) t =
     let here : AreTracked mid (out ++ f ∷ []) = any_order (front_to_end f out) (adds_tracked (written_adds old mid room f handed) t) in
     rw (append_assoc out (f ∷ []) rest) at (all_written _ mid new rest more (out ++ f ∷ []) others here)
 

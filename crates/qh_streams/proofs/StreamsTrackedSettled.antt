@@ -3,24 +3,24 @@ use Rattle.std.proofs.Common.{◌≡◌, ◌⊎◌, ℕ, ◌<◌, ◌≤◌, ◌
 use Rattle.std.specs.Option.{option_map}
 use Rattle.std.proofs.lemmas.Bool.{false≢true, eqb-true, eq-eqb, cases_Bool}
 use Rattle.qh_spec.specs.declared.sides.Dir.{Dir}
-use Rattle.qh_buffers.specs.SendBuffer.{mark_at, is_between, requeued}
+use Rattle.qh_buffers.specs.SendBuffer.{lost_mark, mark_at, is_between, requeued}
 use Rattle.qh_buffers.specs.declared.send_buffer.Mark.{Mark}
 use Rattle.qh_buffers.specs.declared.send_buffer.Mark.TheVariants.{Sent, Queued, Acked}
 use Rattle.qh_buffers.proofs.Pieces.{between_true}
 use Rattle.qh_base.specs.declared.stream_id.StreamId.{StreamId}
 use Rattle.qh_streams.specs.declared.frames.SentFrame.{SentFrame}
 use Rattle.qh_streams.specs.declared.frames.SentFrame.TheVariants as sent
-use Rattle.qh_streams.specs.declared.recv.StopFrame.{StopFrame}
-use Rattle.qh_streams.specs.declared.send.SendState.{SendState}
-use Rattle.qh_streams.specs.declared.send.SendState.TheVariants.{Ready, DataSent, ResetSent}
-use Rattle.qh_streams.specs.declared.send.Outgoing.{Outgoing}
-use Rattle.qh_streams.specs.declared.send.ResetFrame.{ResetFrame}
-use Rattle.qh_streams.specs.declared.state.limit.AnnouncedLimit.{AnnouncedLimit}
-use Rattle.qh_streams.specs.Limit.{acked_at, lost_at}
-use Rattle.qh_streams.specs.Send.{PlainSend, is_reset, with_end_acked, with_end_lost, with_reset_mark, with_reset_lost, lost_mark}
-use Rattle.qh_streams.specs.SendHalves.{PlainSendHalves, send_at, IsAcked, IsLost, IsResetAcked, IsResetLost}
-use Rattle.qh_streams.specs.Recv.{PlainRecv, acked_stop, lost_stop}
-use Rattle.qh_streams.specs.RecvHalves.{PlainRecvHalves, recv_at, IsRecvStep, IsRecvAbsent, IsStopLost, IsStopAcked, IsLimitLost, IsLimitAcked}
+use Rattle.qh_half.specs.declared.recv.StopFrame.{StopFrame}
+use Rattle.qh_half.specs.declared.send.SendState.{SendState}
+use Rattle.qh_half.specs.declared.send.SendState.TheVariants.{Ready, DataSent, ResetSent}
+use Rattle.qh_half.specs.declared.send.Outgoing.{Outgoing}
+use Rattle.qh_half.specs.declared.send.ResetFrame.{ResetFrame}
+use Rattle.qh_halves.specs.declared.limit.AnnouncedLimit.{AnnouncedLimit}
+use Rattle.qh_halves.specs.Limit.{acked_at, lost_at}
+use Rattle.qh_half.specs.Send.{PlainSend, is_reset, with_end_acked, with_end_lost, with_reset_mark, with_reset_lost}
+use Rattle.qh_halves.specs.SendHalves.{PlainSendHalves, send_at, IsAcked, IsLost, IsResetAcked, IsResetLost}
+use Rattle.qh_half.specs.Recv.{PlainRecv, acked_stop, lost_stop}
+use Rattle.qh_halves.specs.RecvHalves.{PlainRecvHalves, recv_at, IsRecvStep, IsRecvAbsent, IsStopLost, IsStopAcked, IsLimitLost, IsLimitAcked}
 use Rattle.qh_streams.specs.Streams.{PlainStreams, counts_of, is_two_way, is_live, counted_closed, finished_events, IsLostFrame, IsAckedFrame}
 use Rattle.qh_streams.specs.Streams.IsLostFrame.{stream as stream_lost, reset as reset_lost, stop as stop_lost, max_stream_data as max_stream_data_lost, max_data as max_data_lost, max_streams as max_streams_lost}
 use Rattle.qh_streams.specs.Streams.IsAckedFrame.{stream as stream_acked, reset as reset_acked, stop as stop_acked, max_stream_data as max_stream_data_acked, max_data as max_data_acked, max_streams as max_streams_acked}

@@ -4,27 +4,27 @@ use Rattle.std.specs.Option.{option_map}
 use Rattle.std.proofs.lemmas.Bool.{false≢true, eqb-true, eq-eqb, cases_lt, cases_Bool}
 use Rattle.qh_spec.specs.declared.sides.Dir.{Dir}
 use Rattle.qh_spec.specs.declared.sides.Dir.TheVariants.{Bi, Uni}
-use Rattle.qh_buffers.specs.SendBuffer.{mark_at, is_between, requeued}
+use Rattle.qh_buffers.specs.SendBuffer.{lost_mark, mark_at, is_between, requeued}
 use Rattle.qh_buffers.specs.declared.send_buffer.Mark.{Mark}
 use Rattle.qh_buffers.specs.declared.send_buffer.Mark.TheVariants.{Sent, Queued, Acked}
 use Rattle.qh_buffers.proofs.Pieces.{between_true, between_low, between_high}
 use Rattle.qh_base.specs.declared.stream_id.StreamId.{StreamId}
 use Rattle.qh_streams.specs.declared.frames.SentFrame.{SentFrame}
 use Rattle.qh_streams.specs.declared.frames.SentFrame.TheVariants as sent
-use Rattle.qh_streams.specs.declared.recv.StopFrame.{StopFrame}
-use Rattle.qh_streams.specs.declared.send.SendState.{SendState}
-use Rattle.qh_streams.specs.declared.send.SendState.TheVariants.{Ready, DataSent, ResetSent}
-use Rattle.qh_streams.specs.declared.send.Outgoing.{Outgoing}
-use Rattle.qh_streams.specs.declared.send.ResetFrame.{ResetFrame}
-use Rattle.qh_streams.specs.declared.state.counts.StreamCounts.{StreamCounts}
-use Rattle.qh_streams.specs.declared.state.limit.AnnouncedLimit.{AnnouncedLimit}
-use Rattle.qh_streams.specs.declared.state.recv_halves.StreamControl.TheVariants.{StopSending, MaxStreamData}
-use Rattle.qh_streams.specs.Limit.{acked_at, lost_at}
-use Rattle.qh_streams.specs.Counts.{is_own, is_bi}
-use Rattle.qh_streams.specs.Send.{PlainSend, is_reset, with_end_sent, with_end_acked, with_end_lost, with_reset_mark, with_reset_lost, lost_mark, IsPieceOut, IsEndOut}
-use Rattle.qh_streams.specs.SendHalves.{PlainSendHalves, send_at, GivesPiece, GivesReset, IsAcked, IsLost, IsResetAcked, IsResetLost}
-use Rattle.qh_streams.specs.Recv.{PlainRecv, acked_stop, lost_stop}
-use Rattle.qh_streams.specs.RecvHalves.{PlainRecvHalves, recv_at, IsRecvStep, IsRecvAbsent, GivesControl, IsStopLost, IsStopAcked, IsLimitLost, IsLimitAcked}
+use Rattle.qh_half.specs.declared.recv.StopFrame.{StopFrame}
+use Rattle.qh_half.specs.declared.send.SendState.{SendState}
+use Rattle.qh_half.specs.declared.send.SendState.TheVariants.{Ready, DataSent, ResetSent}
+use Rattle.qh_half.specs.declared.send.Outgoing.{Outgoing}
+use Rattle.qh_half.specs.declared.send.ResetFrame.{ResetFrame}
+use Rattle.qh_halves.specs.declared.counts.StreamCounts.{StreamCounts}
+use Rattle.qh_halves.specs.declared.limit.AnnouncedLimit.{AnnouncedLimit}
+use Rattle.qh_halves.specs.declared.recv_halves.StreamControl.TheVariants.{StopSending, MaxStreamData}
+use Rattle.qh_halves.specs.Limit.{acked_at, lost_at}
+use Rattle.qh_halves.specs.Counts.{is_own, is_bi}
+use Rattle.qh_half.specs.Send.{PlainSend, is_reset, with_end_sent, with_end_acked, with_end_lost, with_reset_mark, with_reset_lost, IsPieceOut, IsEndOut}
+use Rattle.qh_halves.specs.SendHalves.{PlainSendHalves, send_at, GivesPiece, GivesReset, IsAcked, IsLost, IsResetAcked, IsResetLost}
+use Rattle.qh_half.specs.Recv.{PlainRecv, acked_stop, lost_stop}
+use Rattle.qh_halves.specs.RecvHalves.{PlainRecvHalves, recv_at, IsRecvStep, IsRecvAbsent, GivesControl, IsStopLost, IsStopAcked, IsLimitLost, IsLimitAcked}
 use Rattle.qh_streams.specs.Streams.{PlainStreams, counts_of, with_counts, is_two_way, is_live, counted_closed, finished_events, IsHandedOver, IsLostFrame, IsAckedFrame}
 use Rattle.qh_streams.specs.Streams.IsHandedOver.{stream as stream_handed, reset as reset_handed, stop as stop_handed, max_stream_data as max_stream_data_handed, max_data as max_data_handed, max_streams as max_streams_handed}
 use Rattle.qh_streams.specs.Streams.IsLostFrame.{stream as stream_lost, reset as reset_lost, stop as stop_lost, max_stream_data as max_stream_data_lost, max_data as max_data_lost, max_streams as max_streams_lost}
@@ -159,11 +159,11 @@ abbrev AddedOr : PlainStreams → SentFrame → Owed → Type 0
 AddedOr old f o = IsSent old o ⊎ Has o f
 
 pub written_adds : (old new : PlainStreams) (room : ℕ) (f : SentFrame) → IsHandedOver old new room f → Adds old new f
-written_adds old new room f (stream_handed id piece next rest) =
+written_adds old new room f (stream_handed id piece idle next rest) =
     by_sender old new (AddedOr old f) (step_goes next.step) (ap (λ (s : PlainStreams). s.recv) rest) (λ dir. ap (λ (s : PlainStreams). (counts_of s (is_two_way dir)).announced) rest)
     (λ h g o is p w. half_or half_sent (send_at old.send) id.0 _ h o is (gives_piece _ id piece h g o p w))
     (λ o apart w. inl w)
-written_adds old new room f (reset_handed id frame next rest) =
+written_adds old new room f (reset_handed id frame idle next rest) =
     by_sender old new (AddedOr old f) (step_goes next.step) (ap (λ (s : PlainStreams). s.recv) rest) (λ dir. ap (λ (s : PlainStreams). (counts_of s (is_two_way dir)).announced) rest)
     (λ h g o is p w. half_or half_sent (send_at old.send) id.0 _ h o is (gives_reset id frame h g o p w))
     (λ o apart w. inl w)

@@ -12,21 +12,21 @@ use Rattle.qh_frame.specs.FrameBytes.{IsPut, frame_bytes}
 use Rattle.qh_frame.specs.WrittenForm.{stream_form}
 use Rattle.qh_frame.proofs.StreamsWritten.{start_shape, later_shape}
 use Rattle.qh_buffers.specs.SendBuffer.{PlainSendBuffer, bytes_between}
-use Rattle.qh_streams.specs.declared.send.Outgoing.{Outgoing}
-use Rattle.qh_streams.specs.Send.{PlainSend, IsHeld}
-use Rattle.qh_streams.specs.Counts.{count_limit, AreCounts, is_own, is_bi, index_of}
-use Rattle.qh_streams.specs.Limit.{is_due}
-use Rattle.qh_streams.specs.SendHalves.{PlainSendHalves, half_holds, GivesPiece, IsSentNext, IsOutNow, HasForm, NoneWaits}
-use Rattle.qh_streams.specs.declared.state.send_halves.Transmission.{Transmission}
-use Rattle.qh_streams.specs.declared.state.send_halves.Transmission.TheVariants.{Stream, Reset}
+use Rattle.qh_half.specs.declared.send.Outgoing.{Outgoing}
+use Rattle.qh_half.specs.Send.{PlainSend, IsHeld}
+use Rattle.qh_halves.specs.Counts.{count_limit, AreCounts, is_own, is_bi, index_of}
+use Rattle.qh_halves.specs.Limit.{is_due}
+use Rattle.qh_halves.specs.SendHalves.{PlainSendHalves, half_holds, GivesPiece, IsSentNext, IsOutNow, HasForm, NoneWaits}
+use Rattle.qh_halves.specs.declared.send_halves.Transmission.{Transmission}
+use Rattle.qh_halves.specs.declared.send_halves.Transmission.TheVariants.{Stream, Reset}
 use Rattle.qh_streams.specs.declared.frames.SentFrame.{SentFrame}
 use Rattle.qh_streams.proofs.StreamsKept.{are_counts}
-use Rattle.qh_streams.specs.RecvHalves.{PlainRecvHalves, NoneIsDue, data_limit}
+use Rattle.qh_halves.specs.RecvHalves.{PlainRecvHalves, NoneIsDue, data_limit}
 use Rattle.qh_streams.specs.declared.frames.SentFrame.TheVariants as sent
-use Rattle.qh_streams.specs.declared.state.counts.StreamCounts.{StreamCounts}
+use Rattle.qh_halves.specs.declared.counts.StreamCounts.{StreamCounts}
 use Rattle.qh_buffers.specs.declared.send_buffer.Mark.TheVariants.{Sent}
 use Rattle.qh_spec.specs.declared.sides.Dir.{Dir}
-use Rattle.qh_streams.specs.Streams.{PlainStreams, AreStreams, counts_of, with_counts, is_two_way, was_opened, half_bytes, head_bound, payload_length, IsHandedOver, IsControlIdle, IsIdle, IsOut, IsOutHeld, KeepsOut, AreAllOut, AreWritten, IsOneWritten, written_frame}
+use Rattle.qh_streams.specs.Streams.{PlainStreams, AreStreams, counts_of, with_counts, is_two_way, was_opened, half_bytes, head_bound, payload_length, IsHandedOver, IsControlIdle, IsIdle, IsReadBack, IsOut, IsOutHeld, KeepsOut, AreAllOut, AreWritten, IsOneWritten, written_frame}
 use Rattle.qh_streams.specs.Streams.AreWritten.{none as none_written, more as more_written}
 use Rattle.qh_streams.specs.Streams.IsHandedOver.{stream as stream_handed, reset as reset_handed, stop as stop_handed, max_stream_data as max_stream_data_handed, max_data as max_data_handed, max_streams as max_streams_handed}
 
@@ -123,10 +123,10 @@ abbrev pub frame_of : (id : ℕ) → Transmission → SentFrame
 frame_of id (Stream piece) = sent.Stream (record { 0 = id }) piece
 frame_of id (Reset reset) = sent.ResetStream (record { 0 = id }) reset
 
-pub sent_handed : (s : PlainStreams) (new : PlainSendHalves) (room id : ℕ) (t : Transmission) → IsSentNext s.send new (room - head_bound) id t
+pub sent_handed : (s : PlainStreams) (new : PlainSendHalves) (room id : ℕ) (t : Transmission) → IsControlIdle s → IsSentNext s.send new (room - head_bound) id t
     → IsHandedOver s (record s { send = new }) room (frame_of id t)
-sent_handed s new room id (Stream piece) next = stream_handed _ piece next refl
-sent_handed s new room id (Reset reset) next = reset_handed _ reset next refl
+sent_handed s new room id (Stream piece) idle next = stream_handed _ piece idle next refl
+sent_handed s new room id (Reset reset) idle next = reset_handed _ reset idle next refl
 
 index_small : (own : Bool) (c : StreamCounts) (k : ℕ) → AreCounts c → nat_lt (index_of k) (if own then c.opened else c.arrived) ≡ true → k < 4611686018427387904
 index_small true c k are h = let less = ltb-true _ _ h in omega (arith, less, are.opened, are.max_opened)
@@ -156,8 +156,8 @@ piece_fits h next room piece (inr out) = let at_end = out.at_end.1 in omega (ari
 
 -- the frame that is handed over has room
 pub frame_fits : (old new : PlainStreams) (room : ℕ) (f : SentFrame) → IsHandedOver old new room f → head_bound < room → head_bound + payload_length f ≤ room
-frame_fits old new room f (stream_handed id piece next rest) h = let fits = piece_fits next.step.half next.step.next (room - head_bound) piece next.step.step in omega (arith, fits, h)
-frame_fits old new room f (reset_handed id reset next rest) h = omega (arith, h)
+frame_fits old new room f (stream_handed id piece idle next rest) h = let fits = piece_fits next.step.half next.step.next (room - head_bound) piece next.step.step in omega (arith, fits, h)
+frame_fits old new room f (reset_handed id reset idle next rest) h = omega (arith, h)
 frame_fits old new room f (stop_handed id code step rest) h = omega (arith, h)
 frame_fits old new room f (max_stream_data_handed id limit step rest) h = omega (arith, h)
 frame_fits old new room f (max_data_handed limit is due rest) h = omega (arith, h)
@@ -217,18 +217,18 @@ none_so_far room s out sent = record {
 
 -- one frame more
 written_more : (room left : ℕ) (old mid new : PlainStreams) (fs : List SentFrame) (bytes : List ℕ) (f : SentFrame) → AreWritten room old mid fs bytes
-    → left ≡ room - length bytes → IsHandedOver mid new left f → length (frame_bytes (written_frame new f)) ≤ left
+    → left ≡ room - length bytes → IsHandedOver mid new left f → length (frame_bytes (written_frame new f)) ≤ left → IsReadBack (written_frame new f)
     → AreWritten room old new (fs ++ (f ∷ [])) (bytes ++ frame_bytes (written_frame new f))
-written_more room left old mid new fs bytes f (none_written _ _) e handed fits =
+written_more room left old mid new fs bytes f (none_written _ _) e handed fits back =
     let same : left ≡ room = omega (arith, e) in
     rw (← append-nil (frame_bytes (written_frame new f)))
-    (more_written room mid new new f [] [] (rw same at handed) (omega (arith, fits, same)) (none_written _ new))
-written_more room left old mid new fs bytes f (more_written _ _ m _ g gs rest first first_fits others) e handed fits =
+    (more_written room mid new new f [] [] (rw same at handed) (omega (arith, fits, same)) back (none_written _ new))
+written_more room left old mid new fs bytes f (more_written _ _ m _ g gs rest first first_fits first_back others) e handed fits back =
     let head = frame_bytes (written_frame m g) in
     let sum = length-append head rest in
     rw (append_assoc head rest (frame_bytes (written_frame new f)))
-    (more_written room old m new g (gs ++ (f ∷ [])) (rest ++ frame_bytes (written_frame new f)) first first_fits
-    (written_more (room - length head) left m mid new gs rest f others (omega (arith, e, sum)) handed fits))
+    (more_written room old m new g (gs ++ (f ∷ [])) (rest ++ frame_bytes (written_frame new f)) first first_fits first_back
+    (written_more (room - length head) left m mid new gs rest f others (omega (arith, e, sum)) handed fits back))
 
 pub kept_all_out : (old new : PlainStreams) → KeepsOut old new → (fs : List SentFrame) → AreAllOut old fs → AreAllOut new fs
 kept_all_out old new keeps [] h = tt
@@ -250,7 +250,7 @@ one_more room left old mid new out_old out_mid out_new sent_old sent_mid sent_ne
     record {
       frames = so.frames ++ (f ∷ []);
       bytes = so.bytes ++ more;
-      written = written_more room left old mid new so.frames so.bytes f so.written left_of one.handed one.fits;
+      written = written_more room left old mid new so.frames so.bytes f so.written left_of one.handed one.fits one.reads_back;
       out_is = one.out_is ∙ ap (λ (l : List ℕ). l ++ more) so.out_is ∙ append_assoc out_old so.bytes more;
       sent_is = one.sent_is ∙ ap (λ (l : List SentFrame). l ++ (f ∷ [])) so.sent_is ∙ append_assoc sent_old so.frames (f ∷ []);
       fits = let fits = one.fits in let so_fits = so.fits in rw (length-append so.bytes more) (omega (arith, fits, so_fits, left_of));

@@ -1,11 +1,11 @@
 -- Readers of a stream.
 use Rattle.std.specs.Prelude.{◌≡◌, ℕ, Option, Some, None, Result, Ok, Err}
 use Rattle.qh_buffers.specs.declared.assembler.Chunk.{Chunk}
-use Rattle.qh_streams.specs.declared.fault.ReadFault.{ReadFault}
-use Rattle.qh_streams.specs.declared.fault.ReadFault.TheVariants.{Reset as WasReset}
+use Rattle.qh_half.specs.declared.fault.ReadFault.{ReadFault}
+use Rattle.qh_half.specs.declared.fault.ReadFault.TheVariants.{Reset as WasReset}
 use Rattle.qh_streams.specs.declared.halves.ChunksState.{ChunksState}
 use Rattle.qh_streams.specs.declared.halves.ChunksState.TheVariants.{Readable, Finished, Reset}
-use Rattle.qh_streams.specs.RecvHalves.{IsRecvStep, Reads}
+use Rattle.qh_halves.specs.RecvHalves.{IsRecvStep, Reads}
 use Rattle.qh_streams.specs.Streams.{PlainStreams, counted_closed, is_live}
 
 -- what a reader got to by an answer

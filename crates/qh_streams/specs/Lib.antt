@@ -1,11 +1,4 @@
-pub mod Counts
 pub mod Halves
-pub mod Limit
-pub mod Pending
-pub mod Recv
-pub mod RecvHalves
-pub mod Send
-pub mod SendHalves
 pub mod Streams
 pub mod Tracked
 pub mod Turns

@@ -10,7 +10,7 @@ use Rattle.qh_spec.specs.declared.sides.Side.{Side}
 use Rattle.qh_spec.specs.declared.sides.Dir.{Dir}
 use Rattle.qh_spec.specs.declared.sides.Dir.TheVariants.{Bi, Uni}
 use Rattle.qh_spec.specs.QuicFrame.{StreamFrame as CarriedStream}
-use Rattle.qh_spec.specs.QuicFrames.{QuicFrame, Num}
+use Rattle.qh_spec.specs.QuicFrames.{QuicFrame, Num, IsQuicFrame}
 use Rattle.qh_frame.specs.FrameBytes.{frame_bytes}
 use Rattle.qh_frame.specs.Plain.{frame, by_dir}
 use Rattle.qh_frame.specs.WrittenForm.{stream_form}
@@ -19,8 +19,8 @@ use Rattle.qh_buffers.specs.declared.send_buffer.Mark.TheVariants.{Sent}
 use Rattle.qh_buffers.specs.declared.assembler.Chunk.{Chunk}
 use Rattle.qh_streams.specs.declared.fault.StreamFault.{StreamFault}
 use Rattle.qh_streams.specs.declared.fault.StreamFault.TheVariants.{Transport, Memory}
-use Rattle.qh_streams.specs.declared.fault.WriteFault.{WriteFault}
-use Rattle.qh_streams.specs.declared.fault.WriteFault.TheVariants.{Blocked}
+use Rattle.qh_half.specs.declared.fault.WriteFault.{WriteFault}
+use Rattle.qh_half.specs.declared.fault.WriteFault.TheVariants.{Blocked}
 use Rattle.qh_streams.specs.declared.frames.PeerLimits.{PeerLimits}
 use Rattle.qh_streams.specs.declared.frames.StreamFrame.{StreamFrame}
 use Rattle.qh_streams.specs.declared.frames.StreamFrame.TheVariants as coming
@@ -28,19 +28,19 @@ use Rattle.qh_streams.specs.declared.frames.SentFrame.{SentFrame}
 use Rattle.qh_streams.specs.declared.frames.SentFrame.TheVariants as sent
 use Rattle.qh_streams.specs.declared.frames.StreamEvent.{StreamEvent}
 use Rattle.qh_streams.specs.declared.frames.StreamEvent.TheVariants.{Opened, Readable, Writable, Finished, Stopped, Available}
-use Rattle.qh_streams.specs.declared.recv.IngestFault.{IngestFault}
-use Rattle.qh_streams.specs.declared.recv.IngestFault.TheVariants.{FlowControl, FinalSize}
-use Rattle.qh_streams.specs.declared.send.Outgoing.{Outgoing}
-use Rattle.qh_streams.specs.declared.send.ResetFrame.{ResetFrame}
-use Rattle.qh_streams.specs.declared.state.counts.StreamCounts.{StreamCounts}
-use Rattle.qh_streams.specs.declared.state.send_halves.Transmission.TheVariants.{Stream, Reset}
-use Rattle.qh_streams.specs.declared.state.recv_halves.StreamControl.TheVariants.{StopSending, MaxStreamData}
-use Rattle.qh_streams.specs.Counts.{AreCounts, is_own, is_bi, index_of, has_send, has_recv, count_limit, with_max_opened}
-use Rattle.qh_streams.specs.Limit.{is_due, acked_at, lost_at, owes_value}
-use Rattle.qh_streams.specs.Send.{PlainSend, new_send}
-use Rattle.qh_streams.specs.SendHalves.{PlainSendHalves, send_at, write_limit, IsStep, IsAbsent, IsSettledBy, IsStoppedWith, HasLimit, IsUnblocked, IsSpanAt, IsSentNext, IsLost, IsAcked, IsResetLost, IsResetAcked, IsSettledAt, half_owes_reset, half_is_writable, half_holds, NoneWaits}
-use Rattle.qh_streams.specs.Recv.{PlainRecv, new_recv}
-use Rattle.qh_streams.specs.RecvHalves.{PlainRecvHalves, recv_at, half_ingest_fault, half_is_wanted, data_limit, IsRecvStep, IsPieceTaken, IsResetTaken, IsRecvAbsent, GivesControl, NoneIsDue, IsStopLost, IsStopAcked, IsLimitLost, IsLimitAcked, half_owes_limit, half_owes_stop}
+use Rattle.qh_half.specs.declared.recv.IngestFault.{IngestFault}
+use Rattle.qh_half.specs.declared.recv.IngestFault.TheVariants.{FlowControl, FinalSize}
+use Rattle.qh_half.specs.declared.send.Outgoing.{Outgoing}
+use Rattle.qh_half.specs.declared.send.ResetFrame.{ResetFrame}
+use Rattle.qh_halves.specs.declared.counts.StreamCounts.{StreamCounts}
+use Rattle.qh_halves.specs.declared.send_halves.Transmission.TheVariants.{Stream, Reset}
+use Rattle.qh_halves.specs.declared.recv_halves.StreamControl.TheVariants.{StopSending, MaxStreamData}
+use Rattle.qh_halves.specs.Counts.{AreCounts, is_own, is_bi, index_of, has_send, has_recv, count_limit, with_max_opened}
+use Rattle.qh_halves.specs.Limit.{is_due, acked_at, lost_at, owes_value}
+use Rattle.qh_half.specs.Send.{PlainSend, new_send}
+use Rattle.qh_halves.specs.SendHalves.{PlainSendHalves, send_at, write_limit, IsStep, IsAbsent, IsSettledBy, IsStoppedWith, HasLimit, IsUnblocked, IsSpanAt, IsSentNext, IsLost, IsAcked, IsResetLost, IsResetAcked, IsSettledAt, half_owes_reset, half_is_writable, half_holds, NoneWaits}
+use Rattle.qh_half.specs.Recv.{PlainRecv, new_recv}
+use Rattle.qh_halves.specs.RecvHalves.{PlainRecvHalves, recv_at, half_ingest_fault, half_is_wanted, data_limit, IsRecvStep, IsPieceTaken, IsResetTaken, IsRecvAbsent, GivesControl, NoneIsDue, IsStopLost, IsStopAcked, IsLimitLost, IsLimitAcked, half_owes_limit, half_owes_stop}
 
 pub record PlainStreams : Type 0 where
   pub side : Side
@@ -310,11 +310,18 @@ written_frame s (sent.MaxStreams dir count) = frame (by_dir dir 18 19) (Num coun
 abbrev pub head_bound : ℕ
 head_bound = 25
 
--- what is handed out to be sent in one frame, in so much room
+-- no STOP_SENDING and no MAX frame is due
+pub record IsControlIdle (s : PlainStreams) : Type 0 where
+  pub none_is_due : NoneIsDue s.recv
+  pub max_data : is_due s.recv.announced (data_limit s.recv) ≡ false
+  pub max_bidi : is_due s.bi.announced (count_limit s.bi) ≡ false
+  pub max_uni : is_due s.uni.announced (count_limit s.uni) ≡ false
+
+-- What is handed out to be sent in one frame, in so much room. STOP_SENDING and the MAX frames go first.
 pub data IsHandedOver (old new : PlainStreams) (room : ℕ) : SentFrame → Type 0 where
-  stream : (id : StreamId) (piece : Outgoing) → IsSentNext old.send new.send (room - head_bound) id.0 (Stream piece) → new ≡ record old { send = new.send }
+  stream : (id : StreamId) (piece : Outgoing) → IsControlIdle old → IsSentNext old.send new.send (room - head_bound) id.0 (Stream piece) → new ≡ record old { send = new.send }
       → IsHandedOver old new room (sent.Stream id piece)
-  reset : (id : StreamId) (reset : ResetFrame) → IsSentNext old.send new.send (room - head_bound) id.0 (Reset reset) → new ≡ record old { send = new.send }
+  reset : (id : StreamId) (reset : ResetFrame) → IsControlIdle old → IsSentNext old.send new.send (room - head_bound) id.0 (Reset reset) → new ≡ record old { send = new.send }
       → IsHandedOver old new room (sent.ResetStream id reset)
   stop : (id : StreamId) (code : ℕ) → IsRecvStep (GivesControl old.recv.stream_window (StopSending code)) old.recv new.recv id.0 0 → new ≡ record old { recv = new.recv }
       → IsHandedOver old new room (sent.StopSending id code)
@@ -325,13 +332,6 @@ pub data IsHandedOver (old new : PlainStreams) (room : ℕ) : SentFrame → Type
   max_streams : (dir : Dir) (count : ℕ) → count ≡ count_limit (counts_of old (is_two_way dir)) → is_due (counts_of old (is_two_way dir)).announced count ≡ true
       → new ≡ with_counts old (is_two_way dir) (record (counts_of old (is_two_way dir)) { announced = record { value = count; mark = Sent } })
       → IsHandedOver old new room (sent.MaxStreams dir count)
-
--- no STOP_SENDING and no MAX frame is due
-pub record IsControlIdle (s : PlainStreams) : Type 0 where
-  pub none_is_due : NoneIsDue s.recv
-  pub max_data : is_due s.recv.announced (data_limit s.recv) ≡ false
-  pub max_bidi : is_due s.bi.announced (count_limit s.bi) ≡ false
-  pub max_uni : is_due s.uni.announced (count_limit s.uni) ≡ false
 
 -- nothing is left to be sent
 abbrev pub IsIdle : PlainStreams → Type 0
@@ -354,11 +354,15 @@ IsOutHeld s (sent.MaxData limit) = Unit {0}
 IsOutHeld s (sent.MaxStreamData id limit) = has_form id.0
 IsOutHeld s (sent.MaxStreams dir count) = Unit {0}
 
+-- what is written of a frame is read as that frame, whatever comes behind it
+abbrev pub IsReadBack : QuicFrame → Type 0
+IsReadBack f = (rest : List ℕ) → IsQuicFrame (frame_bytes f ++ rest) f rest
+
 -- frames that were written one after another into so much room, with their bytes
 pub data AreWritten : (room : ℕ) → (old new : PlainStreams) → List SentFrame → List ℕ → Type 0 where
   none : (room : ℕ) (s : PlainStreams) → AreWritten room s s [] []
   more : (room : ℕ) (old mid new : PlainStreams) (f : SentFrame) (fs : List SentFrame) (bytes : List ℕ) → IsHandedOver old mid room f
-      → length (frame_bytes (written_frame mid f)) ≤ room → AreWritten (room - length (frame_bytes (written_frame mid f))) mid new fs bytes
+      → length (frame_bytes (written_frame mid f)) ≤ room → IsReadBack (written_frame mid f) → AreWritten (room - length (frame_bytes (written_frame mid f))) mid new fs bytes
       → AreWritten room old new (f ∷ fs) (frame_bytes (written_frame mid f) ++ bytes)
 
 -- ---- frames that are lost or acknowledged
@@ -401,6 +405,7 @@ pub record IsOneWritten (room : ℕ) (old new : PlainStreams) (out_old out_new :
   pub frame : SentFrame
   pub handed : IsHandedOver old new room frame
   pub fits : length (frame_bytes (written_frame new frame)) ≤ room
+  pub reads_back : IsReadBack (written_frame new frame)
   pub out_is : out_new ≡ out_old ++ frame_bytes (written_frame new frame)
   pub sent_is : sent_new ≡ sent_old ++ frame ∷ []
   pub is_out : IsOut new frame

@@ -3,17 +3,17 @@ use Rattle.std.specs.Prelude.{◌≡◌, ◌⊎◌, ℕ, ℤ, ◌<◌, ◌≤◌
 use Rattle.qh_buffers.specs.SendBuffer.{mark_at}
 use Rattle.qh_buffers.specs.declared.send_buffer.Mark.TheVariants.{Sent}
 use Rattle.qh_buffers.specs.declared.assembler.Chunk.{Chunk}
-use Rattle.qh_streams.specs.declared.fault.ReadFault.{ReadFault}
+use Rattle.qh_half.specs.declared.fault.ReadFault.{ReadFault}
 use Rattle.qh_spec.specs.Lists.{In}
 use Rattle.qh_spec.specs.declared.sides.Dir.{Dir}
 use Rattle.qh_streams.specs.declared.frames.SentFrame.{SentFrame}
 use Rattle.qh_streams.specs.declared.frames.SentFrame.TheVariants as sent
-use Rattle.qh_streams.specs.declared.send.SendState.TheVariants.{DataSent, ResetSent}
-use Rattle.qh_streams.specs.declared.recv.StopFrame.{StopFrame}
-use Rattle.qh_streams.specs.Send.{PlainSend, is_reset}
-use Rattle.qh_streams.specs.SendHalves.{PlainSendHalves, send_at, IsStep, Takes, Finishes, IsResetWith, HasPriority, IsStoppedWith, HasLimit}
-use Rattle.qh_streams.specs.Recv.{PlainRecv}
-use Rattle.qh_streams.specs.RecvHalves.{PlainRecvHalves, recv_at, IsRecvStep, IsPieceTaken, IsResetTaken, Reads, Begins, Stops, TakesReset}
+use Rattle.qh_half.specs.declared.send.SendState.TheVariants.{DataSent, ResetSent}
+use Rattle.qh_half.specs.declared.recv.StopFrame.{StopFrame}
+use Rattle.qh_half.specs.Send.{PlainSend, is_reset}
+use Rattle.qh_halves.specs.SendHalves.{PlainSendHalves, send_at, IsStep, Takes, Finishes, IsResetWith, HasPriority, IsStoppedWith, HasLimit}
+use Rattle.qh_half.specs.Recv.{PlainRecv}
+use Rattle.qh_halves.specs.RecvHalves.{PlainRecvHalves, recv_at, IsRecvStep, IsPieceTaken, IsResetTaken, Reads, Begins, Stops, TakesReset}
 use Rattle.qh_streams.specs.Streams.{PlainStreams, counts_of, is_two_way}
 
 -- one of the frames is so

@@ -3,9 +3,9 @@ use Rattle.std.specs.Prelude.{◌≡◌, ◌⊎◌, ℕ, ℤ, Bool, true, false,
 use Rattle.qh_spec.specs.Lists.{In}
 use Rattle.qh_streams.specs.declared.frames.SentFrame.{SentFrame}
 use Rattle.qh_streams.specs.declared.frames.SentFrame.TheVariants as sent
-use Rattle.qh_streams.specs.Pending.{goes_before}
-use Rattle.qh_streams.specs.Send.{PlainSend, Waits}
-use Rattle.qh_streams.specs.SendHalves.{PlainSendHalves, send_at, half_priority}
+use Rattle.qh_halves.specs.Pending.{goes_before}
+use Rattle.qh_half.specs.Send.{PlainSend, Waits}
+use Rattle.qh_halves.specs.SendHalves.{PlainSendHalves, send_at, half_priority}
 
 -- the stream whose sending half a frame comes of
 abbrev pub sender_of : SentFrame → Option ℕ

@@ -1,3 +1,5 @@
+ghost use Rattle.std.specs.Prelude.{◌≡◌};
+
 use crate::{Outgoing, ResetFrame};
 use bytes::Bytes;
 use qh_base::{Dir, StreamId, VarInt};
@@ -37,7 +39,9 @@ pub struct PeerLimits {
 
 impl PeerLimits {
     /// Nothing may be sent yet.
-    pub fn none() -> PeerLimits {
+    pub fn none() -> PeerLimits
+        ensures { result ≡ record { max_data = 0; bidi_local = 0; bidi_remote = 0; uni = 0; max_bidi = 0; max_uni = 0 } }
+    {
         let zero = VarInt::from_u32(0);
         PeerLimits {
             max_data: zero,

@@ -1,12 +1,12 @@
 ghost use Rattle.std.specs.Prelude.{◌≡◌, ◌⊎◌, take, min, length, true, false, OnOk, OnErr, IfOk, IfErr, IfSome, MatchResult, None, Some, IsSome};
 ghost use Rattle.std.specs.List.{concat};
-ghost use Rattle.qh_streams.specs.declared.fault.WriteFault.TheVariants.{Memory as Wanting};
+ghost use Rattle.qh_half.specs.declared.fault.WriteFault.TheVariants.{Memory as Wanting};
 ghost use Rattle.qh_streams.specs.declared.halves.ChunksState.TheVariants.{Readable};
 ghost use Rattle.qh_streams.specs.Halves.{IsChunk, last_answer, state_after};
-ghost use Rattle.qh_streams.specs.Send.{credit, chunks_after, whole_chunks};
-ghost use Rattle.qh_streams.specs.SendHalves.{send_at, write_limit, write_fault_at, finish_fault_at, is_reset_refused_at, half_priority, IsStep, Takes, Finishes, IsResetWith, HasPriority};
-ghost use Rattle.qh_streams.specs.RecvHalves.{IsRecvStep, Begins, Stops, TakesReset, readable_fault_at, is_closed_at, is_credit_due};
-ghost use Rattle.qh_streams.specs.Streams.{counted_closed, is_live, with_blocked};
+ghost use Rattle.qh_half.specs.Send.{credit, chunks_after, whole_chunks};
+ghost use Rattle.qh_halves.specs.SendHalves.{send_at, write_limit, write_fault_at, finish_fault_at, is_reset_refused_at, half_priority, IsStep, Takes, Finishes, IsResetWith, HasPriority};
+ghost use Rattle.qh_halves.specs.RecvHalves.{IsRecvStep, Begins, Stops, TakesReset, readable_fault_at, is_closed_at, is_credit_due};
+ghost use Rattle.qh_streams.specs.Streams.{counted_closed, is_live, with_blocked, KeepsOut};
 
 use crate::{ClosedStream, FinishFault, ReadFault, ReadableFault, Streams, WriteFault, Written};
 use bytes::Bytes;
@@ -80,6 +80,7 @@ impl SendHalf<'_> {
     pub fn write(&mut self, alloc: Global, payload: &[u8]) -> Result<usize, WriteFault>
         ensures same_reference { self.new.streams.ghost_name ≡ self.old.streams.ghost_name }
         ensures id { self.new.id ≡ self.old.id }
+        ensures keeps_out { KeepsOut self.old.streams.now self.new.streams.now }
         ensures count { IfOk result (λ n. IfSome (send_at self.old.streams.now.send self.old.id.0) (λ h. n ≡ min (length payload.now) (credit h (write_limit self.old.streams.now.send)))) }
         ensures ok { IfOk result (λ n. IsStep (Takes (take n payload.now)) self.old.streams.now.send self.new.streams.now.send self.old.id.0 n × (self.new.streams.now ≡ record self.old.streams.now { send = self.new.streams.now.send })) }
         ensures taken { OnOk result (write_fault_at self.old.streams.now.send self.old.id.0 ≡ None) }
@@ -96,6 +97,7 @@ impl SendHalf<'_> {
     ) -> Result<Written, WriteFault>
         ensures same_reference { self.new.streams.ghost_name ≡ self.old.streams.ghost_name }
         ensures id { self.new.id ≡ self.old.id }
+        ensures keeps_out { KeepsOut self.old.streams.now self.new.streams.now }
         ensures count { IfOk result (λ w. IfSome (send_at self.old.streams.now.send self.old.id.0) (λ h. w.bytes ≡ min (length (concat chunks.old)) (credit h (write_limit self.old.streams.now.send)))) }
         ensures ok { IfOk result (λ w. IsStep (Takes (take w.bytes (concat chunks.old))) self.old.streams.now.send self.new.streams.now.send self.old.id.0 w.bytes × (self.new.streams.now ≡ record self.old.streams.now { send = self.new.streams.now.send })) }
         ensures chunks { IfOk result (λ w. (chunks.new ≡ chunks_after w.bytes chunks.old) × (w.chunks ≡ whole_chunks w.bytes chunks.old)) }
@@ -110,6 +112,7 @@ impl SendHalf<'_> {
     pub fn finish(&mut self) -> Result<(), FinishFault>
         ensures same_reference { self.new.streams.ghost_name ≡ self.old.streams.ghost_name }
         ensures id { self.new.id ≡ self.old.id }
+        ensures keeps_out { KeepsOut self.old.streams.now self.new.streams.now }
         ensures ok { OnOk result (IsStep Finishes self.old.streams.now.send self.new.streams.now.send self.old.id.0 0 × (self.new.streams.now ≡ record self.old.streams.now { send = self.new.streams.now.send })) }
         ensures fault { IfErr result (λ e. (finish_fault_at self.old.streams.now.send self.old.id.0 ≡ Some e) × (self.new.streams.now ≡ self.old.streams.now)) }
     {
@@ -120,6 +123,7 @@ impl SendHalf<'_> {
     pub fn reset(&mut self, code: VarInt) -> Result<(), ClosedStream>
         ensures same_reference { self.new.streams.ghost_name ≡ self.old.streams.ghost_name }
         ensures id { self.new.id ≡ self.old.id }
+        ensures keeps_out { KeepsOut self.old.streams.now self.new.streams.now }
         ensures ok { OnOk result (IsStep (IsResetWith code) self.old.streams.now.send self.new.streams.now.send self.old.id.0 0 × (self.new.streams.now ≡ record self.old.streams.now { send = self.new.streams.now.send })) }
         ensures fault { OnErr result ((is_reset_refused_at self.old.streams.now.send self.old.id.0 ≡ true) × (self.new.streams.now ≡ self.old.streams.now)) }
     {
@@ -145,6 +149,7 @@ impl SendHalf<'_> {
     pub fn set_priority(&mut self, priority: i32) -> Result<(), ClosedStream>
         ensures same_reference { self.new.streams.ghost_name ≡ self.old.streams.ghost_name }
         ensures id { self.new.id ≡ self.old.id }
+        ensures keeps_out { KeepsOut self.old.streams.now self.new.streams.now }
         ensures ok { OnOk result (IsStep (HasPriority priority) self.old.streams.now.send self.new.streams.now.send self.old.id.0 0 × (self.new.streams.now ≡ record self.old.streams.now { send = self.new.streams.now.send })) }
         ensures fault { OnErr result ((send_at self.old.streams.now.send self.old.id.0 ≡ None) × (self.new.streams.now ≡ self.old.streams.now)) }
     {
@@ -159,6 +164,7 @@ impl<'a> RecvHalf<'a> {
         ensures ok { IfOk result (λ c. (readable_fault_at self.entry.streams.now.recv self.entry.id.0 ordered ≡ None) × (c.id ≡ self.entry.id) × (c.state ≡ Readable)
             × IsRecvStep (Begins ordered) self.entry.streams.now.recv c.streams.now.recv self.entry.id.0 0 × (c.streams.now ≡ record self.entry.streams.now { recv = c.streams.now.recv })) }
         ensures readable { IfOk result (λ c. is_closed_at c.streams.now.recv c.id.0 ≡ false) }
+        ensures keeps_out { IfOk result (λ c. KeepsOut self.entry.streams.now c.streams.now) }
         ensures fault { IfErr result (λ e. readable_fault_at self.entry.streams.now.recv self.entry.id.0 ordered ≡ Some e) }
     {
         let RecvHalf { streams, id } = self;
@@ -174,6 +180,7 @@ impl<'a> RecvHalf<'a> {
     pub fn stop(&mut self, code: VarInt) -> Result<(), ClosedStream>
         ensures same_reference { self.new.streams.ghost_name ≡ self.old.streams.ghost_name }
         ensures id { self.new.id ≡ self.old.id }
+        ensures keeps_out { KeepsOut self.old.streams.now self.new.streams.now }
         ensures ok { OnOk result (IsRecvStep (Stops code) self.old.streams.now.recv self.new.streams.now.recv self.old.id.0 0
             × (self.new.streams.now ≡ counted_closed (record self.old.streams.now { recv = self.new.streams.now.recv }) self.old.id.0 (is_live self.old.streams.now self.old.id.0))) }
         ensures fault { OnErr result ((is_closed_at self.old.streams.now.recv self.old.id.0 ≡ true) × (self.new.streams.now ≡ self.old.streams.now)) }
@@ -185,6 +192,7 @@ impl<'a> RecvHalf<'a> {
     pub fn received_reset(&mut self) -> Result<Option<VarInt>, ClosedStream>
         ensures same_reference { self.new.streams.ghost_name ≡ self.old.streams.ghost_name }
         ensures id { self.new.id ≡ self.old.id }
+        ensures keeps_out { KeepsOut self.old.streams.now self.new.streams.now }
         ensures ok { IfOk result (λ code. IsRecvStep (TakesReset code) self.old.streams.now.recv self.new.streams.now.recv self.old.id.0 0
             × (self.new.streams.now ≡ counted_closed (record self.old.streams.now { recv = self.new.streams.now.recv }) self.old.id.0 (is_live self.old.streams.now self.old.id.0))) }
         ensures fault { OnErr result ((is_closed_at self.old.streams.now.recv self.old.id.0 ≡ true) × (self.new.streams.now ≡ self.old.streams.now)) }
@@ -200,6 +208,7 @@ impl Chunks<'_> {
         requires { self.old.state ≡ Readable → is_closed_at self.old.streams.now.recv self.old.id.0 ≡ false }
         ensures same_reference { self.new.streams.ghost_name ≡ self.old.streams.ghost_name }
         ensures id { self.new.id ≡ self.old.id }
+        ensures keeps_out { KeepsOut self.old.streams.now self.new.streams.now }
         ensures answer { IsChunk self.old.streams.now self.new.streams.now self.old.id.0 max_length self.old.state self.new.state result }
         ensures readable { self.new.state ≡ Readable → is_closed_at self.new.streams.now.recv self.new.id.0 ≡ false }
     {

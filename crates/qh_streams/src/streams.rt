@@ -1,8 +1,9 @@
 ghost use Rattle.std.specs.Prelude.{◌≡◌, ◌-◌, ◌<◌, ◌^◌, ◌==◌, min, [], length, None, IfSome, if◌then◌else◌};
 ghost use Rattle.qh_spec.specs.StreamId.{stream_id};
 ghost use Rattle.qh_buffers.specs.declared.send_buffer.Mark.TheVariants.{Acked};
-ghost use Rattle.qh_streams.specs.Counts.{AreCounts, AreNoFewer, is_own, new_counts, other_side, count_limit};
-ghost use Rattle.qh_streams.specs.RecvHalves.{data_limit};
+ghost use Rattle.qh_halves.specs.Counts.{AreCounts, AreNoFewer, is_own, new_counts, other_side, count_limit};
+ghost use Rattle.qh_halves.specs.RecvHalves.{data_limit};
+ghost use Rattle.qh_streams.specs.Tracked.{IsFresh};
 ghost use Rattle.qh_streams.specs.Streams.{counts_of, with_counts, is_two_way, is_live, was_opened, counted_closed, with_accepted, with_peer, KeepsOut};
 
 mod calls;
@@ -14,8 +15,9 @@ mod settling;
 mod tests;
 mod writing;
 
-use crate::{PeerLimits, RecvHalves, SendHalves, StreamCounts, StreamEvent, StreamLimits};
+use crate::{PeerLimits, StreamEvent, StreamLimits};
 use qh_base::{Dir, Memory, Side, StreamId, VarInt};
+use qh_halves::{RecvHalves, SendHalves, StreamCounts};
 use std::alloc::Global;
 use std::collections::{BTreeSet, VecDeque};
 use std::marker::Model;
@@ -54,6 +56,7 @@ impl Streams {
         ensures bi { result.bi ≡ new_counts limits.max_bidi }
         ensures uni { result.uni ≡ new_counts limits.max_uni }
         ensures none { (result.blocked ≡ []) × (result.events ≡ []) }
+        ensures fresh { IsFresh result }
     {
         Streams {
             side,
@@ -77,6 +80,13 @@ impl Streams {
         self.bi = self.bi.with_max_opened(peer.max_bidi);
         self.uni = self.uni.with_max_opened(peer.max_uni);
         self.peer = peer;
+    }
+
+    /// Which end this is.
+    pub fn side(&self) -> Side
+        ensures { result ≡ self.now.side }
+    {
+        self.side
     }
 
     /// Whether no sending half is there, as `set_peer` asks.

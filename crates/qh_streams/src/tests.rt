@@ -4,7 +4,7 @@ ghost use Rattle.qh_streams.specs.Streams.{IsOut, KeepsOut};
 
 use crate::{
     PeerLimits, ReadFault, SentFrame, StreamEvent, StreamFault, StreamFrame, StreamLimits, Streams,
-    WriteFault,
+    WriteFault, Written,
 };
 use bytes::Bytes;
 use qh_base::{Dir, Memory, Side, StreamId, VarInt};
@@ -169,7 +169,16 @@ fn it_opens_and_writes_within_the_limits(rt: HostRuntime) -> Result<(), Fail> {
     let mut client = end(alloc, Side::Client, LIMITS, few);
     assert_eq!(rt; opened(alloc, &mut client)?, StreamId(0));
     assert_eq!(rt; client.open(alloc, Dir::Bi)?, None);
-    assert_eq!(rt; client.write(alloc, StreamId(0), b"hello world"), Ok(5));
+    let mut chunks = [Bytes::from_static(b"h"), Bytes::from_static(b"e")];
+    let written = Written {
+        bytes: 2,
+        chunks: 2,
+    };
+    assert_eq!(rt;
+        client.write_chunks(alloc, StreamId(0), &mut chunks),
+        Ok(written)
+    );
+    assert_eq!(rt; client.write(alloc, StreamId(0), b"llo world"), Ok(3));
     assert_eq!(rt;
         client.write(alloc, StreamId(0), b" world"),
         Err(WriteFault::Blocked)

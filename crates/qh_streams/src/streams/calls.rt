@@ -1,9 +1,9 @@
 ghost use Rattle.std.specs.Prelude.{◌≡◌, ◌⊎◌, take, min, length, true, false, Ok, Err, OnOk, OnErr, IfOk, IfErr, IfSome, MatchResult, None, Some, IsSome};
 ghost use Rattle.std.specs.List.{concat};
-ghost use Rattle.qh_streams.specs.declared.fault.WriteFault.TheVariants.{Memory as Wanting};
-ghost use Rattle.qh_streams.specs.Send.{credit, chunks_after, whole_chunks};
-ghost use Rattle.qh_streams.specs.SendHalves.{send_at, write_limit, write_fault_at, finish_fault_at, is_reset_refused_at, half_priority, IsStep, IsAbsent, Takes, Finishes, IsResetWith, HasPriority};
-ghost use Rattle.qh_streams.specs.RecvHalves.{IsRecvStep, Reads, Begins, Stops, TakesReset, readable_fault_at, is_closed_at, is_credit_due};
+ghost use Rattle.qh_half.specs.declared.fault.WriteFault.TheVariants.{Memory as Wanting};
+ghost use Rattle.qh_half.specs.Send.{credit, chunks_after, whole_chunks};
+ghost use Rattle.qh_halves.specs.SendHalves.{send_at, write_limit, write_fault_at, finish_fault_at, is_reset_refused_at, half_priority, IsStep, IsAbsent, Takes, Finishes, IsResetWith, HasPriority};
+ghost use Rattle.qh_halves.specs.RecvHalves.{IsRecvStep, Reads, Begins, Stops, TakesReset, readable_fault_at, is_closed_at, is_credit_due};
 ghost use Rattle.qh_streams.specs.Streams.{counted_closed, is_live, with_blocked, KeepsOut};
 
 use crate::{ClosedStream, FinishFault, ReadFault, ReadableFault, Streams, WriteFault, Written};

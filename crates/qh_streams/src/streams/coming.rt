@@ -1,14 +1,15 @@
 ghost use Rattle.std.specs.Prelude.{◌≡◌, ◌⊎◌, ◌+◌, length, OnErr, OnOk, IfErr, MatchOption, None, true, false};
 ghost use Rattle.qh_streams.specs.declared.fault.StreamFault.TheVariants.{Memory as Wanting};
 ghost use Rattle.qh_streams.specs.declared.frames.StreamFrame.TheVariants.{Stream, ResetStream, StopSending, MaxStreamData, MaxStreams};
-ghost use Rattle.qh_streams.specs.Counts.{has_send, has_recv};
+ghost use Rattle.qh_halves.specs.Counts.{has_send, has_recv};
 ghost use Rattle.qh_streams.specs.Streams.{refusal_of, id_refusal, ingest_refusal, size_refusal, was_opened, IsPieceReceived, IsResetReceived, IsRefusal, IsReceived, IsWithinCount, HasUnblocked, KeepsOut};
 
-use crate::state::MAX_STREAMS;
-use crate::{IngestFault, StreamEvent, StreamFault, StreamFrame, Streams};
+use crate::{StreamEvent, StreamFault, StreamFrame, Streams};
 use bytes::Bytes;
 use qh_base::{Dir, Memory, Reason, StreamId, TransportError, TransportErrorCode, VarInt};
 use qh_buffers::Chunk;
+use qh_half::IngestFault;
+use qh_halves::MAX_STREAMS;
 use std::alloc::Global;
 
 impl From<Memory> for StreamFault {

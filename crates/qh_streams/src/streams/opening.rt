@@ -4,14 +4,15 @@ ghost use Rattle.std.specs.Map.{keys_of};
 ghost use Rattle.std.specs.List.Sorted.{IsStrictlySortedBy};
 ghost use Rattle.qh_spec.specs.StreamId.{stream_id};
 ghost use Rattle.qh_streams.specs.Streams.{counts_of, is_two_way, first_limit, was_opened, IsOpened, HasArrived, IsWithinCount, IsSorted, CanDepart, PlainStreams, KeepsOut};
-ghost use Rattle.qh_streams.specs.Counts.{is_bi, is_in_range};
-ghost use Rattle.qh_streams.specs.Send.{new_send};
-ghost use Rattle.qh_streams.specs.SendHalves.{send_at, IsHalf, AreAdded};
-ghost use Rattle.qh_streams.specs.Recv.{new_recv};
-ghost use Rattle.qh_streams.specs.RecvHalves.{recv_at, IsRecvHalf, AreRecvAdded};
+ghost use Rattle.qh_halves.specs.Counts.{is_bi, is_in_range};
+ghost use Rattle.qh_half.specs.Send.{new_send};
+ghost use Rattle.qh_halves.specs.SendHalves.{send_at, IsHalf, AreAdded};
+ghost use Rattle.qh_half.specs.Recv.{new_recv};
+ghost use Rattle.qh_halves.specs.RecvHalves.{recv_at, IsRecvHalf, AreRecvAdded};
 
-use crate::{RecvHalves, SendHalves, StreamCounts, StreamEvent, Streams};
+use crate::{StreamEvent, Streams};
 use qh_base::{Dir, Memory, StreamId, VarInt};
+use qh_halves::{RecvHalves, SendHalves, StreamCounts};
 use std::alloc::Global;
 
 impl Streams {

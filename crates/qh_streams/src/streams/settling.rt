@@ -1,10 +1,11 @@
 ghost use Rattle.std.specs.Prelude.{◌≡◌, true, false};
 ghost use Rattle.qh_streams.specs.declared.frames.SentFrame.TheVariants.{Stream, ResetStream, MaxStreams};
-ghost use Rattle.qh_streams.specs.declared.send.ResetFrame.{ResetFrame as Reset};
+ghost use Rattle.qh_half.specs.declared.send.ResetFrame.{ResetFrame as Reset};
 ghost use Rattle.qh_streams.specs.Streams.{IsOut, IsLostFrame, IsAckedFrame, IsSettledFrame, AreAllOut, AreAcked, AreLost, KeepsOut, counts_of, with_counts, is_two_way};
 
-use crate::{AnnouncedLimit, Outgoing, SentFrame, StreamEvent, Streams};
+use crate::{Outgoing, SentFrame, StreamEvent, Streams};
 use qh_base::{Dir, StreamId, VarInt};
+use qh_halves::AnnouncedLimit;
 
 impl Streams {
     /// A frame is lost: what of it isn't acknowledged waits to be sent again, bytes as they were, limits with the value of

@@ -1,18 +1,17 @@
 ghost use Rattle.std.specs.Prelude.{◌≡◌, ◌⊎◌, ◌+◌, ◌-◌, ◌<◌, ◌≤◌, ℕ, length, OnErr, OnOk, IfOk, IfSome, None, true, false};
 ghost use Rattle.qh_frame.specs.FrameBytes.{IsPut};
 ghost use Rattle.qh_streams.specs.declared.frames.SentFrame.TheVariants.{Stream, MaxStreams};
-ghost use Rattle.qh_streams.specs.Counts.{count_limit};
-ghost use Rattle.qh_streams.specs.Limit.{is_due};
+ghost use Rattle.qh_halves.specs.Counts.{count_limit};
+ghost use Rattle.qh_halves.specs.Limit.{is_due};
 ghost use Rattle.qh_streams.specs.Streams.{counts_of, is_two_way, IsOutHeld, IsHandedOver, IsIdle, IsControlIdle, IsWrittenBy, IsOneWritten, IsLostAtOnce, AreAllOut, KeepsOut, written_frame, head_bound, payload_length};
 
-use crate::{
-    AnnouncedLimit, Outgoing, SentFrame, StreamControl, StreamCounts, Streams, Transmission,
-};
+use crate::{Outgoing, SentFrame, Streams};
 use qh_base::{Dir, Memory, StreamId, VarInt};
 use qh_frame::{
     put_max_data, put_max_stream_data, put_max_streams, put_reset_stream, put_stop_sending,
     put_stream_head,
 };
+use qh_halves::{AnnouncedLimit, StreamControl, StreamCounts, Transmission};
 
 /// A frame's head is at most so long: type, stream, offset and length (RFC 9000, section 19.8).
 const HEAD_BOUND: usize = 25;

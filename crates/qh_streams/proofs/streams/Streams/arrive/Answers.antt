@@ -4,8 +4,8 @@ use Rattle.qh_spec.specs.declared.sides.Dir.{Dir}
 use Rattle.qh_streams.specs.contracts.streams.Streams.{the_view}
 use Rattle.qh_streams.specs.declared.frames.StreamEvent.{StreamEvent}
 use Rattle.qh_streams.specs.declared.frames.StreamEvent.TheVariants.{Opened}
-use Rattle.qh_streams.specs.declared.state.counts.StreamCounts.{StreamCounts}
-use Rattle.qh_streams.specs.Counts.{is_own, is_bi, index_of, is_in_range, AreCounts, AreNoFewer}
+use Rattle.qh_halves.specs.declared.counts.StreamCounts.{StreamCounts}
+use Rattle.qh_halves.specs.Counts.{is_own, is_bi, index_of, is_in_range, AreCounts, AreNoFewer}
 use Rattle.qh_streams.specs.Streams.{PlainStreams, AreOpened, is_two_way, dir_of, counts_of, with_counts, was_opened, arrives_with, IsWithinCount}
 use Rattle.qh_streams.proofs.StreamsKept.{halves_kept, send_same, recv_same, both_set, both_are}
 use Rattle.qh_streams.proofs.StreamsOpened.{no_send_half, no_recv_half, opened_is, kept_after, out_after, set_here}

@@ -2,15 +2,15 @@ use Rattle.std.proofs.Common.{◌≡◌, ℕ, ◌+◌, ◌-◌, ◌*◌, ◌%◌
 use Rattle.std.proofs.lemmas.List.{length-take}
 use Rattle.std.proofs.lemmas.Bool.{cases_Bool, false≢true}
 use Rattle.qh_streams.specs.contracts.streams.Streams.{the_view}
-use Rattle.qh_streams.specs.declared.state.counts.StreamCounts.{StreamCounts}
-use Rattle.qh_streams.specs.Counts.{is_own, is_bi, index_of, is_in_range, AreCounts}
-use Rattle.qh_streams.specs.SendHalves.{PlainSendHalves, send_at}
-use Rattle.qh_streams.specs.Send.{PlainSend}
-use Rattle.qh_streams.specs.Recv.{PlainRecv}
+use Rattle.qh_halves.specs.declared.counts.StreamCounts.{StreamCounts}
+use Rattle.qh_halves.specs.Counts.{is_own, is_bi, index_of, is_in_range, AreCounts}
+use Rattle.qh_halves.specs.SendHalves.{PlainSendHalves, send_at}
+use Rattle.qh_half.specs.Send.{PlainSend}
+use Rattle.qh_half.specs.Recv.{PlainRecv}
 use Rattle.qh_streams.specs.declared.frames.StreamEvent.{StreamEvent}
 use Rattle.qh_streams.specs.declared.frames.StreamEvent.TheVariants.{Opened}
-use Rattle.qh_streams.proofs.HalvesRanges.{same_values}
-use Rattle.qh_streams.specs.RecvHalves.{PlainRecvHalves, recv_at}
+use Rattle.qh_halves.proofs.HalvesRanges.{same_values}
+use Rattle.qh_halves.specs.RecvHalves.{PlainRecvHalves, recv_at}
 use Rattle.qh_streams.specs.Streams.{PlainStreams, is_two_way, counts_of, was_opened, arrives_with, with_counts, dir_of, new_send_half, new_recv_half, HasArrived, IsSorted}
 use Rattle.qh_streams.proofs.StreamsKept.{both_set, both_are}
 use Rattle.qh_streams.proofs.StreamsOpened.{opened_is, set_here}

@@ -1,4 +1,5 @@
-use Rattle.std.proofs.Common.{◌≡◌, ◌∙◌, refl, sym, ap}
+use Rattle.std.proofs.Common.{◌≡◌, ◌∙◌, refl, sym, ap, subst}
+use Rattle.qh_streams.specs.Streams.{PlainStreams, IsControlIdle}
 use Rattle.qh_streams.proofs.StreamsKept.{send_kept, send_step}
 use Rattle.qh_streams.proofs.StreamsWritten.{frame_of, sent_handed, sent_out, all_idle}
 use Rattle.qh_streams.proofs.streams.Streams.next_frame.Goals.{in-Stream, in-Reset}
@@ -22,7 +23,7 @@ returns-clause-some c =
     ] in
     let none = c.in_default.ensures.none refl in
     let next = rw c.in-Some-2.is at c.in_ok-id.ensures.some in
-    rw (frame_is, ← none.0, ← c.self.view_is) (sent_handed _ c.poll_transmit.new.self c.args.room c.in-Some-2.id c.in-Some-2.transmission next)
+    rw (frame_is, ← none.0, ← c.self.view_is) (sent_handed _ c.poll_transmit.new.self c.args.room c.in-Some-2.id c.in-Some-2.transmission (subst (λ (s : PlainStreams). IsControlIdle s) (sym (c.self.view_is ∙ none.0)) none.1) next)
 
 pub returns-clause-out : goal.returns-clause-out
 returns-clause-out c =

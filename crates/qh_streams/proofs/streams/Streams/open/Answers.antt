@@ -3,9 +3,9 @@ use Rattle.std.proofs.lemmas.Bool.{eqb-true, le-ltb, lt-ltb}
 use Rattle.qh_streams.specs.declared.frames.StreamEvent.{StreamEvent}
 use Rattle.qh_spec.specs.StreamId.{stream_id}
 use Rattle.qh_streams.specs.contracts.streams.Streams.{the_view}
-use Rattle.qh_streams.specs.Counts.{is_own, is_bi, index_of, AreCounts, AreNoFewer}
-use Rattle.qh_streams.specs.declared.state.counts.StreamCounts.{StreamCounts}
-use Rattle.qh_streams.specs.RecvHalves.{recv_at}
+use Rattle.qh_halves.specs.Counts.{is_own, is_bi, index_of, AreCounts, AreNoFewer}
+use Rattle.qh_halves.specs.declared.counts.StreamCounts.{StreamCounts}
+use Rattle.qh_halves.specs.RecvHalves.{recv_at}
 use Rattle.qh_streams.specs.Streams.{PlainStreams, AreOpened, is_two_way, counts_of, with_opened, with_counts, was_opened}
 use Rattle.qh_streams.proofs.StreamsKept.{halves_kept, send_same, recv_same, both_set, both_are}
 use Rattle.qh_streams.proofs.StreamsOpened.{own_id, bi_id, index_id, are_opened, kept_after, out_after, opened_is, no_recv_half, set_here}

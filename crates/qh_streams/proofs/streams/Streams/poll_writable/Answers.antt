@@ -1,5 +1,5 @@
 use Rattle.std.proofs.Common.{◌≡◌, ◌<◌, refl, sym, ◌∙◌, arith, inl}
-use Rattle.qh_streams.specs.SendHalves.{write_limit}
+use Rattle.qh_halves.specs.SendHalves.{write_limit}
 use Rattle.qh_streams.specs.Streams.{none as nothing}
 use Rattle.qh_streams.proofs.StreamsPolled.{polling_on, polled_some, polled_none}
 use Rattle.qh_streams.proofs.streams.Streams.poll_writable.Goals as goal

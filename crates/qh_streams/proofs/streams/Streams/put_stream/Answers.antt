@@ -1,7 +1,7 @@
 use Rattle.std.proofs.Common.{◌≡◌, ◌∙◌, ℕ, true, List, Result, Ok, Err, length, take, OnErr, sym, ap, subst, arith}
 use Rattle.std.specs.Result.{is_err}
 use Rattle.qh_frame.proofs.FramesWritten.{on_ok}
-use Rattle.qh_streams.specs.SendHalves.{send_at, half_holds}
+use Rattle.qh_halves.specs.SendHalves.{send_at, half_holds}
 use Rattle.qh_streams.specs.Streams.{PlainStreams}
 use Rattle.qh_streams.proofs.StreamsWritten.{head_behind, piece_put}
 use Rattle.qh_streams.proofs.streams.Streams.put_stream.Goals as goal

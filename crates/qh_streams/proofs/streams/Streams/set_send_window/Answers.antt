@@ -1,5 +1,5 @@
 use Rattle.std.proofs.Common.{refl, ap}
-use Rattle.qh_streams.specs.SendHalves.{PlainSendHalves}
+use Rattle.qh_halves.specs.SendHalves.{PlainSendHalves}
 use Rattle.qh_streams.proofs.StreamsKept.{send_kept, send_halves_same}
 use Rattle.qh_streams.proofs.streams.Streams.set_send_window.Goals as goal
 

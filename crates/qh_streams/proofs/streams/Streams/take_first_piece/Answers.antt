@@ -1,5 +1,5 @@
 use Rattle.std.proofs.Common.{◌≡◌, ◌+◌, length, refl, sym, ap, ◌∙◌, inl, inr}
-use Rattle.qh_streams.specs.declared.recv.IngestFault.{IngestFault}
+use Rattle.qh_half.specs.declared.recv.IngestFault.{IngestFault}
 use Rattle.qh_streams.specs.Streams.{HasArrived, ingest_refusal}
 use Rattle.qh_streams.proofs.StreamsKept.{recv_kept, recv_out}
 use Rattle.qh_streams.proofs.StreamsSettled.{seen}

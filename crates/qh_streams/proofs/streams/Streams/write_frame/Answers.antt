@@ -17,6 +17,7 @@ returns-clause-written c = λ _.
       frame = c.in-Some.frame;
       handed = handed;
       fits = omega (arith, fits, put.size);
+      reads_back = put.is;
       out_is = put.whole;
       sent_is = pushed ∙ ap (λ (l : List SentFrame). l ++ (c.in-Some.frame ∷ [])) c.reserve.ensures.items;
       is_out = held_out c.next_frame.new.self c.in-Some.frame (rw c.in-Some.is at c.in_ok-frame.ensures.out);

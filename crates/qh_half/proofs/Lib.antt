@@ -1,0 +1,4 @@
+pub mod RecvIngested
+pub mod RecvReads
+pub mod SendChunks
+pub mod SendMarks

@@ -1,0 +1,50 @@
+-- What a read leaves in a receiving half.
+use Rattle.std.proofs.Common.{◌≡◌, ℕ, ◌<◌, ◌≤◌, Bool, true, false, Option, Some, None, MatchOption, is_some, if◌then◌else◌, refl, sym, ap, ◌∙◌, inl, inr}
+use Rattle.std.proofs.lemmas.Bool.{cases_lt, or_cases, both_ways}
+use Rattle.qh_buffers.specs.declared.assembler.Chunk.{Chunk}
+use Rattle.qh_buffers.specs.Ranges.{count_of}
+use Rattle.qh_buffers.specs.Assembler.{PlainAssembler, byte_of, end_of, is_over, to_give, was_given, IsGiven}
+use Rattle.qh_buffers.proofs.RangeCounts.{in_start, in_end}
+use Rattle.qh_buffers.proofs.ChunkLaws.{inside}
+use Rattle.qh_half.specs.Recv.{PlainRecv, IsRecv}
+
+-- a piece has a byte at each of its offsets
+has_byte : (c : Chunk) (k : ℕ) → is_over c k ≡ true → is_some (byte_of c k) ≡ true
+has_byte c k h =
+    ap (λ (o : Option ℕ). is_some o) (inside c k (in_start (record { start = c.offset; end = end_of c }) k h) (in_end (record { start = c.offset; end = end_of c }) k h))
+
+pub none_either : (t : Bool) (o : Option ℕ) → o ≡ None → (if t then None else o) ≡ None
+none_either true o h = refl
+none_either false o h = h
+
+module _ (r : PlainRecv) (ok : IsRecv r) (new : PlainAssembler) (max : ℕ) where
+  given_below : (c : Chunk) → IsGiven r.assembler new max c → (k : ℕ) → was_given new k ≡ true → k < r.end
+  given_below c given k h =
+      elim (or_cases (is_over c k) (was_given r.assembler k) (sym (given.given_are k) ∙ h)) [
+        | inl now ↦ elim (cases_lt k r.end) [
+          | inl under ↦ under
+          | inr past ↦
+              let none : byte_of c k ≡ None = sym (given.waited k now) ∙ ok.waiting k past in
+              absurd (both_ways (is_some (byte_of c k)) (ap (λ (o : Option ℕ). is_some o) none) (has_byte c k now))
+        ]
+        | inr earlier ↦ ok.given k earlier
+      ]
+
+  -- what was given lies below the end
+  pub below_after : (o : Option Chunk) → (o ≡ None → new ≡ r.assembler) → MatchOption o (Unit {0}) (IsGiven r.assembler new max) → (k : ℕ) → was_given new k ≡ true → k < r.end
+  below_after None none some k h = ok.given k (rw (none refl) at h)
+  below_after (Some c) none some k h = given_below c some k h
+
+  waiting_after : (o : Option Chunk) → (o ≡ None → new ≡ r.assembler) → MatchOption o (Unit {0}) (IsGiven r.assembler new max) → (k : ℕ) → r.end ≤ k → to_give new k ≡ None
+  waiting_after None none some k h = rw (none refl) (ok.waiting k h)
+  waiting_after (Some c) none some k h = some.bytes_are k ∙ none_either (is_over c k) (to_give r.assembler k) (ok.waiting k h)
+
+  pub recv_after : (o : Option Chunk) → (o ≡ None → new ≡ r.assembler) → MatchOption o (Unit {0}) (IsGiven r.assembler new max) → count_of new.given ≤ r.end → IsRecv (record r { assembler = new })
+  recv_after o none some counted = record {
+    limit = ok.limit;
+    bound = ok.bound;
+    read = counted;
+    given = below_after o none some;
+    waiting = waiting_after o none some;
+    size = ok.size;
+  }

@@ -1,0 +1,131 @@
+-- A half is put in for a stream that has none: the entries by a stream's id then, and once it is taken back.
+use Rattle.std.proofs.Common.{◌≡◌, ◌⊎◌, ℕ, ◌+◌, ◌<◌, ◌≤◌, ◌==◌, Bool, true, false, cond, List, [], ◌∷◌, length, Option, Some, None, unwrap_or, if◌then◌else◌, nat_cmp, Ordering, Less, Greater, refl, sym, ap, ◌∙◌, arith, inl, inr}
+use Rattle.std.specs.BTreeMap.{is_at, insert_entry}
+use Rattle.std.specs.Map.{lookup, remove_entry}
+use Rattle.std.specs.Ordering.{match_ordering}
+use Rattle.std.proofs.lemmas.Bool.{cases_order, eq-eqb, eqb-true, ne_eqb, false≢true, le-ltb}
+use Rattle.std.proofs.lemmas.Bool.Decides.{eqb_tells}
+use Rattle.qh_buffers.specs.declared.send_buffer.Mark.TheVariants.{Acked}
+use Rattle.qh_buffers.specs.SendBuffer.{waits as byte_waits}
+use Rattle.qh_halves.specs.declared.pending.PendingStream.{PendingStream}
+use Rattle.qh_halves.specs.Pending.{PlainPending, has}
+use Rattle.qh_half.specs.Send.{PlainSend, held, Waits, new_send}
+use Rattle.qh_halves.specs.SendHalves.{half_in, half_priority, unacked, AreSendHalves}
+
+pub at_key : (id k : ℕ) → is_at (nat_cmp id) k ≡ (id == k)
+at_key id k = grind arith
+
+less_is : (m n : ℕ) → m < n → nat_cmp m n ≡ Less
+less_is m n h = grind (arith, h)
+
+greater_is : (m n : ℕ) → n < m → nat_cmp m n ≡ Greater
+greater_is m n h = grind (arith, h)
+
+turned : {X : Type 0} (a b : Bool) (x y z : X) → (a ≡ true → b ≡ true → ⊥) → cond a x (cond b y z) ≡ cond b y (cond a x z)
+turned true true x y z apart = absurd (apart refl refl)
+turned true false x y z apart = refl
+turned false b x y z apart = refl
+
+module _ {X : Type 0} where
+  abbrev value_in : List (ℕ × X) → (id : ℕ) → Option X
+  value_in es id = lookup (is_at (nat_cmp id)) es
+
+  at_first : (e : ℕ × X) (es : List (ℕ × X)) (id : ℕ) → value_in (e ∷ es) id ≡ (if id == e.0 then Some e.1 else value_in es id)
+  at_first e es id = ap (λ (b : Bool). if b then Some e.1 else value_in es id) (at_key id e.0)
+
+  behind : (e : ℕ × X) (es : List (ℕ × X)) (id : ℕ) → (id ≡ e.0 → ⊥) → value_in (e ∷ es) id ≡ value_in es id
+  behind e es id apart = at_first e es id ∙ ap (λ (b : Bool). if b then Some e.1 else value_in es id) (ne_eqb id e.0 apart)
+
+  -- where a new entry goes: in front of the first, or behind it
+  data Goes (id : ℕ) (v : X) (e : ℕ × X) (es : List (ℕ × X)) : Type 0 where
+    front : id < e.0 → insert_entry nat_cmp (e ∷ es) id v ≡ (id, v) ∷ e ∷ es → Goes id v e es
+    later : e.0 < id → insert_entry nat_cmp (e ∷ es) id v ≡ e ∷ insert_entry nat_cmp es id v → value_in es id ≡ None → Goes id v e es
+
+  goes : (id : ℕ) (v : X) (e : ℕ × X) (es : List (ℕ × X)) → value_in (e ∷ es) id ≡ None → Goes id v e es
+  goes id v e es none =
+      let to : Ordering → List (ℕ × X) = λ o. match_ordering o ((id, v) ∷ e ∷ es) ((e.0, v) ∷ es) (e ∷ insert_entry nat_cmp es id v) in
+      elim (cases_order id e.0) [
+        | inl same ↦
+            let some = at_first e es id ∙ ap (λ (b : Bool). if b then Some e.1 else value_in es id) (eq-eqb id e.0 same) in
+            absurd (cc)
+        | inr apart ↦ elim apart [
+          | inl below ↦ front below (ap to (less_is id e.0 below))
+          | inr above ↦ later above (ap to (greater_is id e.0 above)) (sym (behind e es id (λ same. omega (arith, same, above))) ∙ none)
+        ]
+      ]
+
+  -- the value of each key
+  pub value_inserted : (es : List (ℕ × X)) (id : ℕ) (v : X) (k : ℕ) → value_in es id ≡ None → value_in (insert_entry nat_cmp es id v) k ≡ (if k == id then Some v else value_in es k)
+  value_inserted [] id v k none = at_first (id, v) [] k
+  value_inserted (e ∷ es) id v k none =
+      let at : List (ℕ × X) → Option X = λ l. value_in l k in
+      elim (goes id v e es none) [
+        | front below is ↦ ap at is ∙ at_first (id, v) (e ∷ es) k
+        | later above is rest ↦
+            let others = value_in es k in
+            ap at is ∙ at_first e (insert_entry nat_cmp es id v) k
+            ∙ ap (λ (o : Option X). if k == e.0 then Some e.1 else o) (value_inserted es id v k rest)
+            ∙ turned (k == e.0) (k == id) (Some e.1) (Some v) others (λ a b. omega (arith, above, eqb-true k e.0 a, eqb-true k id b))
+            ∙ ap (λ (o : Option X). if k == id then Some v else o) (sym (at_first e es k))
+      ]
+
+  -- without it the entries are those before
+  pub inserted_removed : (es : List (ℕ × X)) (id : ℕ) (v : X) → value_in es id ≡ None → remove_entry (is_at (nat_cmp id)) (insert_entry nat_cmp es id v) ≡ es
+  inserted_removed [] id v none = ap (λ (b : Bool). cond b [] ((id, v) ∷ [])) (at_key id id ∙ eq-eqb id id refl)
+  inserted_removed (e ∷ es) id v none =
+      let left : List (ℕ × X) → List (ℕ × X) = λ l. remove_entry (is_at (nat_cmp id)) l in
+      elim (goes id v e es none) [
+        | front below is ↦ ap left is ∙ ap (λ (b : Bool). cond b (e ∷ es) ((id, v) ∷ left (e ∷ es))) (at_key id id ∙ eq-eqb id id refl)
+        | later above is rest ↦
+            let more = insert_entry nat_cmp es id v in
+            ap left is ∙ ap (λ (b : Bool). cond b more (e ∷ left more)) (at_key id e.0 ∙ ne_eqb id e.0 (λ same. omega (arith, same, above)))
+            ∙ ap (λ (l : List (ℕ × X)). e ∷ l) (inserted_removed es id v rest)
+      ]
+
+pub unacked_inserted : (es : List (ℕ × PlainSend)) (id : ℕ) (h : PlainSend) → half_in es id ≡ None → unacked (insert_entry nat_cmp es id h) ≡ unacked es + held h
+unacked_inserted [] id h none = omega arith
+unacked_inserted (e ∷ es) id h none = elim (goes id h e es none) [
+  | front below is ↦ rw is (omega arith)
+  | later above is rest ↦ rw is (omega (arith, unacked_inserted es id h rest))
+]
+
+-- nothing waits in a new half
+new_waits_not : (limit : ℕ) → Waits (new_send limit) → ⊥
+new_waits_not limit (inl pending) = false≢true (pending.1 (λ k. ap (λ (b : Bool). byte_waits (if b then Some Acked else None) b) (le-ltb k 0 (omega arith))))
+new_waits_not limit (inr reset) = false≢true reset
+
+module _ (es : List (ℕ × PlainSend)) (pending : PlainPending) (max_data data_sent count : ℕ) (ok : AreSendHalves es pending max_data data_sent count) (id limit : ℕ) (none : half_in es id ≡ None) where
+  abbrev entries : List (ℕ × PlainSend)
+  entries = insert_entry nat_cmp es id (new_send limit)
+
+  new_or_old : (k : ℕ) (h : PlainSend) → half_in entries k ≡ Some h → (h ≡ new_send limit) ⊎ (half_in es k ≡ Some h)
+  new_or_old k h e = elim (eqb_tells k id) [
+    | inl same ↦
+        let here = value_inserted es id (new_send limit) k none ∙ ap (λ (b : Bool). if b then Some (new_send limit) else half_in es k) same.0 in
+        inl (ap (λ (o : Option PlainSend). unwrap_or o h) (sym e ∙ here))
+    | inr apart ↦ inr (sym (ap (λ (b : Bool). if b then Some (new_send limit) else half_in es k) apart.0) ∙ sym (value_inserted es id (new_send limit) k none) ∙ e)
+  ]
+
+  live_still : (q : PendingStream) → has pending.streams q ≡ true → half_priority (half_in entries q.id) ≡ Some q.priority
+  live_still q there = elim (eqb_tells q.id id) [
+    | inl same ↦ absurd (let is = ok.live q there in let missing = ap half_priority (ap (half_in es) same.1 ∙ none) in cc)
+    | inr apart ↦ ap half_priority (value_inserted es id (new_send limit) q.id none ∙ ap (λ (b : Bool). if b then Some (new_send limit) else half_in es q.id) apart.0) ∙ ok.live q there
+  ]
+
+  -- the halves with a new one, for which there is room in the queue
+  pub put_in : (new : List (ℕ × PlainSend)) (queue : PlainPending) → new ≡ entries → queue.streams ≡ pending.streams → length new ≤ queue.room → AreSendHalves new queue max_data data_sent count
+  put_in new queue new_is same room = record {
+    live = λ q there. rw new_is (live_still q (rw same at there));
+    listed = λ k h e waits. elim (new_or_old k h (rw new_is at e)) [
+      | inl is ↦ absurd (new_waits_not limit (rw is at waits))
+      | inr old ↦ rw same (ok.listed k h old waits)
+    ];
+    in_order = rw same ok.in_order;
+    room = room;
+    counted = rw new_is (omega (arith, ok.counted, unacked_inserted es id (new_send limit) none));
+    undone = λ k h e. elim (new_or_old k h (rw new_is at e)) [
+      | inl is ↦ rw is refl
+      | inr old ↦ ok.undone k h old
+    ];
+    credit = ok.credit;
+  }

@@ -1,0 +1,14 @@
+pub mod FirstWaiting
+pub mod HalfSteps
+pub mod HalfTransmits
+pub mod HalvesInserted
+pub mod HalvesRanges
+pub mod HalvesStepped
+pub mod HalvesWithdrawn
+pub mod MapWritten
+pub mod PendingOrder
+pub mod PendingPlaces
+pub mod PendingRoom
+pub mod RecvHalvesInserted
+pub mod RecvHalvesStepped
+pub mod RecvSteps

@@ -1,0 +1,46 @@
+use Rattle.std.proofs.Common.{◌+◌, true, false, refl, sym, inl, inr, arith}
+use Rattle.std.proofs.lemmas.Result.{err_from_is_err_and}
+use Rattle.qh_halves.proofs.RecvSteps.{due_at_reset, received_within}
+use Rattle.qh_halves.proofs.MapWritten.{same_written}
+use Rattle.qh_halves.proofs.RecvHalvesStepped.{room_for, are_settled, stepped}
+use Rattle.qh_halves.proofs.recv_halves.RecvHalves.received_reset.Goals as goal
+
+pub settle-requires-clause-room : goal.settle-requires-clause-room
+settle-requires-clause-room c =
+    let half = c.in-Some.ensures in
+    room_for _ _ _ _ _ c.self.invariant c.args.id _ (sym half.value)
+
+pub invariant_of-self-2 : goal.invariant_of-self-2
+invariant_of-self-2 c =
+    let half = c.in-Some.ensures in
+    let was = c.in-Some.half.now in
+    let next = c.received_reset.new.self in
+    let fresh = c.in_ok-fresh.fresh in
+    let taken = c.in_ok-fresh.ensures.ok in
+    let written = c.get_mut.follows.holds next in
+    are_settled _ _ _ _ _ c.self.invariant c.args.id was next (sym half.value) _ _ _ false c.is_done-is_done.result written.0 c.is_done-is_done.ensures c.settle.ensures
+    (c.self.inside.received + fresh)
+    (λ undone frame. inr (due_at_reset was next c.args.code c.args.size fresh c.self.inside.stream_window taken frame))
+    (received_within was c.args.size next.end fresh true c.self.inside.received c.self.inside.announced.value c.in_ok-fresh.ensures.taken (omega (arith, taken.end_is, taken.fresh_is)) taken.fresh_is c.self.invariant.received_below)
+
+pub returns-in_err-fresh-clause-fault : goal.returns-in_err-fresh-clause-fault
+returns-in_err-fresh-clause-fault c =
+    let half = c.in-Some.ensures in
+    let p = err_from_is_err_and c.from_residual.result c.from_residual.ensures.1 in
+    let written = c.get_mut.follows.holds c.received_reset.new.self in
+    let fault = c.in_err-fresh.ensures.fault in
+    let same = same_written _ c.args.id _ _ (sym half.value) _ written.0 fault.1 in
+    rw (p.1, p.2, ← c.self.view_is) (rw (sym half.value) fault.0, rw same refl)
+
+pub returns-clause-ok : goal.returns-clause-ok
+returns-clause-ok c =
+    let half = c.in-Some.ensures in
+    let next = c.received_reset.new.self in
+    let written = c.get_mut.follows.holds next in
+    rw (← c.self.view_is)
+    (inl
+    (record {
+      fresh = c.in_ok-fresh.fresh;
+      step = stepped _ _ c.args.id c.in_ok-fresh.fresh c.in-Some.half.now next _ _ _ _ false c.is_done-is_done.result _ _ (sym half.value) c.in_ok-fresh.ensures.ok written.0 c.is_done-is_done.ensures c.settle.ensures refl
+          (omega (arith, c.saturating_add-self-inside.ensures, c.counted-before.ensures.counted, c.counted-after.ensures.counted));
+    }))

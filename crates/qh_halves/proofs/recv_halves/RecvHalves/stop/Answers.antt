@@ -1,0 +1,27 @@
+use Rattle.std.proofs.Common.{true, refl, sym, inl}
+use Rattle.std.proofs.lemmas.Result.{err_from_is_err_and}
+use Rattle.qh_halves.proofs.MapWritten.{same_written}
+use Rattle.qh_halves.proofs.RecvHalvesStepped.{room_for, are_settled}
+use Rattle.qh_halves.proofs.recv_halves.RecvHalves.stop.Goals as goal
+
+pub settle-requires-clause-room : goal.settle-requires-clause-room
+settle-requires-clause-room c =
+    let half = c.in-Some.ensures in
+    room_for _ _ _ _ _ c.self.invariant c.args.id _ (sym half.value)
+
+pub returns-in_err-stop-clause-fault : goal.returns-in_err-stop-clause-fault
+returns-in_err-stop-clause-fault c =
+    let half = c.in-Some.ensures in
+    let p = err_from_is_err_and c.from_residual.result c.from_residual.ensures.1 in
+    let written = c.get_mut.follows.holds c.stop.new.self in
+    let fault = c.in_err-stop.ensures.fault in
+    let same = same_written _ c.args.id _ _ (sym half.value) _ written.0 fault.1 in
+    rw (p.1, ← c.self.view_is) (rw (sym half.value) fault.0, rw same refl)
+
+pub invariant_of-self-2 : goal.invariant_of-self-2
+invariant_of-self-2 c =
+    let half = c.in-Some.ensures in
+    let next = c.stop.new.self in
+    let written = c.get_mut.follows.holds next in
+    are_settled _ _ _ _ _ c.self.invariant c.args.id c.in-Some.half.now next (sym half.value) _ _ _ true c.is_done-is_done.result written.0 c.is_done-is_done.ensures c.settle.ensures
+    c.self.inside.received (λ undone frame. inl refl) c.self.invariant.received_below

@@ -1,0 +1,27 @@
+use Rattle.std.proofs.Common.{◌≡◌, sym, ◌∙◌, arith, to_z, of_z, w32, rules}
+use Rattle.qh_halves.proofs.HalvesStepped.{put_stepped, room_for, spans_stay}
+use Rattle.qh_halves.proofs.HalfSteps.{lost_goes, lost_holds, lost_spans}
+use Rattle.qh_halves.proofs.send_halves.SendHalves.retransmit.Goals as goal
+
+pub insert-requires : goal.insert-requires
+insert-requires c =
+    let is : to_z w32 (of_z w32 c.rank-priority.result) ≡ c.rank-priority.result = search rules in
+    let undone = c.self.invariant.undone c.args.id c.in-Some.half.now (sym c.in-Some.ensures.value) in
+    let on = lost_goes c.in-Some.half.now c.retransmit.new.self _ _ _ c.retransmit.ensures undone in
+    room_for c.self.inside c.self.invariant c.args.id c.in-Some.half.now c.retransmit.new.self c.in-Some.ensures.value _ (is ∙ c.rank-priority.ensures ∙ on.priority_is)
+
+pub invariant_of-self-2 : goal.invariant_of-self-2
+invariant_of-self-2 c =
+    let is : to_z w32 (of_z w32 c.rank-priority.result) ≡ c.rank-priority.result = search rules in
+    let undone = c.self.invariant.undone c.args.id c.in-Some.half.now (sym c.in-Some.ensures.value) in
+    let same = lost_holds c.in-Some.half.now c.retransmit.new.self _ _ _ c.retransmit.ensures in
+    rw (c.get_mut.follows.holds c.retransmit.new.self).0
+    (put_stepped c.self.inside c.self.invariant c.args.id c.in-Some.half.now c.retransmit.new.self c.in-Some.ensures.value c.insert.new.self _ _ _
+    c.insert.ensures.streams c.insert.ensures.room c.insert.ensures.in_order (is ∙ c.rank-priority.ensures)
+    (lost_goes c.in-Some.half.now c.retransmit.new.self _ _ _ c.retransmit.ensures undone) (omega (arith, same)) c.self.invariant.credit)
+
+pub returns-clause-spans : goal.returns-clause-spans
+returns-clause-spans c k frame span =
+    rw (c.get_mut.follows.holds c.retransmit.new.self).0
+    (spans_stay c.self.inside c.self.invariant c.args.id c.in-Some.half.now c.retransmit.new.self c.in-Some.ensures.value
+    (lost_spans c.in-Some.half.now c.retransmit.new.self _ _ _ c.retransmit.ensures) k frame (rw (sym c.self.view_is) at span))

@@ -1,5 +1,0 @@
-use Rattle.qh_streams.specs.RecvHalves.{AreRecvAdded}
-use Rattle.qh_streams.proofs.state.recv_halves.RecvHalves.insert_range.Given as goal
-
-abbrev pub invariant-loop-i : goal.invariant-loop-i
-invariant-loop-i l = AreRecvAdded l.fn.self l.self l.first l.i

@@ -1,8 +1,0 @@
-use Rattle.std.proofs.Common.{sym}
-use Rattle.qh_streams.proofs.RecvHalvesStepped.{room_for}
-use Rattle.qh_streams.proofs.state.recv_halves.RecvHalves.lose_stop.Goals as goal
-
-pub insert-requires : goal.insert-requires
-insert-requires c =
-    let half = c.in-Some.ensures in
-    rw c.due_entry.ensures (room_for _ _ _ _ _ c.self.invariant c.args.id _ (sym half.value))
