@@ -1,0 +1,4 @@
+pub mod Frames
+pub mod Packet
+pub mod Session
+pub mod View

@@ -1,0 +1,62 @@
+ghost use Rattle.std.specs.Prelude.{◌≡◌, [], Err, IfOk, IfErr};
+ghost use Rattle.qh_frame.specs.Plain.{plain_of};
+ghost use Rattle.qh_frame.specs.declared.frame.FrameFault.{FrameFault as AFrameFault};
+ghost use Rattle.qh_packet.specs.Frames.{AreSurveyed, IsFaultyFrame, is_ack_eliciting};
+ghost use Rattle.qh_packet.specs.declared.frames.PacketFault.TheVariants as fault;
+
+#[cfg(test)]
+mod tests;
+
+use qh_frame::{Frame, FrameFault, get_frame};
+
+/// What is known of a packet's frames before any is taken.
+#[derive(Clone, Copy, Debug, PartialEq, Eq)]
+pub struct FrameSurvey {
+    /// Whether the packet wants an acknowledgement: it has a frame beside PADDING, ACK and CONNECTION_CLOSE (RFC 9002, section 2).
+    pub is_ack_eliciting: bool,
+}
+
+/// Why no frame of a packet is taken.
+#[derive(Clone, Copy, Debug, PartialEq, Eq)]
+pub enum PacketFault {
+    /// It has no frame (RFC 9000, section 12.4).
+    Empty,
+    /// This one can't be read, or a value in it is out of its range.
+    Frame(FrameFault),
+}
+
+/// Reads all frames of a packet and takes none. The first that can't be read is answered.
+pub fn survey(bytes: &[u8]) -> Result<FrameSurvey, PacketFault>
+    ensures ok { IfOk result (λ s. AreSurveyed bytes.now s.is_ack_eliciting) }
+    ensures empty { result ≡ Err fault.Empty → bytes.now ≡ [] }
+    ensures frame { IfErr result (λ e. (f : AFrameFault) → e ≡ fault.Frame f → IsFaultyFrame bytes.now f.frame) }
+{
+    if bytes.is_empty() {
+        return Err(PacketFault::Empty);
+    }
+    let mut is_ack_eliciting = false;
+    let mut rest = bytes;
+    while !rest.is_empty() {
+        match get_frame(rest) {
+            Ok((frame, more)) => {
+                is_ack_eliciting |= is_eliciting(&frame);
+                rest = more;
+            }
+            Err(fault) => return Err(PacketFault::Frame(fault)),
+        }
+    }
+    Ok(FrameSurvey { is_ack_eliciting })
+}
+
+// Whether a packet with this frame wants an acknowledgement.
+fn is_eliciting(frame: &Frame<'_>) -> bool
+    ensures { result ≡ is_ack_eliciting (plain_of frame.now) }
+{
+    !matches!(
+        frame,
+        Frame::Padding
+            | Frame::Ack(_)
+            | Frame::ConnectionClose { .. }
+            | Frame::ApplicationClose { .. }
+    )
+}
