@@ -1,0 +1,9 @@
+pub mod AckRanges
+pub mod AckTaken
+pub mod FramesOut
+pub mod LostTaken
+pub mod OwedCalls
+pub mod PacketWalk
+pub mod ProbeQueued
+pub mod QueuedAgain
+pub mod TakenOut
