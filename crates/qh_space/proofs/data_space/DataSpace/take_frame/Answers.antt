@@ -1,0 +1,17 @@
+use Rattle.std.proofs.Common.{◌∙◌, refl, sym}
+use Rattle.qh_space.specs.Receiving.IsFrameTaken.{streams}
+use Rattle.qh_space.proofs.StreamsStep.{received_owed}
+use Rattle.qh_space.proofs.data_space.DataSpace.take_frame.Goals as goal
+
+pub returns-in-Some-clause-ok : goal.returns-in-Some-clause-ok
+returns-in-Some-clause-ok c = streams _ _ (sym c.in_ok-coming.ensures ∙ c.in-Some.is) c.in_ok-received.ensures.ok refl
+
+pub returns-in-Some-clause-space : goal.returns-in-Some-clause-space
+returns-in-Some-clause-space c = record {
+  owed = received_owed _ _ _ _ c.in_ok-received.ensures.ok c.received.ensures.keeps_out c.requires.owed;
+  next = c.requires.next;
+  bound = c.requires.bound;
+  acked = c.requires.acked;
+  in_order = c.requires.in_order;
+  due = c.requires.due;
+}

@@ -1,0 +1,4 @@
+pub mod Receiving
+pub mod Sending
+pub mod Space
+pub mod Timers

@@ -1,0 +1,114 @@
+-- What a frame of the peer's does to the space, and which are refused (RFC 9000, sections 12.4, 13 and 19; RFC 9002, sections 5
+-- and 6).
+use Rattle.std.specs.Prelude.{◌≡◌, ℕ, ◌+◌, ◌-◌, ◌^◌, ◌==◌, nat_lt, min, max, take, Bool, true, false, List, Option, Some, None, if◌then◌else◌}
+use Rattle.qh_base.specs.declared.connection_error.ConnectionError.{ConnectionError}
+use Rattle.qh_base.specs.declared.connection_error.ConnectionError.TheVariants.{ConnectionClosed, ApplicationClosed}
+use Rattle.qh_frame.specs.Plain.{ack_of}
+use Rattle.qh_frame.specs.declared.ack.Ack.{Ack}
+use Rattle.qh_frame.specs.declared.frame.Frame.{Frame}
+use Rattle.qh_frame.specs.declared.frame.Frame.TheVariants as kind
+use Rattle.qh_loss.specs.Settled.{IsAckTaken, AreLostTaken}
+use Rattle.qh_recovery.specs.Rtt.{sampled, loss_delay}
+use Rattle.qh_recovery.specs.SentPackets.{packet_at}
+use Rattle.qh_recovery.specs.declared.paths.RttEstimator.{RttEstimator}
+use Rattle.qh_recovery.specs.declared.sent_packets.SentPacket.{SentPacket}
+use Rattle.qh_space.specs.declared.data_space.DataSpace.{DataSpace}
+use Rattle.qh_spec.specs.declared.sides.Side.{Side}
+use Rattle.qh_spec.specs.declared.sides.Side.TheVariants.{Client, Server}
+use Rattle.qh_streams.specs.Streams.{PlainStreams, Refusal, refused, refusal_of, IsReceived}
+use Rattle.qh_streams.specs.declared.frames.SentFrame.{SentFrame}
+use Rattle.qh_streams.specs.declared.frames.StreamFrame.{StreamFrame}
+use Rattle.qh_streams.specs.declared.frames.StreamFrame.TheVariants as coming
+
+-- the frame that speaks of streams (sections 19.4, 19.5 and 19.8 to 19.11)
+abbrev pub coming_of : Frame → Option StreamFrame
+coming_of (kind.Stream s) = Some (coming.Stream s.id s.offset s.payload.now s.fin)
+coming_of (kind.ResetStream id code size) = Some (coming.ResetStream id code size)
+coming_of (kind.StopSending id code) = Some (coming.StopSending id code)
+coming_of (kind.MaxData limit) = Some (coming.MaxData limit)
+coming_of (kind.MaxStreamData id limit) = Some (coming.MaxStreamData id limit)
+coming_of (kind.MaxStreams dir count) = Some (coming.MaxStreams dir count)
+coming_of other = None
+
+abbrev pub refused_at_server : Side → (frame : ℕ) → Option Refusal
+refused_at_server Server frame = refused 10 frame
+refused_at_server Client frame = None
+
+abbrev pub coming_refusal : PlainStreams → Option StreamFrame → Option Refusal
+coming_refusal s (Some f) = refusal_of s f
+coming_refusal s None = None
+
+-- Why a frame is refused: an ACK of a number that was never sent (section 13.1), NEW_TOKEN and HANDSHAKE_DONE at a server
+-- (sections 19.7 and 19.20), DATAGRAM, which isn't on (RFC 9221, section 3), and the refusals of the streams.
+abbrev pub frame_refusal : DataSpace → Frame → Option Refusal
+frame_refusal s (kind.Ack a) = if nat_lt a.greatest s.next_number then None else refused 10 2
+frame_refusal s (kind.NewToken token) = refused_at_server s.streams.side 7
+frame_refusal s kind.HandshakeDone = refused_at_server s.streams.side 30
+frame_refusal s (kind.Datagram payload) = refused 10 49
+frame_refusal s f = coming_refusal s.streams (coming_of f)
+
+-- a round-trip time was measured where the packet with the greatest acknowledged number was out (RFC 9002, section 5.1)
+abbrev pub measured : Option (SentPacket SentFrame) → (now : ℕ) → RttEstimator → RttEstimator
+measured None now rtt = rtt
+measured (Some p) now rtt = sampled (now - p.time_sent.0) rtt
+
+abbrev pub greatest_of : Option ℕ → ℕ → ℕ
+greatest_of None n = n
+greatest_of (Some m) n = max m n
+
+-- What is lost by now is lost, where this is the greatest number that was acknowledged (RFC 9002, section 6.1).
+pub record IsLossTaken (largest_acked now : ℕ) (old new : DataSpace) : Type 0 where
+  pub count : ℕ
+  pub lost : AreLostTaken largest_acked now (loss_delay old.rtt) old.next_number old.sent new.sent old.streams new.streams old.congestion new.congestion count
+  pub rest_is : new ≡ record old { streams = new.streams; sent = new.sent; congestion = new.congestion; packets_lost = min (2 ^ 64 - 1) (old.packets_lost + count) }
+
+-- An ACK came (RFC 9002, appendix A.7): a sample is taken, what it covers is acknowledged, and what is lost by it is lost.
+pub record IsAckReceived (now : ℕ) (old new : DataSpace) (a : Ack) : Type 0 where
+  pub mid : DataSpace
+  pub is_any : Bool
+  pub taken : IsAckTaken (ack_of a) old.sent mid.sent old.streams mid.streams old.congestion mid.congestion
+  pub none_is : is_any ≡ false → mid.sent ≡ old.sent
+  pub some_is : is_any ≡ true → mid.sent ≡ old.sent → ⊥
+  pub mid_is : mid ≡ record old {
+    streams = mid.streams;
+    sent = mid.sent;
+    congestion = mid.congestion;
+    rtt = measured (packet_at old.sent a.greatest) now old.rtt;
+    largest_acked = Some (greatest_of old.largest_acked a.greatest);
+    probes = (if is_any then 0 else old.probes);
+  }
+  pub lost : IsLossTaken (greatest_of old.largest_acked a.greatest) now mid new
+
+-- frames that change nothing of the space
+abbrev pub is_passive : Frame → Bool
+is_passive kind.Padding = true
+is_passive kind.Ping = true
+is_passive (kind.Crypto offset payload) = true
+is_passive (kind.NewToken token) = true
+is_passive (kind.DataBlocked limit) = true
+is_passive (kind.StreamDataBlocked id limit) = true
+is_passive (kind.StreamsBlocked dir count) = true
+is_passive (kind.NewConnectionId sequence prior id token) = true
+is_passive (kind.RetireConnectionId sequence) = true
+is_passive (kind.PathResponse bytes) = true
+is_passive kind.HandshakeDone = true
+is_passive other = false
+
+abbrev pub some_type : ℕ → Option ℕ
+some_type frame = if frame == 0 then None else Some frame
+
+-- a CONNECTION_CLOSE frame says this (section 19.19); no other frame closes
+abbrev pub IsClosedBy : Frame → Option ConnectionError → Type 0
+IsClosedBy (kind.ConnectionClose code frame reason) (Some (ConnectionClosed close)) = (close.code.0 ≡ code) × (close.frame ≡ some_type frame) × (close.reason ≡ take 128 reason.now)
+IsClosedBy (kind.ApplicationClose code reason) (Some (ApplicationClosed close)) = (close.error_code ≡ code) × (close.reason ≡ take 128 reason.now)
+IsClosedBy (kind.ConnectionClose code frame reason) other = ⊥
+IsClosedBy (kind.ApplicationClose code reason) other = ⊥
+IsClosedBy f answer = answer ≡ None
+
+-- What a frame does that is taken, and the error with which the peer closes by it.
+pub data IsFrameTaken (now : ℕ) (old new : DataSpace) : Frame → Option ConnectionError → Type 0 where
+  passive : (f : Frame) → is_passive f ≡ true → new ≡ old → IsFrameTaken now old new f None
+  streams : (f : Frame) (s : StreamFrame) → coming_of f ≡ Some s → IsReceived old.streams new.streams s → new ≡ record old { streams = new.streams } → IsFrameTaken now old new f None
+  ack : (a : Ack) → IsAckReceived now old new a → IsFrameTaken now old new (kind.Ack a) None
+  challenge : (bytes : List ℕ) → new ≡ record old { path_response = Some bytes } → IsFrameTaken now old new (kind.PathChallenge bytes) None
+  close : (f : Frame) (e : ConnectionError) → IsClosedBy f (Some e) → new ≡ old → IsFrameTaken now old new f (Some e)

@@ -1,0 +1,91 @@
+ghost use Rattle.std.specs.Prelude.{◌≡◌, [], None, false};
+ghost use Rattle.qh_recovery.specs.Accepted.{Remembers};
+ghost use Rattle.qh_recovery.specs.Rtt.{new_estimator};
+ghost use Rattle.qh_recovery.specs.Window.{new_controller};
+ghost use Rattle.qh_space.specs.Space.{IsSpace};
+ghost use Rattle.qh_streams.specs.Streams.{with_peer};
+ghost use Rattle.qh_streams.specs.Tracked.{IsFresh};
+
+use qh_base::{Side, Span};
+use qh_recovery::{Dedup, PendingAcks, RttEstimator, SentPackets, WindowController};
+use qh_streams::{PeerLimits, SentFrame, StreamLimits, Streams};
+use std::alloc::Global;
+
+/// What a space begins with.
+#[derive(Clone, Copy, Debug, PartialEq, Eq)]
+pub struct SpaceConfig {
+    /// What this end announces, and how much it holds to send.
+    pub limits: StreamLimits,
+    /// The first limits of the peer.
+    pub peer: PeerLimits,
+    /// The round-trip time before a sample.
+    pub initial_rtt: Span,
+    /// How many bytes may be in flight at first.
+    pub initial_window: u64,
+}
+
+/// The packet number space of application data (RFC 9000, section 12.3; RFC 9002). Its parts are whole by themselves; what holds
+/// of them together is `IsSpace`.
+#[derive(Drop)]
+pub struct DataSpace {
+    /// The streams. What of them is owed is queued, or out in a packet.
+    pub streams: Streams,
+    /// The ack-eliciting packets that are out, with their frames.
+    pub sent: SentPackets<SentFrame>,
+    /// Which numbers of the peer's were accepted.
+    pub dedup: Dedup,
+    /// Which of them are to be acknowledged.
+    pub acks: PendingAcks,
+    /// The number of the next packet, 2^62 where none is left.
+    pub next_number: u64,
+    /// The greatest number that the peer acknowledged.
+    pub largest_acked: Option<u64>,
+    /// Whether a PING is to be sent.
+    pub is_ping_due: bool,
+    /// What a PATH_RESPONSE is to give back, where one is to be sent: the bytes of the last PATH_CHALLENGE.
+    pub path_response: Option<[u8; 8]>,
+    /// The round-trip time.
+    pub rtt: RttEstimator,
+    /// The window.
+    pub congestion: WindowController,
+    /// How many probe packets were sent since an ACK last acknowledged a packet that was out.
+    pub probes: u32,
+    /// Whether the next ack-eliciting packet is a probe packet: it passes the window.
+    pub is_probe_due: bool,
+    /// How many packets were lost so far.
+    pub packets_lost: u64,
+    /// How many probes were due so far.
+    pub probes_sent: u64,
+}
+
+impl DataSpace {
+    /// A space before its first packet. It takes no memory.
+    pub fn new(alloc: Global, side: Side, config: SpaceConfig) -> DataSpace
+        ensures space { IsSpace result }
+        ensures fresh { IsFresh result.streams }
+        ensures side { result.streams.side ≡ side }
+        ensures received { Remembers [] result.dedup }
+        ensures parts { (result.sent ≡ []) × (result.next_number ≡ 0) × (result.largest_acked ≡ None) × (result.acks ≡ record { ranges = []; is_due = false }) }
+        ensures recovery { (result.rtt ≡ new_estimator config.initial_rtt.0) × (result.congestion ≡ new_controller config.initial_window) × (result.probes ≡ 0) × (result.is_probe_due ≡ false) }
+        ensures nothing_due { (result.is_ping_due ≡ false) × (result.path_response ≡ None) }
+    {
+        let mut streams = Streams::new(alloc, side, config.limits);
+        streams.set_peer(config.peer);
+        DataSpace {
+            streams,
+            sent: SentPackets::new(alloc),
+            dedup: Dedup::new(alloc),
+            acks: PendingAcks::new(alloc),
+            next_number: 0,
+            largest_acked: None,
+            is_ping_due: false,
+            path_response: None,
+            rtt: RttEstimator::new(config.initial_rtt),
+            congestion: WindowController::new(config.initial_window),
+            probes: 0,
+            is_probe_due: false,
+            packets_lost: 0,
+            probes_sent: 0,
+        }
+    }
+}

@@ -1,0 +1,257 @@
+ghost use Rattle.std.specs.Prelude.{◌≡◌, ◌⊎◌, ◌<◌, ◌≤◌, ◌^◌, ◌∷◌, ◌||◌, ℕ, List, None, false, true, if◌then◌else◌, OnOk, OnErr, IfOk, IfErr};
+ghost use Rattle.qh_frame.specs.Plain.{ack_of};
+ghost use Rattle.qh_loss.specs.Owed.{AreOwed};
+ghost use Rattle.qh_loss.specs.Settled.{IsAckTaken};
+ghost use Rattle.qh_recovery.specs.Accepted.{Remembers};
+ghost use Rattle.qh_recovery.specs.PendingAcks.{IsJoined};
+ghost use Rattle.qh_recovery.specs.SentPackets.{packet_at};
+ghost use Rattle.qh_space.specs.Receiving.{IsFrameTaken, IsAckReceived, IsLossTaken, IsClosedBy, coming_of, frame_refusal, greatest_of, measured, refused_at_server, some_type};
+ghost use Rattle.qh_space.specs.Space.{IsSpace};
+ghost use Rattle.qh_streams.specs.Streams.{IsRefusal, refused};
+ghost use Rattle.qh_streams.specs.declared.fault.StreamFault.TheVariants.{Memory as Wanting};
+
+use crate::DataSpace;
+use bytes::Bytes;
+use qh_base::{
+    ApplicationClose, ConnectionClose, ConnectionError, Memory, Moment, Reason, Side,
+    TransportError, TransportErrorCode, VarInt,
+};
+use qh_frame::{Ack, Frame};
+use qh_loss::{detect_lost_packets, on_ack_received};
+use qh_streams::{StreamFault, StreamFrame};
+use std::alloc::Global;
+
+#[cfg(test)]
+mod tests;
+
+impl DataSpace {
+    /// A packet with this number is taken, which is new (RFC 9000, section 12.3). It is to be acknowledged at once where it wants
+    /// that.
+    pub fn accept(&mut self, number: u64, is_ack_eliciting: bool) -> Result<(), Memory>
+        requires number { number < 2 ^ 62 }
+        requires space { IsSpace self.old }
+        ensures remembers { OnOk result ((accepted : List ℕ) → Remembers accepted self.old.dedup → Remembers (number ∷ accepted) self.new.dedup) }
+        ensures acks { OnOk result ((bound : ℕ) × IsJoined self.old.acks.ranges self.new.acks.ranges number bound) }
+        ensures due { OnOk result (self.new.acks.is_due ≡ (self.old.acks.is_due || is_ack_eliciting)) }
+        ensures rest { self.new ≡ record self.old { dedup = self.new.dedup; acks = self.new.acks } }
+        ensures space { IsSpace self.new }
+    {
+        self.dedup.insert(number)?;
+        self.acks.insert_one(number, is_ack_eliciting)
+    }
+
+    /// Takes a frame of the peer's. Answers the error with which the peer closes by it, where it does. A fault says why it is
+    /// refused, with its code and the type of the frame.
+    pub fn take_frame(
+        &mut self,
+        alloc: Global,
+        frame: &Frame<'_>,
+        now: Moment,
+    ) -> Result<Option<ConnectionError>, StreamFault>
+        requires { IsSpace self.old }
+        ensures ok { IfOk result (λ closed. IsFrameTaken now.0 self.old self.new frame.now closed) }
+        ensures taken { OnOk result (frame_refusal self.old frame.now ≡ None) }
+        ensures fault { IfErr result (λ e. (e ≡ Wanting) ⊎ IsRefusal e (frame_refusal self.old frame.now)) }
+        ensures err { OnErr result (self.new ≡ self.old) }
+        ensures space { IsSpace self.new }
+    {
+        if let Some(coming) = coming_frame(alloc, frame)? {
+            self.streams.received(alloc, coming)?;
+            return Ok(None);
+        }
+        self.take_other(frame, now)
+    }
+
+    // Takes a frame that doesn't speak of streams.
+    fn take_other(
+        &mut self,
+        frame: &Frame<'_>,
+        now: Moment,
+    ) -> Result<Option<ConnectionError>, StreamFault>
+        requires space { IsSpace self.old }
+        requires other { coming_of frame.now ≡ None }
+        ensures ok { IfOk result (λ closed. IsFrameTaken now.0 self.old self.new frame.now closed) }
+        ensures taken { OnOk result (frame_refusal self.old frame.now ≡ None) }
+        ensures fault { IfErr result (λ e. IsRefusal e (frame_refusal self.old frame.now)) }
+        ensures err { OnErr result (self.new ≡ self.old) }
+        ensures space { IsSpace self.new }
+    {
+        match frame {
+            Frame::Ack(ack) => self.take_ack(ack, now)?,
+            Frame::PathChallenge(bytes) => self.path_response = Some(*bytes),
+            Frame::NewToken { .. } => self.refuse_at_server(7)?,
+            Frame::HandshakeDone => self.refuse_at_server(30)?,
+            Frame::Datagram { .. } => return Err(violation(49)),
+            _ => return Ok(closed_by(frame)),
+        }
+        Ok(None)
+    }
+
+    // An ACK came.
+    fn take_ack(&mut self, ack: &Ack<'_>, now: Moment) -> Result<(), StreamFault>
+        requires { IsSpace self.old }
+        ensures ok { OnOk result (IsAckReceived now.0 self.old self.new ack.now) }
+        ensures taken { OnOk result (ack.now.greatest < self.old.next_number) }
+        ensures fault { IfErr result (λ e. IsRefusal e (refused 10 2) × (self.old.next_number ≤ ack.now.greatest)) }
+        ensures err { OnErr result (self.new ≡ self.old) }
+        ensures space { IsSpace self.new }
+    {
+        let greatest = ack.greatest.into_inner();
+        if greatest >= self.next_number {
+            return Err(violation(2));
+        }
+        self.measure(greatest, now);
+        self.acknowledge(ack);
+        let largest = greatest_of(self.largest_acked, greatest);
+        self.largest_acked = Some(largest);
+        self.lose(largest, now);
+        Ok(())
+    }
+
+    // A round-trip time is measured where the packet with the greatest acknowledged number is out.
+    fn measure(&mut self, greatest: u64, now: Moment)
+        ensures { self.new ≡ record self.old { rtt = measured (packet_at self.old.sent greatest) now.0 self.old.rtt } }
+    {
+        if let Some(packet) = self.sent.get(greatest) {
+            self.rtt.update(now.since(packet.time_sent));
+        }
+    }
+
+    // What an ACK covers is acknowledged. Where that is a packet that is out, no probe counts any more. Answers whether it is.
+    fn acknowledge(&mut self, ack: &Ack<'_>) -> bool
+        requires { AreOwed self.old.streams self.old.sent }
+        ensures taken { IsAckTaken (ack_of ack.now) self.old.sent self.new.sent self.old.streams self.new.streams self.old.congestion self.new.congestion }
+        ensures none { result ≡ false → self.new.sent ≡ self.old.sent }
+        ensures some { result ≡ true → self.new.sent ≡ self.old.sent → ⊥ }
+        ensures rest { self.new ≡ record self.old { streams = self.new.streams; sent = self.new.sent; congestion = self.new.congestion; probes = (if result then 0 else self.old.probes) } }
+        ensures owed { AreOwed self.new.streams self.new.sent }
+    {
+        let is_any = on_ack_received(&mut self.streams, &mut self.sent, &mut self.congestion, ack);
+        if is_any {
+            self.probes = 0;
+        }
+        is_any
+    }
+
+    // The packets that are lost by now, where this is the greatest number that was acknowledged.
+    pub(crate) fn lose(&mut self, largest_acked: u64, now: Moment)
+        requires { AreOwed self.old.streams self.old.sent }
+        ensures lost { IsLossTaken largest_acked now.0 self.old self.new }
+        ensures owed { AreOwed self.new.streams self.new.sent }
+    {
+        let delay = self.rtt.loss_delay();
+        let count = detect_lost_packets(
+            &mut self.streams,
+            &mut self.sent,
+            &mut self.congestion,
+            largest_acked,
+            now,
+            delay,
+            self.next_number,
+        );
+        self.packets_lost = self.packets_lost.saturating_add(count);
+    }
+
+    // A server takes no such frame.
+    fn refuse_at_server(&self, frame: u64) -> Result<(), StreamFault>
+        ensures ok { OnOk result (refused_at_server self.now.streams.side frame ≡ None) }
+        ensures fault { IfErr result (λ e. IsRefusal e (refused_at_server self.now.streams.side frame)) }
+    {
+        match self.streams.side() {
+            Side::Server => Err(violation(frame)),
+            Side::Client => Ok(()),
+        }
+    }
+}
+
+// The greatest number that is acknowledged, with this one.
+fn greatest_of(largest_acked: Option<u64>, number: u64) -> u64
+    ensures { result ≡ greatest_of largest_acked number }
+{
+    match largest_acked {
+        None => number,
+        Some(largest) => largest.max(number),
+    }
+}
+
+// PROTOCOL_VIOLATION by a frame of this type.
+fn violation(frame: u64) -> StreamFault
+    ensures { IsRefusal result (refused 10 frame) }
+{
+    StreamFault::Transport(TransportError {
+        code: TransportErrorCode::PROTOCOL_VIOLATION,
+        frame: Some(frame),
+        reason: Reason::of(b""),
+    })
+}
+
+// The frame that speaks of streams, with a copy of the bytes that it bears.
+fn coming_frame(alloc: Global, frame: &Frame<'_>) -> Result<Option<StreamFrame>, Memory>
+    ensures { IfOk result (λ o. o ≡ coming_of frame.now) }
+{
+    Ok(Some(match frame {
+        Frame::Stream(stream) => StreamFrame::Stream {
+            id: stream.id,
+            offset: stream.offset,
+            payload: Bytes::copy_from_slice(alloc, stream.payload)?,
+            fin: stream.fin,
+        },
+        Frame::ResetStream {
+            id,
+            error_code,
+            final_offset,
+        } => StreamFrame::ResetStream {
+            id: *id,
+            code: *error_code,
+            final_size: *final_offset,
+        },
+        Frame::StopSending { id, error_code } => StreamFrame::StopSending {
+            id: *id,
+            code: *error_code,
+        },
+        Frame::MaxData(limit) => StreamFrame::MaxData(*limit),
+        Frame::MaxStreamData { id, offset } => StreamFrame::MaxStreamData {
+            id: *id,
+            limit: *offset,
+        },
+        Frame::MaxStreams { dir, count } => StreamFrame::MaxStreams {
+            dir: *dir,
+            count: *count,
+        },
+        _ => return Ok(None),
+    }))
+}
+
+// The error with which the peer closes by a frame, where it does.
+fn closed_by(frame: &Frame<'_>) -> Option<ConnectionError>
+    ensures { IsClosedBy frame.now result }
+{
+    match *frame {
+        Frame::ConnectionClose {
+            code,
+            frame_type,
+            reason,
+        } => Some(ConnectionError::ConnectionClosed(ConnectionClose {
+            code: TransportErrorCode(code.into_inner()),
+            frame: some_type(frame_type),
+            reason: Reason::of(reason),
+        })),
+        Frame::ApplicationClose { code, reason } => {
+            Some(ConnectionError::ApplicationClosed(ApplicationClose {
+                error_code: code,
+                reason: Reason::of(reason),
+            }))
+        }
+        _ => None,
+    }
+}
+
+// The type of the frame at fault: 0 where none is known.
+fn some_type(frame_type: VarInt) -> Option<u64>
+    ensures { result ≡ some_type frame_type }
+{
+    match frame_type.into_inner() {
+        0 => None,
+        other => Some(other),
+    }
+}
