@@ -1,0 +1,138 @@
+-- A packet that is made: its bytes are frames that read back, and none but those of the streams carry bytes of streams.
+use Rattle.std.proofs.Common.{◌≡◌, ◌⊎◌, ℕ, ◌-◌, nat_lt, Bool, true, false, List, [], ◌∷◌, ◌++◌, length, Option, Some, None, refl, sym, ap, subst, ◌∙◌, inl, inr, append_assoc}
+use Rattle.std.specs.Prelude.{map, MatchBool}
+use Rattle.std.specs.List.{AllByRecursion, concat}
+use Rattle.std.proofs.lemmas.List.{append-nil}
+use Rattle.qh_buffers.specs.Ranges.{PlainRange}
+use Rattle.qh_frame.proofs.FramesWritten.{ping_put}
+use Rattle.qh_frame.specs.AckWritten.{ack_frame}
+use Rattle.qh_frame.specs.FrameBytes.{frame_bytes, numbers_bytes}
+use Rattle.qh_frame.specs.Plain.{frame}
+use Rattle.qh_frame.specs.declared.ack.AckRange.{AckRange}
+use Rattle.qh_history.specs.Standing.{Stands, StandsMade}
+use Rattle.qh_recovery.specs.PendingAcks.{IsAckPut}
+use Rattle.qh_recovery.specs.declared.sent_packets.SentPacket.{SentPacket}
+use Rattle.qh_space.specs.Sending.{AreElicitingPut, IsPacketMade, ReadsBack, bytes_if, may_elicit, ping_bytes, response_bytes, with_sent}
+use Rattle.qh_space.specs.declared.data_space.DataSpace.{DataSpace}
+use Rattle.qh_spec.specs.FrameViews.{stream_of}
+use Rattle.qh_spec.specs.QuicFrame.{StreamFrame as Run}
+use Rattle.qh_spec.specs.QuicFrames.{QuicFrame, AreQuicFrames, Text}
+use Rattle.qh_spec.specs.Transcript.{Act}
+use Rattle.qh_streams.specs.Streams.{PlainStreams, IsLostAtOnce, IsReadBack}
+use Rattle.qh_streams.specs.declared.frames.SentFrame.{SentFrame}
+use Rattle.qh_transcript.proofs.ReceivingFrames.{written_stand, lost_at_once_stand}
+use Rattle.qh_transcript.proofs.SendingFrames.{all_written, at_once}
+use Rattle.qh_transcript.specs.Receiving.{StandsIn}
+use Rattle.qh_transcript.specs.Sending.{StandsOut, StandsBehind, some_run, runs_of}
+
+-- frames that each read back are the frames of their bytes
+all_read : (fs : List QuicFrame) → AllByRecursion IsReadBack fs → AreQuicFrames (concat (map frame_bytes fs)) fs
+all_read [] h = refl
+all_read (f ∷ fs) h = (concat (map frame_bytes fs), h.0 (concat (map frame_bytes fs)), all_read fs h.1)
+
+-- ---- frames that carry nothing of a stream
+
+module _ (s : PlainStreams) (sent : List Run) (t : List Act) where
+  nothing_behind : StandsOut s sent t → StandsBehind s sent t []
+  nothing_behind p = record { frames = []; bytes_are = refl; read_back = tt; stands = subst (λ (z : List Run). StandsOut s z t) (sym (append-nil sent)) p }
+
+  one_behind : (f : QuicFrame) (more : List ℕ) → IsReadBack f → stream_of f ≡ None → StandsBehind s sent t more → StandsBehind s sent t (frame_bytes f ++ more)
+  one_behind f more back silent b = record {
+    frames = f ∷ b.frames;
+    bytes_are = ap (λ (z : List ℕ). frame_bytes f ++ z) b.bytes_are;
+    read_back = (back, b.read_back);
+    stands = subst (λ (o : Option Run). StandsOut s (sent ++ (some_run o ++ runs_of b.frames)) t) (sym silent) b.stands;
+  }
+
+  ping_behind : (due : Bool) (more : List ℕ) → StandsBehind s sent t more → StandsBehind s sent t (bytes_if due ping_bytes ++ more)
+  ping_behind true more b = one_behind (frame 1 []) more (ping_put [] (numbers_bytes (1 ∷ [])) refl).is refl b
+  ping_behind false more b = b
+
+  response_behind : (response : Option (List ℕ)) (more : List ℕ) → ReadsBack response → StandsBehind s sent t more → StandsBehind s sent t (response_bytes response ++ more)
+  response_behind None more back b = b
+  response_behind (Some echoed) more back b = one_behind (frame 27 (Text echoed ∷ [])) more back refl b
+
+  ack_silent : (rs : List AckRange) → stream_of (ack_frame 0 rs) ≡ None
+  ack_silent [] = refl
+  ack_silent (r ∷ rs) = refl
+
+  -- what stands behind an ACK, where one is due
+  ack_behind : (due : Bool) (numbers : List PlainRange) (before mid more : List ℕ) → MatchBool due (IsAckPut numbers before mid) (mid ≡ before) → StandsBehind s sent t more
+      → (bytes : List ℕ) × (mid ++ more ≡ before ++ bytes) × StandsBehind s sent t bytes
+  ack_behind true numbers before mid more put b = (
+    frame_bytes (ack_frame 0 put.ranges) ++ more,
+    ap (λ (z : List ℕ). z ++ more) put.is_put.whole ∙ append_assoc before (frame_bytes (ack_frame 0 put.ranges)) more,
+    one_behind (ack_frame 0 put.ranges) more put.is_put.is (ack_silent put.ranges) b,
+  )
+  ack_behind false numbers before mid more same b = (more, ap (λ (z : List ℕ). z ++ more) same, b)
+
+-- ---- frames of the streams
+
+rest_behind : (mid new : PlainStreams) (sent : List Run) (t : List Act) (bytes : List ℕ) → (new ≡ mid) ⊎ IsLostAtOnce mid new → StandsBehind mid sent t bytes → StandsBehind new sent t bytes
+rest_behind mid new sent t bytes (inl same) b = subst (λ (s : PlainStreams). StandsBehind s sent t bytes) (sym same) b
+rest_behind mid new sent t bytes (inr lost) b = record {
+  frames = b.frames;
+  bytes_are = b.bytes_are;
+  read_back = b.read_back;
+  stands = at_once mid new (sent ++ runs_of b.frames) t lost b.stands;
+}
+
+rest_into : (mid new : PlainStreams) (came : List Run) (t : List Act) → (new ≡ mid) ⊎ IsLostAtOnce mid new → StandsIn mid came t → StandsIn new came t
+rest_into mid new came t (inl same) p = subst (λ (s : PlainStreams). StandsIn s came t) (sym same) p
+rest_into mid new came t (inr lost) p = lost_at_once_stand mid new came t lost p
+
+-- ---- the packet
+
+-- what is appended behind the ACK, and how the streams stand then
+record StandsAppended (s : DataSpace) (sent came : List Run) (t : List Act) (before after : List ℕ) : Type 0 where
+  bytes : List ℕ
+  appended : after ≡ before ++ bytes
+  behind : StandsBehind s.streams sent t bytes
+  into : StandsIn s.streams came t
+
+eliciting : (room : ℕ) (old new : DataSpace) (before after : List ℕ) (frames : List SentFrame) (sent came : List Run) (t : List Act) → AreElicitingPut room old new before after frames
+    → Stands old sent came t → StandsAppended new sent came t before after
+eliciting room old new before after frames sent came t put p =
+    let w = put.streams in
+    let response = response_bytes old.path_response in
+    let ping = bytes_if old.is_ping_due ping_bytes in
+    record {
+      bytes = ping ++ (response ++ w.bytes);
+      appended = w.out_is ∙ append_assoc before (ping ++ response) w.bytes ∙ ap (λ (z : List ℕ). before ++ z) (append_assoc ping response w.bytes);
+      behind = ping_behind new.streams sent t old.is_ping_due (response ++ w.bytes)
+          (response_behind new.streams sent t old.path_response w.bytes put.reads_back
+          (rest_behind w.mid new.streams sent t w.bytes w.rest (all_written _ old.streams w.mid sent t w.frames w.bytes w.written p.out)));
+      into = rest_into w.mid new.streams came t w.rest (written_stand _ old.streams w.mid came t w.frames w.bytes w.written p.into);
+    }
+
+maybe_eliciting : (may : Bool) (room : ℕ) (old new : DataSpace) (before after : List ℕ) (frames : List SentFrame) (sent came : List Run) (t : List Act)
+    → MatchBool may (AreElicitingPut room old new before after frames) ((new ≡ old) × (after ≡ before)) → Stands old sent came t → StandsAppended new sent came t before after
+maybe_eliciting true room old new before after frames sent came t put p = eliciting room old new before after frames sent came t put p
+maybe_eliciting false room old new before after frames sent came t none p = subst (λ (s : DataSpace). StandsAppended s sent came t before after) (sym none.0) (record {
+  bytes = [];
+  appended = none.1 ∙ sym (append-nil before);
+  behind = nothing_behind old.streams sent t p.out;
+  into = p.into;
+})
+
+sent_streams : (s : DataSpace) (packet : SentPacket SentFrame) (is_eliciting : Bool) → (with_sent s packet is_eliciting).streams ≡ s.streams
+sent_streams s packet true = refl
+sent_streams s packet false = refl
+
+pub made_stands : (now overhead room : ℕ) (old new : DataSpace) (before after : List ℕ) (sent came : List Run) (t : List Act) → IsPacketMade now overhead room old new before after
+    → Stands old sent came t → StandsMade new sent came t before after
+made_stands now overhead room old new before after sent came t made p =
+    let a = maybe_eliciting (may_elicit old) (room - (length made.out_mid - length before)) old made.mid made.out_mid after made.packet.frames.items sent came t made.eliciting p in
+    let whole = ack_behind made.mid.streams sent t old.acks.is_due old.acks.ranges before made.out_mid a.bytes made.ack a.behind in
+    let b = whole.2 in
+    let same : new.streams ≡ made.mid.streams = ap (λ (s : DataSpace). s.streams) made.new_is ∙ sent_streams made.mid made.packet (nat_lt (length made.out_mid) (length after)) in
+    record {
+      bytes = whole.0;
+      frames = b.frames;
+      appended = a.appended ∙ whole.1;
+      are = subst (λ (z : List ℕ). AreQuicFrames z b.frames) (sym b.bytes_are) (all_read b.frames b.read_back);
+      stands = record {
+        out = subst (λ (s : PlainStreams). StandsOut s (sent ++ runs_of b.frames) t) (sym same) b.stands;
+        into = subst (λ (s : PlainStreams). StandsIn s came t) (sym same) a.into;
+      };
+    }
