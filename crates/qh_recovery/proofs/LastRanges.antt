@@ -3,7 +3,7 @@ use Rattle.std.proofs.Common.{◌≡◌, ℕ, zero, suc, ◌-◌, ◌<◌, ◌�
 use Rattle.std.proofs.lemmas.Bool.{cases_lt, cases_eq, le-leb, lt-leb, eq-eqb, ne_eqb, or_cases, both_ways, false_from_ne_true}
 use Rattle.std.specs.declared.ops.Range.{Range}
 use Rattle.qh_buffers.specs.Ranges.{PlainRange, is_in, has, AreApart, start_behind}
-use Rattle.qh_buffers.proofs.RangeLaws.{has_cut, none_below, none_behind, apart_take, apart_drop}
+use Rattle.qh_buffers.proofs.RangeLaws.{has_cut, none_below, none_behind, apart_take, apart_drop, apart_lower}
 use Rattle.qh_recovery.specs.PendingAcks.{IsJoined, AreFew, last_ranges}
 use Rattle.qh_recovery.proofs.Window.{one, one_is, one_has}
 
@@ -48,6 +48,7 @@ joined_last old mid n apart numbers =
       b,
       record {
         numbers = λ k. cut_numbers mid i apart k ∙ ap (λ (t : Bool). nat_le b k && t) (with k);
+        apart = apart_lower (drop i mid) 0 (start_behind 0 (take i mid)) (omega arith) (apart_drop mid i 0 apart);
         few = omega (arith, length-drop i mid);
         needed = λ some. omega (arith, length-drop i mid, bound_none mid i apart some);
         whole = λ some. sym (with b) ∙ cut_whole mid i apart some;

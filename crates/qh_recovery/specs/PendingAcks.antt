@@ -1,6 +1,7 @@
 -- The packet numbers that wait to be acknowledged (RFC 9000, section 13.2).
 use Rattle.std.specs.Prelude.{◌≡◌, ◌↔◌, ℕ, ◌-◌, ◌<◌, ◌≤◌, ◌==◌, ◌^◌, nat_le, Bool, true, false, ◌&&◌, ◌||◌, List, [], ◌∷◌, ◌++◌, length, drop, MatchOption, slice_get}
 use Rattle.qh_buffers.specs.Ranges.{PlainRange, has, IsGreatest}
+use Rattle.qh_buffers.specs.Ranges.{AreApart as AreApartRanges}
 use Rattle.qh_frame.specs.AckWritten.{AreApart, IsInOne, ack_frame}
 use Rattle.qh_frame.specs.FrameBytes.{IsPut}
 use Rattle.qh_spec.specs.Acknowledged.{Covers}
@@ -13,9 +14,10 @@ pub record PlainPendingAcks : Type 0 where
   pub is_due : Bool
 
 -- A number joins the others, and the least ranges go, whole, where there would be more than 32: all numbers below a bound,
--- which is 0 where none goes.
+-- which is 0 where none goes. No two ranges touch.
 pub record IsJoined (old new : List PlainRange) (n bound : ℕ) : Type 0 where
   pub numbers : (k : ℕ) → has new k ≡ (nat_le bound k && (k == n || has old k))
+  pub apart : AreApartRanges 0 new
   pub few : length new ≤ 32
   pub needed : 0 < bound → length new ≡ 32
   pub whole : 0 < bound → (bound == n || has old bound) ≡ false
