@@ -1,5 +1,6 @@
 pub mod FaithfulRuns
 pub mod ReceivingFrames
+pub mod ReceivingKept
 pub mod ReceivingLists
 pub mod ReceivingOpened
 pub mod ReceivingReads
@@ -10,6 +11,8 @@ pub mod SendingHalves
 pub mod SendingLists
 pub mod SendingPieces
 pub mod SendingSteps
+pub mod WaitingFrames
+pub mod WaitingSteps
 pub mod WithinArrivals
 pub mod WithinFrames
 pub mod WithinKept

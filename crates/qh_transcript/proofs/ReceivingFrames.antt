@@ -1,37 +1,27 @@
 -- Frames that come, are written, lost or acknowledged: what the receiving halves keep of what readers got.
-use Rattle.std.proofs.Common.{◌≡◌, ◌⊎◌, ℕ, List, ◌++◌, None, refl, ap, ◌∙◌, inl, inr, Bool}
-use Rattle.qh_half.specs.Recv.{PlainRecv}
+use Rattle.std.proofs.Common.{◌≡◌, ◌⊎◌, ℕ, List, ◌++◌, None, refl, sym, ap, ◌∙◌, inl, inr, true, Bool, ◌||◌}
+use Rattle.qh_half.specs.Recv.{PlainRecv, is_closed}
 use Rattle.qh_halves.specs.declared.counts.StreamCounts.{StreamCounts}
 use Rattle.qh_halves.specs.Counts.{has_send, has_recv}
-use Rattle.qh_halves.specs.RecvHalves.{PlainRecvHalves, IsRecvStep, IsRecvAbsent, IsPieceTaken, IsResetTaken}
+use Rattle.qh_halves.specs.RecvHalves.{PlainRecvHalves, recv_at, IsRecvAbsent, IsPieceTaken, IsResetTaken}
 use Rattle.qh_spec.specs.Lists.{In}
 use Rattle.qh_spec.specs.QuicFrame.{StreamFrame as Run}
 use Rattle.qh_spec.specs.Transcript.{Act}
-use Rattle.qh_streams.specs.declared.frames.SentFrame.{SentFrame}
 use Rattle.qh_streams.specs.declared.frames.StreamFrame.{StreamFrame}
-use Rattle.qh_streams.specs.Streams.{PlainStreams, counts_of, with_counts, is_two_way, is_live, counted_closed, was_opened, refusal_of, readable_events, finished_events, available_events, IsReceived, IsHandedOver, IsLostFrame, IsLostAtOnce, IsAckedFrame, AreWritten, AreLost, AreAcked}
+use Rattle.qh_streams.specs.Streams.{PlainStreams, counts_of, with_counts, is_two_way, is_live, was_opened, refusal_of, readable_events, available_events, IsReceived}
 use Rattle.qh_streams.specs.Streams.IsReceived.{stream as stream_received, reset as reset_received, stop as stop_received, stopped_before, max_data as max_data_received, max_stream_data as max_stream_data_received, max_streams as max_streams_received}
-use Rattle.qh_streams.specs.Streams.IsHandedOver.{stream as stream_handed, reset as reset_handed, stop as stop_handed, max_stream_data as max_stream_data_handed, max_data as max_data_handed, max_streams as max_streams_handed}
-use Rattle.qh_streams.specs.Streams.IsLostFrame.{stream as stream_lost, reset as reset_lost, stop as stop_lost, max_stream_data as max_stream_data_lost, max_data as max_data_lost, max_streams as max_streams_lost}
-use Rattle.qh_streams.specs.Streams.IsAckedFrame.{stream as stream_acked, reset as reset_acked, stop as stop_acked, max_stream_data as max_stream_data_acked, max_data as max_data_acked, max_streams as max_streams_acked}
-use Rattle.qh_streams.specs.Streams.AreWritten.{none as none_written, more as more_written}
-use Rattle.qh_streams.specs.Streams.AreLost.{none as none_lost, more as more_lost}
-use Rattle.qh_streams.specs.Streams.AreAcked.{none as none_acked, more as more_acked}
-use Rattle.qh_streams.proofs.StreamsSettled.{counts_alone, closed_alone}
+use Rattle.qh_streams.proofs.StreamsSettled.{counts_alone}
 use Rattle.qh_streams.proofs.StreamsTracked.{recv_goes}
 use Rattle.qh_transcript.specs.Receiving.{StandsIn, IsCarried}
-use Rattle.qh_transcript.proofs.ReceivingSteps.{IsLike, like_same, like_stand, same_stand, ingested_like, reset_like, counts_opened, closed_opened}
+use Rattle.qh_transcript.proofs.ReceivingKept.{IsSameHalf, KeepsHalves}
+use Rattle.qh_transcript.proofs.ReceivingLists.{none_some}
+use Rattle.qh_transcript.proofs.ReceivingSteps.{like_reader, like_same, like_stand, none_is, same_stand, ingested_like, reset_like, counts_opened, closed_opened}
 use Rattle.qh_transcript.proofs.ReceivingOpened.{arrived_stand, not_own, first_refusal}
 
 -- ---- a step of one half, where there is one
 
 absent_stand : (old new : PlainStreams) (came : List Run) (t : List Act) (id : ℕ) → IsRecvAbsent old.recv new.recv id → ((k : ℕ) → was_opened new k ≡ was_opened old k) → StandsIn old came t → StandsIn new came t
 absent_stand old new came t id none = same_stand old new came t (ap (λ (r : PlainRecvHalves). r.halves) none.same)
-
-step_stand : {P : PlainRecv → PlainRecv → Type 0} {id n : ℕ} (old new : PlainStreams) (came : List Run) (t : List Act) → IsRecvStep P old.recv new.recv id n ⊎ IsRecvAbsent old.recv new.recv id
-    → ((r next : PlainRecv) → P r next → IsLike came id r next) → ((k : ℕ) → was_opened new k ≡ was_opened old k) → StandsIn old came t → StandsIn new came t
-step_stand old new came t (inl step) like = like_stand old new came t (recv_goes step) like
-step_stand {id = id} old new came t (inr none) like = absent_stand old new came t id none
 
 piece_stand : (old new : PlainStreams) (came : List Run) (t : List Act) (run : Run) → In run came → IsPieceTaken old.recv new.recv run.id (record { offset = run.offset; bytes = run.payload }) run.fin ⊎ IsRecvAbsent old.recv new.recv run.id
     → ((k : ℕ) → was_opened new k ≡ was_opened old k) → StandsIn old came t → StandsIn new came t
@@ -74,65 +64,19 @@ received_stand old new came t f ok carried (max_stream_data_received mid id limi
 received_stand old new came t f ok carried (max_streams_received dir n e) s =
     counts_stand old (record old { events = old.events ++ available_events (counts_of old (is_two_way dir)) n dir }) new came t (is_two_way dir) _ e refl (λ k. refl) refl refl s
 
--- ---- frames that are handed over
+-- ---- frames that are handed over, lost or acknowledged
 
-pub handed_stand : (room : ℕ) (old new : PlainStreams) (came : List Run) (t : List Act) (f : SentFrame) → IsHandedOver old new room f → StandsIn old came t → StandsIn new came t
-handed_stand room old new came t f (stream_handed id piece idle next e) =
-    same_stand old new came t (ap (λ (s : PlainStreams). s.recv.halves) e) (λ k. ap (λ (s : PlainStreams). was_opened s k) e)
-handed_stand room old new came t f (reset_handed id frame idle next e) =
-    same_stand old new came t (ap (λ (s : PlainStreams). s.recv.halves) e) (λ k. ap (λ (s : PlainStreams). was_opened s k) e)
-handed_stand room old new came t f (stop_handed id code step e) =
-    like_stand old new came t (recv_goes step) (λ r next p. rw p.2 (like_same came id.0 r _ refl refl refl (λ closed. closed))) (λ k. ap (λ (s : PlainStreams). was_opened s k) e)
-handed_stand room old new came t f (max_stream_data_handed id limit step e) =
-    like_stand old new came t (recv_goes step) (λ r next p. rw p.2 (like_same came id.0 r _ refl refl refl (λ closed. closed))) (λ k. ap (λ (s : PlainStreams). was_opened s k) e)
-handed_stand room old new came t f (max_data_handed limit is due e) =
-    same_stand old new came t (ap (λ (s : PlainStreams). s.recv.halves) e) (λ k. ap (λ (s : PlainStreams). was_opened s k) e)
-handed_stand room old new came t f (max_streams_handed dir n is due e) = counts_stand old old new came t (is_two_way dir) _ e refl (λ k. refl) refl refl
+closed_as : (r next : PlainRecv) → IsSameHalf r next → is_closed r ≡ true → is_closed next ≡ true
+closed_as r next s closed = ap (λ (b : Bool). b || next.is_given) s.stopped ∙ ap (λ (b : Bool). r.is_stopped || b) s.given ∙ closed
 
-pub written_stand : (room : ℕ) (old new : PlainStreams) (came : List Run) (t : List Act) (fs : List SentFrame) (bytes : List ℕ) → AreWritten room old new fs bytes → StandsIn old came t → StandsIn new came t
-written_stand room old new came t fs bytes (none_written _ _) s = s
-written_stand room old new came t fs bytes (more_written _ _ mid _ f rest more handed fits back others) s =
-    written_stand _ mid new came t rest more others (handed_stand room old mid came t f handed s)
-
--- ---- frames that are lost or acknowledged
-
-pub lost_stand : (old new : PlainStreams) (came : List Run) (t : List Act) (f : SentFrame) → IsLostFrame old new f → StandsIn old came t → StandsIn new came t
-lost_stand old new came t f (stream_lost id piece step e) =
-    same_stand old new came t (ap (λ (s : PlainStreams). s.recv.halves) e) (λ k. ap (λ (s : PlainStreams). was_opened s k) e)
-lost_stand old new came t f (reset_lost id frame step e) =
-    same_stand old new came t (ap (λ (s : PlainStreams). s.recv.halves) e) (λ k. ap (λ (s : PlainStreams). was_opened s k) e)
-lost_stand old new came t f (stop_lost id code step e) =
-    step_stand old new came t step (λ r next p. rw p (like_same came id.0 r _ refl refl refl (λ closed. closed))) (λ k. ap (λ (s : PlainStreams). was_opened s k) e)
-lost_stand old new came t f (max_data_lost limit e) =
-    same_stand old new came t (ap (λ (s : PlainStreams). s.recv.halves) e) (λ k. ap (λ (s : PlainStreams). was_opened s k) e)
-lost_stand old new came t f (max_stream_data_lost id limit step e) =
-    step_stand old new came t step (λ r next p. rw p (like_same came id.0 r _ refl refl refl (λ closed. closed))) (λ k. ap (λ (s : PlainStreams). was_opened s k) e)
-lost_stand old new came t f (max_streams_lost dir n e) = counts_stand old old new came t (is_two_way dir) _ e refl (λ k. refl) refl refl
-
-pub lost_at_once_stand : (old new : PlainStreams) (came : List Run) (t : List Act) → IsLostAtOnce old new → StandsIn old came t → StandsIn new came t
-lost_at_once_stand old new came t p s = lost_stand p.mid new came t p.frame p.lost (handed_stand p.room old p.mid came t p.frame p.handed s)
-
-pub all_lost_stand : (old new : PlainStreams) (came : List Run) (t : List Act) (fs : List SentFrame) → AreLost old new fs → StandsIn old came t → StandsIn new came t
-all_lost_stand old new came t fs (none_lost _) s = s
-all_lost_stand old new came t fs (more_lost _ mid _ front f before lost) s = lost_stand mid new came t f lost (all_lost_stand old mid came t front before s)
-
--- a frame of which only what is sent is told
-sent_acked : (old mid new : PlainStreams) (came : List Run) (t : List Act) (id : ℕ) (live : Bool) → new ≡ counted_closed mid id live → mid.recv ≡ old.recv → ((k : ℕ) → was_opened mid k ≡ was_opened old k) → StandsIn old came t → StandsIn new came t
-sent_acked old mid new came t id live e recv_is opened_is = same_stand old new came t
-    (ap (λ (s : PlainStreams). s.recv.halves) e ∙ ap (λ (r : PlainRecvHalves). r.halves) ((closed_alone mid id live).recv_is ∙ recv_is))
-    (λ k. ap (λ (s : PlainStreams). was_opened s k) e ∙ closed_opened mid id live k ∙ opened_is k)
-
-acked_stand : (old new : PlainStreams) (came : List Run) (t : List Act) (f : SentFrame) → IsAckedFrame old new f → StandsIn old came t → StandsIn new came t
-acked_stand old new came t f (stream_acked id piece finished settled e) = sent_acked old (record old { send = new.send; events = old.events ++ finished_events finished id }) new came t id.0 (is_live old id.0) e refl (λ k. refl)
-acked_stand old new came t f (reset_acked id frame gone settled e) = sent_acked old (record old { send = new.send }) new came t id.0 (is_live old id.0) e refl (λ k. refl)
-acked_stand old new came t f (stop_acked id code step e) =
-    step_stand old new came t step (λ r next p. rw p (like_same came id.0 r _ refl refl refl (λ closed. closed))) (λ k. ap (λ (s : PlainStreams). was_opened s k) e)
-acked_stand old new came t f (max_data_acked limit e) =
-    same_stand old new came t (ap (λ (s : PlainStreams). s.recv.halves) e) (λ k. ap (λ (s : PlainStreams). was_opened s k) e)
-acked_stand old new came t f (max_stream_data_acked id limit step e) =
-    step_stand old new came t step (λ r next p. rw p (like_same came id.0 r _ refl refl refl (λ closed. closed))) (λ k. ap (λ (s : PlainStreams). was_opened s k) e)
-acked_stand old new came t f (max_streams_acked dir n e) = counts_stand old old new came t (is_two_way dir) _ e refl (λ k. refl) refl refl
-
-pub all_acked_stand : (old new : PlainStreams) (came : List Run) (t : List Act) (fs : List SentFrame) → AreAcked old new fs → StandsIn old came t → StandsIn new came t
-all_acked_stand old new came t fs (none_acked _) s = s
-all_acked_stand old new came t fs (more_acked _ mid _ front f before acked) s = acked_stand mid new came t f acked (all_acked_stand old mid came t front before s)
+pub kept_stand : (old new : PlainStreams) (came : List Run) (t : List Act) → KeepsHalves old new → StandsIn old came t → StandsIn new came t
+kept_stand old new came t kept s = record {
+  halves = λ k next is.
+      let b = kept.halves k next is in
+      like_reader came k t b.half next (like_same came k b.half next b.step.bytes b.step.state b.step.order (closed_as b.half next b.step)) (s.halves k b.half b.was);
+  pieces = s.pieces;
+  end = s.end;
+  unopened = λ k closed.
+      let none = s.unopened k (sym (kept.opened k) ∙ closed) in
+      (none_is (recv_at new.recv k) (λ next is. let b = kept.halves k next is in none_some ⊥ (recv_at old.recv k) b.half none.0 b.was), none.1, none.2);
+}

@@ -32,24 +32,29 @@ fresh_reader : (came : List Run) (id limit : ℕ) (t : List Act) (b : Bool) (r :
 fresh_reader came id limit t true r is none live = subst (λ (x : PlainRecv). IsReaderOf came id t x) (some_is (new_recv limit) r is) (new_reader came id limit t none live)
 fresh_reader came id limit t false r is none live = cc
 
--- these weren't opened before, and are now
-new_stand : (old new : PlainStreams) (are_new : ℕ → Bool) (came : List Run) (t : List Act) → AreOpened old new are_new → ((k : ℕ) → are_new k ≡ true → was_opened old k ≡ false) → ((k : ℕ) → are_new k ≡ true → was_opened new k ≡ true)
-    → AreLater old new → StandsIn old came t → StandsIn new came t
-new_stand old new are_new came t p before after later s = record {
+-- Streams got their halves that weren't opened before, and are now.
+pub record AddsNew (old new : PlainStreams) (are_new : ℕ → Bool) : Type 0 where
+  pub are_opened : AreOpened old new are_new
+  pub before : (k : ℕ) → are_new k ≡ true → was_opened old k ≡ false
+  pub after : (k : ℕ) → are_new k ≡ true → was_opened new k ≡ true
+  pub later : AreLater old new
+
+new_stand : (old new : PlainStreams) (are_new : ℕ → Bool) (came : List Run) (t : List Act) → AddsNew old new are_new → StandsIn old came t → StandsIn new came t
+new_stand old new are_new came t p s = record {
   halves = λ k r is. elim (cases_Bool (are_new k)) [
-    | inl among ↦ let none = s.unopened k (before k among) in fresh_reader came k _ t (has_recv old.side k) r (sym (rw among at (p.recv_is k)) ∙ is) none.1 none.2
-    | inr apart ↦ s.halves k r (sym (rw apart at (p.recv_is k)) ∙ is)
+    | inl among ↦ let none = s.unopened k (p.before k among) in fresh_reader came k _ t (has_recv old.side k) r (sym (rw among at (p.are_opened.recv_is k)) ∙ is) none.1 none.2
+    | inr apart ↦ s.halves k r (sym (rw apart at (p.are_opened.recv_is k)) ∙ is)
   ];
   pieces = s.pieces;
   end = s.end;
   unopened = λ k closed. elim (cases_Bool (are_new k)) [
-    | inl among ↦ absurd (false≢true (sym closed ∙ after k among))
-    | inr apart ↦ let none = s.unopened k (closed_then k closed) in (rw apart at (p.recv_is k) ∙ none.0, none.1, none.2)
+    | inl among ↦ absurd (false≢true (sym closed ∙ p.after k among))
+    | inr apart ↦ let none = s.unopened k (closed_then k closed) in (rw apart at (p.are_opened.recv_is k) ∙ none.0, none.1, none.2)
   ];
 } where
   closed_then : (k : ℕ) → was_opened new k ≡ false → was_opened old k ≡ false
   closed_then k closed = elim (cases_Bool (was_opened old k)) [
-    | inl opened ↦ absurd (false≢true (sym closed ∙ still_opened later k opened))
+    | inl opened ↦ absurd (false≢true (sym closed ∙ still_opened p.later k opened))
     | inr none ↦ none
   ]
 
@@ -73,8 +78,8 @@ later_set old mid new two_way c e side_is counts_are more =
 
 -- ---- a stream that this end opens
 
-pub opened_stand : (old new : PlainStreams) (came : List Run) (t : List Act) (id : ℕ) (dir : Dir) → id ≡ stream_id old.side dir (counts_of old (is_two_way dir)).opened → IsOpened old new id → StandsIn old came t → StandsIn new came t
-opened_stand old new came t id dir id_is p s =
+pub opened_new : (old new : PlainStreams) (id : ℕ) (dir : Dir) → id ≡ stream_id old.side dir (counts_of old (is_two_way dir)).opened → IsOpened old new id → AddsNew old new (λ k. k == id)
+opened_new old new id dir id_is p =
     let own : is_own old.side id ≡ true = rw id_is (own_id old.side dir _) in
     let bi : is_bi id ≡ is_two_way dir = rw id_is (bi_id old.side dir _) in
     let index : index_of id ≡ (counts_of old (is_bi id)).opened = ap index_of id_is ∙ index_id old.side dir _ ∙ ap (λ (b : Bool). (counts_of old b).opened) (sym bi) in
@@ -84,8 +89,15 @@ opened_stand old new came t id dir id_is p s =
     let counts_are : (counts_of new (is_bi id)).opened ≡ (counts_of old (is_bi id)).opened + 1 = ap (λ (s : PlainStreams). (counts_of s (is_bi id)).opened) p.rest_is ∙ ap (λ (c : StreamCounts). c.opened) (set_counts mid (is_bi id) c) in
     let closed : was_opened old id ≡ false = opened_is old id true (is_bi id) own refl ∙ le-ltb (index_of id) (counts_of old (is_bi id)).opened (omega (arith, index)) in
     let live : was_opened new id ≡ true = opened_is new id true (is_bi id) (ap (λ (d : _). is_own d id) side_is ∙ own) refl ∙ lt-ltb (index_of id) (counts_of new (is_bi id)).opened (omega (arith, index, counts_are)) in
-    new_stand old new (λ k. k == id) came t p.halves (λ k same. rw (eqb-true k id same) closed) (λ k same. rw (eqb-true k id same) live)
-    (later_set old mid new (is_bi id) c p.rest_is refl (λ b. refl) (record { opened = omega arith; arrived = omega arith })) s
+    record {
+      are_opened = p.halves;
+      before = λ k same. rw (eqb-true k id same) closed;
+      after = λ k same. rw (eqb-true k id same) live;
+      later = later_set old mid new (is_bi id) c p.rest_is refl (λ b. refl) (record { opened = omega arith; arrived = omega arith });
+    }
+
+pub opened_stand : (old new : PlainStreams) (came : List Run) (t : List Act) (id : ℕ) (dir : Dir) → id ≡ stream_id old.side dir (counts_of old (is_two_way dir)).opened → IsOpened old new id → StandsIn old came t → StandsIn new came t
+opened_stand old new came t id dir id_is p = new_stand old new (λ k. k == id) came t (opened_new old new id dir id_is p)
 
 -- ---- streams of the peer's that a frame names
 
@@ -104,15 +116,21 @@ pub first_refusal : (a b : Option Refusal) → or_refusal a b ≡ None → a ≡
 first_refusal None b ok = refl
 first_refusal (Some r) b ok = ok
 
+pub arrived_new : (old new : PlainStreams) (id : ℕ) → is_own old.side id ≡ false → was_opened old id ≡ false → HasArrived old new id → AddsNew old new (arrives_with old id)
+arrived_new old new id own fresh p =
+    let below = ltb-false (index_of id) (counts_of old (is_bi id)).arrived (sym (opened_is old id false (is_bi id) own refl) ∙ fresh) in
+    let e = p.rest_is fresh in
+    let side_is : new.side ≡ old.side = ap (λ (s : PlainStreams). s.side) e ∙ set_side _ (is_bi id) _ in
+    let arrived_is : (counts_of new (is_bi id)).arrived ≡ index_of id + 1 = ap (λ (s : PlainStreams). (counts_of s (is_bi id)).arrived) e ∙ ap (λ (c : StreamCounts). c.arrived) (set_counts _ (is_bi id) _) in
+    record {
+      are_opened = p.halves fresh;
+      before = closed_before old id (is_bi id) own refl;
+      after = open_after old id (is_bi id) own refl new side_is arrived_is;
+      later = later_set old _ new (is_bi id) _ e refl (λ b. refl) (record { opened = omega arith; arrived = omega (arith, below) });
+    }
+
 pub arrived_stand : (old new : PlainStreams) (came : List Run) (t : List Act) (id : ℕ) → (was_opened old id ≡ false → is_own old.side id ≡ false) → HasArrived old new id → StandsIn old came t → StandsIn new came t
 arrived_stand old new came t id peers p s = elim (cases_Bool (was_opened old id)) [
   | inl known ↦ rw (p.known known) s
-  | inr fresh ↦
-      let own = peers fresh in
-      let below = ltb-false (index_of id) (counts_of old (is_bi id)).arrived (sym (opened_is old id false (is_bi id) own refl) ∙ fresh) in
-      let e = p.rest_is fresh in
-      let side_is : new.side ≡ old.side = ap (λ (s : PlainStreams). s.side) e ∙ set_side _ (is_bi id) _ in
-      let arrived_is : (counts_of new (is_bi id)).arrived ≡ index_of id + 1 = ap (λ (s : PlainStreams). (counts_of s (is_bi id)).arrived) e ∙ ap (λ (c : StreamCounts). c.arrived) (set_counts _ (is_bi id) _) in
-      new_stand old new (arrives_with old id) came t (p.halves fresh) (closed_before old id (is_bi id) own refl) (open_after old id (is_bi id) own refl new side_is arrived_is)
-      (later_set old _ new (is_bi id) _ e refl (λ b. refl) (record { opened = omega arith; arrived = omega (arith, below) })) s
+  | inr fresh ↦ new_stand old new (arrives_with old id) came t (arrived_new old new id (peers fresh) fresh p) s
 ]

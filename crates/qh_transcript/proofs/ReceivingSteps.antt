@@ -154,7 +154,7 @@ reset_like came id code size fresh r next p = record {
 
 -- ---- all halves
 
-none_is : {X : Type 0} (o : Option X) → ((x : X) → o ≡ Some x → ⊥) → o ≡ None
+pub none_is : {X : Type 0} (o : Option X) → ((x : X) → o ≡ Some x → ⊥) → o ≡ None
 none_is None never = refl
 none_is (Some x) never = absurd (never x refl)
 

@@ -116,7 +116,7 @@ seen_as s out t f o view p = rw view p
 no_run : (s : PlainStreams) (out : List Run) (t : List Act) (f : QuicFrame) → stream_of f ≡ None → StandsOut s out t → StandsOut s (out ++ some_run (stream_of f)) t
 no_run s out t f view p = seen_as s out t f None view (rw (append-nil out) p)
 
-form_carries : (zero fin : Bool) (id offset : ℕ) (payload : List ℕ) → (offset == 0) ≡ zero
+pub form_carries : (zero fin : Bool) (id offset : ℕ) (payload : List ℕ) → (offset == 0) ≡ zero
     → stream_of (stream_form (record { id = id; offset = offset; payload = payload; fin = fin })) ≡ Some (record { id = id; offset = offset; payload = payload; fin = fin })
 form_carries true true id offset payload e = rw e (ap (λ (o : ℕ). Some (record { id = id; offset = o; payload = payload; fin = true })) (sym (eqb-true offset 0 e)))
 form_carries true false id offset payload e = rw e (ap (λ (o : ℕ). Some (record { id = id; offset = o; payload = payload; fin = false })) (sym (eqb-true offset 0 e)))

@@ -61,9 +61,9 @@ are_opened old new frames t are_new o none side peer max_opened opened p =
 -- ---- this end opens one
 
 pub opened : (old new : PlainStreams) (frames : List StreamFrame) (t : List Act) (id : ℕ) (dir : Dir) → id ≡ stream_id old.side dir (counts_of old (is_two_way dir)).opened
-    → (counts_of old (is_two_way dir)).opened < (counts_of old (is_two_way dir)).max_opened → was_opened old id ≡ false → written t id ≡ []
+    → (counts_of old (is_two_way dir)).opened < (counts_of old (is_two_way dir)).max_opened → written t id ≡ []
     → IsOpened old new id → KeepsWithin old frames t → KeepsWithin new frames t
-opened old new frames t id dir id_is room closed none o p =
+opened old new frames t id dir id_is room none o p =
     let bi : is_bi id ≡ is_two_way dir = ap is_bi id_is ∙ bi_id old.side dir (counts_of old (is_two_way dir)).opened in
     let mid : PlainStreams = record old { send = new.send; recv = new.recv } in
     let c = with_opened (counts_of old (is_bi id)) in

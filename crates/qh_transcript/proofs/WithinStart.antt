@@ -12,12 +12,12 @@ use Rattle.qh_transcript.proofs.WithinArrivals.{first_below}
 use Rattle.qh_transcript.proofs.WithinKept.{none_in_all}
 
 -- no stream was opened, and the counts that are permitted are at most the peer's first ones
-record IsUnused (s : PlainStreams) : Type 0 where
-  no_half : s.send.halves ≡ []
-  data_sent : s.send.data_sent ≡ 0
-  max_data : s.send.max_data ≤ s.peer.max_data
-  opened : (b : Bool) → (counts_of s b).opened ≡ 0
-  max_opened : (b : Bool) → (counts_of s b).max_opened ≤ first_count s b
+pub record IsUnused (s : PlainStreams) : Type 0 where
+  pub no_half : s.send.halves ≡ []
+  pub data_sent : s.send.data_sent ≡ 0
+  pub max_data : s.send.max_data ≤ s.peer.max_data
+  pub opened : (b : Bool) → (counts_of s b).opened ≡ 0
+  pub max_opened : (b : Bool) → (counts_of s b).max_opened ≤ first_count s b
 
 zero_below : (n bound : ℕ) → n ≡ 0 → n ≤ bound
 zero_below n bound e = omega (arith, e)
@@ -25,7 +25,7 @@ zero_below n bound e = omega (arith, e)
 first_then : (n first bound : ℕ) → n ≤ first → first ≤ bound → n ≤ bound
 first_then n first bound low up = omega (arith, low, up)
 
-unused : (s : PlainStreams) (frames : List StreamFrame) (t : List Act) → IsUnused s → WriteNothing t → KeepsWithin s frames t
+pub unused : (s : PlainStreams) (frames : List StreamFrame) (t : List Act) → IsUnused s → WriteNothing t → KeepsWithin s frames t
 unused s frames t u none =
     let all = none_in_all t none.bytes in
     record {

@@ -1,3 +1,4 @@
 pub mod Sending
 pub mod Receiving
 pub mod Within
+pub mod Waiting

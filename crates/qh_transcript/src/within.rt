@@ -30,7 +30,7 @@ pub fn keeps_within_limits()
     ensures priority { (old new : PlainStreams) (frames : List StreamFrame) (t : List Act) (id : ℕ) (priority : ℤ)
         → IsStep (HasPriority priority) old.send new.send id 0 → new ≡ record old { send = new.send } → KeepsWithin old frames t → KeepsWithin new frames t }
     ensures opened { (old new : PlainStreams) (frames : List StreamFrame) (t : List Act) (id : ℕ) (dir : Dir) → id ≡ stream_id old.side dir (counts_of old (is_two_way dir)).opened
-        → (counts_of old (is_two_way dir)).opened < (counts_of old (is_two_way dir)).max_opened → was_opened old id ≡ false → written t id ≡ []
+        → (counts_of old (is_two_way dir)).opened < (counts_of old (is_two_way dir)).max_opened → written t id ≡ []
         → IsOpened old new id → KeepsWithin old frames t → KeepsWithin new frames t }
     ensures received { (old new : PlainStreams) (frames : List StreamFrame) (t : List Act) (frame : StreamFrame) → refusal_of old frame ≡ None → ((id : ℕ) → was_opened old id ≡ false → written t id ≡ [])
         → IsReceived old new frame → KeepsWithin old frames t → KeepsWithin new (frame ∷ frames) t }

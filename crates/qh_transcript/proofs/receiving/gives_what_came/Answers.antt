@@ -6,6 +6,7 @@ use Rattle.qh_transcript.proofs.ReceivingSteps as step
 use Rattle.qh_transcript.proofs.ReceivingReads as reads
 use Rattle.qh_transcript.proofs.ReceivingOpened as opening
 use Rattle.qh_transcript.proofs.ReceivingFrames as frame
+use Rattle.qh_transcript.proofs.ReceivingKept as kept
 use Rattle.qh_transcript.proofs.receiving.gives_what_came.Goals as goal
 
 pub returns-clause-more : goal.returns-clause-more
@@ -38,19 +39,19 @@ pub returns-clause-opened : goal.returns-clause-opened
 returns-clause-opened c = opening.opened_stand
 
 pub returns-clause-written : goal.returns-clause-written
-returns-clause-written c = frame.written_stand
+returns-clause-written c = λ room old new came t fs bytes all. frame.kept_stand old new came t (kept.written room old new fs bytes all)
 
 pub returns-clause-lost_at_once : goal.returns-clause-lost_at_once
-returns-clause-lost_at_once c = frame.lost_at_once_stand
+returns-clause-lost_at_once c = λ old new came t lost. frame.kept_stand old new came t (kept.at_once old new lost)
 
 pub returns-clause-again : goal.returns-clause-again
-returns-clause-again c = frame.lost_stand
+returns-clause-again c = λ old new came t f lost. frame.kept_stand old new came t (kept.again old new f lost)
 
 pub returns-clause-lost : goal.returns-clause-lost
-returns-clause-lost c = frame.all_lost_stand
+returns-clause-lost c = λ old new came t fs lost. frame.kept_stand old new came t (kept.all_lost old new fs lost)
 
 pub returns-clause-acked : goal.returns-clause-acked
-returns-clause-acked c = frame.all_acked_stand
+returns-clause-acked c = λ old new came t fs acked. frame.kept_stand old new came t (kept.all_acked old new fs acked)
 
 pub returns-clause-kept : goal.returns-clause-kept
 returns-clause-kept c = step.same_stand
