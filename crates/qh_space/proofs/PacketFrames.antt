@@ -1,5 +1,5 @@
 -- The bytes of the frames of a packet.
-use Rattle.std.proofs.Common.{◌≡◌, ◌⊎◌, ℕ, ◌+◌, ◌-◌, ◌<◌, ◌≤◌, ◌^◌, Bool, true, false, List, [], ◌∷◌, ◌++◌, length, Option, Some, None, refl, ap, ◌∙◌, arith, inl, inr}
+use Rattle.std.proofs.Common.{◌≡◌, ◌⊎◌, ℕ, ◌+◌, ◌-◌, ◌<◌, ◌≤◌, ◌^◌, Bool, true, false, List, [], ◌∷◌, ◌++◌, length, Option, Some, None, refl, ap, ◌∙◌, arith, inl, inr, subst}
 use Rattle.std.proofs.lemmas.Bool.{cases_lt, lt-ltb, le-ltb}
 use Rattle.std.proofs.lemmas.List.{length-append}
 use Rattle.qh_frame.specs.FrameBytes.{frame_bytes}
@@ -7,7 +7,7 @@ use Rattle.qh_frame.specs.Plain.{frame}
 use Rattle.qh_spec.specs.QuicFrames.{QuicFrame, Text}
 use Rattle.qh_spec.specs.Varint.{varint}
 use Rattle.qh_space.specs.Sending.{bytes_if, ping_bytes, response_bytes}
-use Rattle.qh_streams.specs.Streams.{PlainStreams, AreWritten, IsIdle, IsWrittenBy, head_bound, written_frame}
+use Rattle.qh_streams.specs.Streams.{PlainStreams, AreWritten, IsIdle, IsLostAtOnce, IsWrittenBy, head_bound, written_frame}
 use Rattle.qh_streams.specs.Streams.AreWritten.{none as none_written, more as more_written}
 use Rattle.qh_streams.specs.declared.frames.SentFrame.{SentFrame}
 
@@ -53,6 +53,21 @@ pub none_written_by : (room : ℕ) (old new : PlainStreams) (out_old out_new : L
 none_written_by room old new out_old out_new frames written short =
     let sum = ap length written.out_is ∙ length-append out_old written.bytes in
     written.sent_is ∙ none_without_bytes room old written.mid written.frames written.bytes written.written (omega (arith, sum, short))
+
+none_handed : (room : ℕ) (old new : PlainStreams) (fs : List SentFrame) (bytes : List ℕ) → AreWritten room old new fs bytes → length bytes ≡ 0 → new ≡ old
+none_handed room old new fs bytes (none_written _ _) e = refl
+none_handed room old new fs bytes (more_written _ _ mid _ f gs rest handed fits back others) e =
+    let head = frame_bytes (written_frame mid f) in
+    let sum = length-append head rest in
+    let some = frame_some (written_frame mid f) in
+    absurd (omega (arith, sum, some, e))
+
+-- without a byte the streams are as they were, but for a frame that was lost at once
+pub left_by : (room : ℕ) (old new : PlainStreams) (out_old out_new : List ℕ) (frames : List SentFrame) → IsWrittenBy room old new out_old out_new [] frames
+    → length out_new ≤ length out_old → (new ≡ old) ⊎ IsLostAtOnce old new
+left_by room old new out_old out_new frames written short =
+    let sum = ap length written.out_is ∙ length-append out_old written.bytes in
+    subst (λ (s : PlainStreams). (new ≡ s) ⊎ IsLostAtOnce s new) (none_handed room old written.mid written.frames written.bytes written.written (omega (arith, sum, short))) written.rest
 
 module _ (room left : ℕ) (old new : PlainStreams) (out_old out_mid out_new due : List ℕ) (frames : List SentFrame) (wide : 80 ≤ room) (mid_is : out_mid ≡ out_old ++ due)
     (few : length due ≤ 10) (left_is : left ≡ room - (length out_mid - length out_old)) (written : IsWrittenBy left old new out_mid out_new [] frames) where

@@ -9,10 +9,10 @@ use Rattle.qh_loss.proofs.FramesOut.{Packets, frames_more, sent_owed}
 use Rattle.qh_recovery.specs.PendingAcks.{PlainPendingAcks}
 use Rattle.qh_recovery.specs.SentPackets.{packet_at, HasInstead}
 use Rattle.qh_recovery.specs.declared.sent_packets.SentPacket.{SentPacket}
-use Rattle.qh_space.specs.Sending.{may_elicit, due_bytes, with_sent, AreElicitingPut, IsAckFirst, IsPacketMade, IsQuiet}
+use Rattle.qh_space.specs.Sending.{may_elicit, due_bytes, with_sent, AreElicitingPut, AreLeft, IsAckFirst, IsPacketMade, IsQuiet}
 use Rattle.qh_space.specs.Space.{IsSpace}
 use Rattle.qh_space.specs.declared.data_space.DataSpace.{DataSpace}
-use Rattle.qh_space.proofs.PacketFrames.{none_written_by}
+use Rattle.qh_space.proofs.PacketFrames.{left_by, none_written_by}
 use Rattle.qh_streams.specs.Streams.{PlainStreams, AreAllOut, IsIdle, KeepsOut}
 use Rattle.qh_streams.specs.Tracked.{AreTracked}
 use Rattle.qh_streams.specs.declared.frames.SentFrame.{SentFrame}
@@ -126,6 +126,15 @@ module _ (room : ℕ) (old mid : DataSpace) (out_mid out_new : List ℕ) (packet
       let first = length-append out_mid due in
       none_written_by (room - length due) old.streams mid.streams (out_mid ++ due) out_new packet.frames.items (put may).streams (omega (arith, first, short))
 
+  streams_left : length out_new ≤ length out_mid → AreLeft old.streams mid.streams
+  streams_left short = elim (cases_Bool (may_elicit old)) [
+    | inl may ↦
+        let due = due_bytes old in
+        let first = length-append out_mid due in
+        left_by (room - length due) old.streams mid.streams (out_mid ++ due) out_new packet.frames.items (put may).streams (omega (arith, first, short))
+    | inr not ↦ inl (ap (λ (m : DataSpace). m.streams) (none not).0)
+  ]
+
   module _ (owed : AreOwed old.streams old.sent) (out : AreAllOut mid.streams packet.frames.items) (keeps : KeepsOut old.streams mid.streams) where
     owed_out : (number : ℕ) → may_elicit old ≡ true → AreOwed mid.streams (old.sent ++ (number, packet) ∷ [])
     owed_out number may =
@@ -189,6 +198,10 @@ module _ (room : ℕ) (old mid : DataSpace) (out_mid out_new : List ℕ) (packet
 
     still : out_new ≡ out_mid
     still = let same = ap length no_ack in none_appended (omega (arith, same, none_out))
+
+    -- no packet was made, and the streams are as they were
+    pub none_left : AreLeft old.streams mid.streams
+    none_left = let short = ap length still in streams_left (omega (arith, short))
 
     -- no packet was made, and it is a space afterwards
     pub space_kept : IsSpace old → AreAllOut mid.streams packet.frames.items → KeepsOut old.streams mid.streams → IsSpace mid

@@ -8,7 +8,7 @@ use Rattle.qh_recovery.specs.Window.{allows}
 use Rattle.qh_recovery.specs.declared.sent_packets.SentPacket.{SentPacket}
 use Rattle.qh_space.specs.declared.data_space.DataSpace.{DataSpace}
 use Rattle.qh_spec.specs.QuicFrames.{Text}
-use Rattle.qh_streams.specs.Streams.{head_bound, IsIdle, IsReadBack, IsWrittenBy}
+use Rattle.qh_streams.specs.Streams.{PlainStreams, head_bound, IsIdle, IsLostAtOnce, IsReadBack, IsWrittenBy}
 use Rattle.qh_streams.specs.declared.frames.SentFrame.{SentFrame}
 
 -- Ack-eliciting frames may be sent: the window permits a datagram, or a probe is due, which passes it (RFC 9002, sections 7 and
@@ -75,6 +75,11 @@ pub record IsPacketMade (now overhead room : ℕ) (old new : DataSpace) (out_old
   pub size_is : packet.size ≡ overhead + (length out_new - length out_old)
   pub some : length out_old < length out_new
   pub fits : length out_new ≤ length out_old + room
+
+-- Where nothing is sent the streams are as they were, but for a frame that was handed over and lost at once, where the allocator
+-- had no memory.
+abbrev pub AreLeft : (old new : PlainStreams) → Type 0
+AreLeft old new = (new ≡ old) ⊎ IsLostAtOnce old new
 
 -- Nothing is to be sent: no ACK is due, and nothing that is ack-eliciting waits that may be sent.
 pub record IsQuiet (s : DataSpace) : Type 0 where

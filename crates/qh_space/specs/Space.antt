@@ -1,8 +1,10 @@
 -- What holds of the packet number space of application data at every moment (RFC 9000, section 12.3; RFC 9002, section 2).
-use Rattle.std.specs.Prelude.{◌≡◌, ℕ, ◌<◌, ◌≤◌, ◌^◌, true, length, Some}
+use Rattle.std.specs.Prelude.{◌≡◌, ℕ, ◌<◌, ◌≤◌, ◌^◌, min, Bool, true, [], length, Some, if◌then◌else◌}
 use Rattle.qh_loss.specs.Owed.{AreOwed}
 use Rattle.qh_recovery.specs.SentPackets.{IsNext, IsReordered, NoneIs}
 use Rattle.qh_space.specs.declared.data_space.DataSpace.{DataSpace}
+use Rattle.qh_streams.specs.Streams.{PlainStreams, counts_of}
+use Rattle.qh_streams.specs.declared.frames.PeerLimits.{PeerLimits}
 
 -- What is owed is queued or out; the packets that are out have numbers below the next one, and only such were acknowledged; none
 -- that is out is lost by its number; an ACK that is due has a number.
@@ -13,3 +15,13 @@ pub record IsSpace (s : DataSpace) : Type 0 where
   pub acked : (n : ℕ) → s.largest_acked ≡ Some n → n < s.next_number
   pub in_order : (n : ℕ) → s.largest_acked ≡ Some n → NoneIs (IsReordered n) s.sent
   pub due : s.acks.is_due ≡ true → 0 < length s.acks.ranges
+
+-- The streams before the first of them: no byte was taken, this end opened none, and the limits are the peer's first ones, of
+-- which a count of streams is at most 2^60 (RFC 9000, section 4.6).
+pub record AreUnused (s : PlainStreams) (peer : PeerLimits) : Type 0 where
+  pub peer_is : s.peer ≡ peer
+  pub no_send : s.send.halves ≡ []
+  pub data_sent : s.send.data_sent ≡ 0
+  pub max_data : s.send.max_data ≡ peer.max_data
+  pub opened : (two_way : Bool) → (counts_of s two_way).opened ≡ 0
+  pub max_opened : (two_way : Bool) → (counts_of s two_way).max_opened ≡ min (if two_way then peer.max_bidi else peer.max_uni) (2 ^ 60)

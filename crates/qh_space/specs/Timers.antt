@@ -3,7 +3,7 @@ use Rattle.std.specs.Prelude.{◌≡◌, ℕ, ◌+◌, ◌-◌, ◌^◌, min, tr
 use Rattle.qh_base.specs.declared.time.Moment.{Moment}
 use Rattle.qh_loss.specs.Settled.{IsProbeQueued}
 use Rattle.qh_loss.specs.declared.probe.Probe.{Probe}
-use Rattle.qh_loss.specs.declared.probe.Probe.TheVariants.{Stream, Others, Ping}
+use Rattle.qh_loss.specs.declared.probe.Probe.TheVariants.{Ping}
 use Rattle.qh_recovery.specs.Rtt.{probe_time}
 use Rattle.qh_recovery.specs.SentPackets.{IsLastSent}
 use Rattle.qh_space.specs.declared.data_space.DataSpace.{DataSpace}

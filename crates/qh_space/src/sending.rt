@@ -1,6 +1,6 @@
 ghost use Rattle.std.specs.Prelude.{◌≡◌, ◌⊎◌, ◌+◌, ◌-◌, ◌<◌, ◌≤◌, ◌^◌, ◌++◌, length, None, Some, true, false, IfOk, IfSome, OnOk, OnErr};
 ghost use Rattle.qh_recovery.specs.SentPackets.{HasInstead, IsNext};
-ghost use Rattle.qh_space.specs.Sending.{ReadsBack, may_elicit, bytes_if, due_bytes, ping_bytes, response_bytes, with_sent, AreElicitingPut, IsAckFirst, IsPacketMade, IsQuiet};
+ghost use Rattle.qh_space.specs.Sending.{ReadsBack, may_elicit, bytes_if, due_bytes, ping_bytes, response_bytes, with_sent, AreElicitingPut, AreLeft, IsAckFirst, IsPacketMade, IsQuiet};
 ghost use Rattle.qh_space.specs.Space.{IsSpace};
 ghost use Rattle.qh_streams.specs.Streams.{AreAllOut, IsIdle, KeepsOut};
 
@@ -35,6 +35,7 @@ impl DataSpace {
         requires size { room + overhead < 2 ^ 32 }
         ensures some { IfOk result (λ o. IfSome o (λ n. (n ≡ self.old.next_number) × (n < 2 ^ 62) × IsPacketMade now.0 overhead room self.old self.new out.old.items out.new.items)) }
         ensures none { IfOk result (λ o. o ≡ None → (out.new.items ≡ out.old.items) × (self.new ≡ record self.old { streams = self.new.streams }) × ((self.old.next_number ≡ 2 ^ 62) ⊎ IsQuiet self.new)) }
+        ensures left { IfOk result (λ o. o ≡ None → AreLeft self.old.streams self.new.streams) }
         ensures space { OnOk result (IsSpace self.new) }
     {
         if self.next_number == PACKET_NUMBERS {

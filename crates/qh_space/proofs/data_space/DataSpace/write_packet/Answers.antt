@@ -1,6 +1,6 @@
 use Rattle.std.proofs.Common.{◌≡◌, ◌+◌, ◌-◌, ◌<◌, ◌^◌, arith, refl}
 use Rattle.qh_recovery.specs.declared.sent_packets.SentPacket.{SentPacket}
-use Rattle.qh_space.proofs.PacketMade.{next_kept, space_made, packet_made, space_kept, none_made}
+use Rattle.qh_space.proofs.PacketMade.{next_kept, space_made, packet_made, space_kept, none_made, none_left}
 use Rattle.qh_space.proofs.data_space.DataSpace.write_packet.Goals as goal
 use Rattle.qh_streams.specs.declared.frames.SentFrame.{SentFrame}
 
@@ -11,6 +11,14 @@ returns-then-len-start-clause-none c = λ _.
     let ack = c.in_ok-put_ack.ensures in
     none_made _ c.args.self.now c.put_eliciting.new.self c.put_ack.new.out.items c.put_eliciting.new.out.items packet put.put put.none
     c.args.out.now.items ack.put ack.some put.fits.0 (omega (arith, c.if-len-start.true, c.len.ensures, c.len-start.ensures)) put.idle
+
+pub returns-then-len-start-clause-left : goal.returns-then-len-start-clause-left
+returns-then-len-start-clause-left c = λ _.
+    let packet : SentPacket SentFrame = record { time_sent = c.args.now; size = 0; frames = c.in_ok-frames.frames } in
+    let put = c.in_ok-frames.ensures in
+    let ack = c.in_ok-put_ack.ensures in
+    none_left _ c.args.self.now c.put_eliciting.new.self c.put_ack.new.out.items c.put_eliciting.new.out.items packet put.put put.none
+    c.args.out.now.items ack.put ack.some put.fits.0 (omega (arith, c.if-len-start.true, c.len.ensures, c.len-start.ensures))
 
 pub returns-then-len-start-clause-space : goal.returns-then-len-start-clause-space
 returns-then-len-start-clause-space c =
