@@ -9,10 +9,10 @@ use Rattle.qh_frame.specs.AckWritten.{ack_frame}
 use Rattle.qh_frame.specs.FrameBytes.{frame_bytes, numbers_bytes}
 use Rattle.qh_frame.specs.Plain.{frame}
 use Rattle.qh_frame.specs.declared.ack.AckRange.{AckRange}
+use Rattle.qh_history.proofs.Carried.{by_left, by_packet, sent_streams}
 use Rattle.qh_history.specs.Standing.{Stands, StandsMade}
 use Rattle.qh_recovery.specs.PendingAcks.{IsAckPut}
-use Rattle.qh_recovery.specs.declared.sent_packets.SentPacket.{SentPacket}
-use Rattle.qh_space.specs.Sending.{AreElicitingPut, IsPacketMade, ReadsBack, bytes_if, may_elicit, ping_bytes, response_bytes, with_sent}
+use Rattle.qh_space.specs.Sending.{AreElicitingPut, AreLeft, IsPacketMade, ReadsBack, bytes_if, may_elicit, ping_bytes, response_bytes}
 use Rattle.qh_space.specs.declared.data_space.DataSpace.{DataSpace}
 use Rattle.qh_spec.specs.FrameViews.{stream_of}
 use Rattle.qh_spec.specs.QuicFrame.{StreamFrame as Run}
@@ -20,7 +20,8 @@ use Rattle.qh_spec.specs.QuicFrames.{QuicFrame, AreQuicFrames, Text}
 use Rattle.qh_spec.specs.Transcript.{Act}
 use Rattle.qh_streams.specs.Streams.{PlainStreams, IsLostAtOnce, IsReadBack}
 use Rattle.qh_streams.specs.declared.frames.SentFrame.{SentFrame}
-use Rattle.qh_transcript.proofs.ReceivingFrames.{written_stand, lost_at_once_stand}
+use Rattle.qh_transcript.proofs.ReceivingFrames.{kept_stand}
+use Rattle.qh_transcript.proofs.ReceivingKept.{again, handed}
 use Rattle.qh_transcript.proofs.SendingFrames.{all_written, at_once}
 use Rattle.qh_transcript.specs.Receiving.{StandsIn}
 use Rattle.qh_transcript.specs.Sending.{StandsOut, StandsBehind, some_run, runs_of}
@@ -77,22 +78,17 @@ rest_behind mid new sent t bytes (inr lost) b = record {
   stands = at_once mid new (sent ++ runs_of b.frames) t lost b.stands;
 }
 
-rest_into : (mid new : PlainStreams) (came : List Run) (t : List Act) → (new ≡ mid) ⊎ IsLostAtOnce mid new → StandsIn mid came t → StandsIn new came t
-rest_into mid new came t (inl same) p = subst (λ (s : PlainStreams). StandsIn s came t) (sym same) p
-rest_into mid new came t (inr lost) p = lost_at_once_stand mid new came t lost p
-
 -- ---- the packet
 
 -- what is appended behind the ACK, and how the streams stand then
-record StandsAppended (s : DataSpace) (sent came : List Run) (t : List Act) (before after : List ℕ) : Type 0 where
+record StandsAppended (s : DataSpace) (sent : List Run) (t : List Act) (before after : List ℕ) : Type 0 where
   bytes : List ℕ
   appended : after ≡ before ++ bytes
   behind : StandsBehind s.streams sent t bytes
-  into : StandsIn s.streams came t
 
-eliciting : (room : ℕ) (old new : DataSpace) (before after : List ℕ) (frames : List SentFrame) (sent came : List Run) (t : List Act) → AreElicitingPut room old new before after frames
-    → Stands old sent came t → StandsAppended new sent came t before after
-eliciting room old new before after frames sent came t put p =
+eliciting : (room : ℕ) (old new : DataSpace) (before after : List ℕ) (frames : List SentFrame) (sent : List Run) (t : List Act) → AreElicitingPut room old new before after frames
+    → StandsOut old.streams sent t → StandsAppended new sent t before after
+eliciting room old new before after frames sent t put p =
     let w = put.streams in
     let response = response_bytes old.path_response in
     let ping = bytes_if old.is_ping_due ping_bytes in
@@ -101,28 +97,22 @@ eliciting room old new before after frames sent came t put p =
       appended = w.out_is ∙ append_assoc before (ping ++ response) w.bytes ∙ ap (λ (z : List ℕ). before ++ z) (append_assoc ping response w.bytes);
       behind = ping_behind new.streams sent t old.is_ping_due (response ++ w.bytes)
           (response_behind new.streams sent t old.path_response w.bytes put.reads_back
-          (rest_behind w.mid new.streams sent t w.bytes w.rest (all_written _ old.streams w.mid sent t w.frames w.bytes w.written p.out)));
-      into = rest_into w.mid new.streams came t w.rest (written_stand _ old.streams w.mid came t w.frames w.bytes w.written p.into);
+          (rest_behind w.mid new.streams sent t w.bytes w.rest (all_written _ old.streams w.mid sent t w.frames w.bytes w.written p)));
     }
 
-maybe_eliciting : (may : Bool) (room : ℕ) (old new : DataSpace) (before after : List ℕ) (frames : List SentFrame) (sent came : List Run) (t : List Act)
-    → MatchBool may (AreElicitingPut room old new before after frames) ((new ≡ old) × (after ≡ before)) → Stands old sent came t → StandsAppended new sent came t before after
-maybe_eliciting true room old new before after frames sent came t put p = eliciting room old new before after frames sent came t put p
-maybe_eliciting false room old new before after frames sent came t none p = subst (λ (s : DataSpace). StandsAppended s sent came t before after) (sym none.0) (record {
+maybe_eliciting : (may : Bool) (room : ℕ) (old new : DataSpace) (before after : List ℕ) (frames : List SentFrame) (sent : List Run) (t : List Act)
+    → MatchBool may (AreElicitingPut room old new before after frames) ((new ≡ old) × (after ≡ before)) → StandsOut old.streams sent t → StandsAppended new sent t before after
+maybe_eliciting true room old new before after frames sent t put p = eliciting room old new before after frames sent t put p
+maybe_eliciting false room old new before after frames sent t none p = subst (λ (s : DataSpace). StandsAppended s sent t before after) (sym none.0) (record {
   bytes = [];
   appended = none.1 ∙ sym (append-nil before);
-  behind = nothing_behind old.streams sent t p.out;
-  into = p.into;
+  behind = nothing_behind old.streams sent t p;
 })
-
-sent_streams : (s : DataSpace) (packet : SentPacket SentFrame) (is_eliciting : Bool) → (with_sent s packet is_eliciting).streams ≡ s.streams
-sent_streams s packet true = refl
-sent_streams s packet false = refl
 
 pub made_stands : (now overhead room : ℕ) (old new : DataSpace) (before after : List ℕ) (sent came : List Run) (t : List Act) → IsPacketMade now overhead room old new before after
     → Stands old sent came t → StandsMade new sent came t before after
 made_stands now overhead room old new before after sent came t made p =
-    let a = maybe_eliciting (may_elicit old) (room - (length made.out_mid - length before)) old made.mid made.out_mid after made.packet.frames.items sent came t made.eliciting p in
+    let a = maybe_eliciting (may_elicit old) (room - (length made.out_mid - length before)) old made.mid made.out_mid after made.packet.frames.items sent t made.eliciting p.out in
     let whole = ack_behind made.mid.streams sent t old.acks.is_due old.acks.ranges before made.out_mid a.bytes made.ack a.behind in
     let b = whole.2 in
     let same : new.streams ≡ made.mid.streams = ap (λ (s : DataSpace). s.streams) made.new_is ∙ sent_streams made.mid made.packet (nat_lt (length made.out_mid) (length after)) in
@@ -133,6 +123,17 @@ made_stands now overhead room old new before after sent came t made p =
       are = subst (λ (z : List ℕ). AreQuicFrames z b.frames) (sym b.bytes_are) (all_read b.frames b.read_back);
       stands = record {
         out = subst (λ (s : PlainStreams). StandsOut s (sent ++ runs_of b.frames) t) (sym same) b.stands;
-        into = subst (λ (s : PlainStreams). StandsIn s came t) (sym same) a.into;
+        into = by_packet (λ s. StandsIn s came t) (λ was s f lost. kept_stand was s came t (again was s f lost)) (λ was s room f next. kept_stand was s came t (handed room was s f next)) now overhead room old new before after made p.into;
       };
     }
+
+-- where nothing is sent
+pub left_stands : (old new : DataSpace) (sent came : List Run) (t : List Act) → AreLeft old.streams new.streams → Stands old sent came t → Stands new sent came t
+left_stands old new sent came t left p = record {
+  out = left_out left;
+  into = by_left (λ s. StandsIn s came t) (λ was s f lost. kept_stand was s came t (again was s f lost)) (λ was s room f next. kept_stand was s came t (handed room was s f next)) old.streams new.streams left p.into;
+}
+  where
+    left_out : AreLeft old.streams new.streams → StandsOut new.streams sent t
+    left_out (inl same) = subst (λ (s : PlainStreams). StandsOut s sent t) (sym same) p.out
+    left_out (inr lost) = at_once old.streams new.streams sent t lost p.out

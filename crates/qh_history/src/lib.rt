@@ -3,7 +3,11 @@
 #![tactic(auto)]
 
 mod datagrams;
+mod limits;
 mod spaces;
+mod waiting;
 
 pub use datagrams::datagrams_carry;
+pub use limits::space_keeps_within;
 pub use spaces::space_stands;
+pub use waiting::space_keeps_what_came;
