@@ -1,12 +1,14 @@
 -- What a read leaves in a receiving half.
-use Rattle.std.proofs.Common.{◌≡◌, ℕ, ◌<◌, ◌≤◌, Bool, true, false, Option, Some, None, MatchOption, is_some, if◌then◌else◌, refl, sym, ap, ◌∙◌, inl, inr}
+use Rattle.std.proofs.Common.{◌≡◌, ℕ, ◌<◌, ◌≤◌, Bool, true, false, Option, Some, None, MatchOption, is_some, Err, if◌then◌else◌, refl, sym, ap, ◌∙◌, inl, inr}
 use Rattle.std.proofs.lemmas.Bool.{cases_lt, or_cases, both_ways}
 use Rattle.qh_buffers.specs.declared.assembler.Chunk.{Chunk}
 use Rattle.qh_buffers.specs.Ranges.{count_of}
 use Rattle.qh_buffers.specs.Assembler.{PlainAssembler, byte_of, end_of, is_over, to_give, was_given, IsGiven}
 use Rattle.qh_buffers.proofs.RangeCounts.{in_start, in_end}
 use Rattle.qh_buffers.proofs.ChunkLaws.{inside}
-use Rattle.qh_half.specs.Recv.{PlainRecv, IsRecv}
+use Rattle.qh_half.specs.declared.fault.ReadFault.TheVariants.{Memory}
+use Rattle.qh_half.specs.Recv.{PlainRecv, IsRecv, IsReadAnswer}
+use Rattle.qh_half.specs.Recv.IsReadAnswer.{memory}
 
 -- a piece has a byte at each of its offsets
 has_byte : (c : Chunk) (k : ℕ) → is_over c k ≡ true → is_some (byte_of c k) ≡ true
@@ -48,3 +50,7 @@ module _ (r : PlainRecv) (ok : IsRecv r) (new : PlainAssembler) (max : ℕ) wher
     waiting = waiting_after o none some;
     size = ok.size;
   }
+
+-- a read that memory lacks for leaves all as it was
+pub nothing_read : (old new : PlainRecv) (max_length : ℕ) → IsReadAnswer old new max_length (Err Memory) → new ≡ old
+nothing_read old new max_length (memory same) = same

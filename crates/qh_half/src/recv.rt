@@ -1,10 +1,11 @@
-ghost use Rattle.std.specs.Prelude.{◌≡◌, ◌⊎◌, ℕ, Bool, ◌+◌, ◌-◌, ◌<◌, ◌≤◌, ◌^◌, ◌==◌, min, length, Option, Some, None, true, false, OnOk, OnErr, IfOk, IfErr, IfSome, MatchOption, if◌then◌else◌};
+ghost use Rattle.std.specs.Prelude.{◌≡◌, ◌⊎◌, ℕ, Bool, ◌+◌, ◌-◌, ◌<◌, ◌≤◌, ◌^◌, ◌==◌, min, length, Option, Some, None, true, false, Err, OnOk, OnErr, IfOk, IfErr, IfSome, MatchOption, if◌then◌else◌};
 ghost use Rattle.qh_buffers.specs.Assembler.{end_of, IsInserted};
 ghost use Rattle.qh_half.specs.Recv.{new_recv, ingest_fault, contradicts, readable_fault, with_order, with_size, keeps_bytes, IsRead, IsReadAnswer, WaitsForMore, IsStopped, with_reset_given, limit_of, final_size, reset_code, bytes_read, IsIngested, IsResetBy, is_closed, is_at_end, is_done, is_limit_due, counted, owes_limit, owes_stop, is_stop_due, is_frame_due, wants_more, acked_stop, lost_stop, new_stop};
 ghost use Rattle.std.specs.Option.{option_map};
 ghost use Rattle.qh_buffers.specs.SendBuffer.{lost_mark};
 ghost use Rattle.qh_buffers.specs.declared.send_buffer.Mark.TheVariants.{Sent, Queued, Acked};
 ghost use Rattle.qh_half.specs.declared.recv.IngestFault.TheVariants.{Memory as Wanting};
+ghost use Rattle.qh_half.specs.declared.fault.ReadFault.TheVariants.{Memory as Lacking};
 ghost use Rattle.qh_half.specs.declared.recv.RecvState.TheVariants.{ResetRecvd};
 
 #[cfg(test)]
@@ -234,7 +235,7 @@ impl Recv {
             self.give_end();
             return Err(ReadFault::Reset(code));
         }
-        if let Some(piece) = self.read(max_length)? {
+        if let Some(piece) = self.give_bytes(max_length)? {
             return Ok(Some(piece));
         }
         if !self.is_at_end() {
@@ -242,6 +243,31 @@ impl Recv {
         }
         self.give_end();
         Ok(None)
+    }
+
+    /// Begins to read, in order or not, and gives what `next` gives. For want of memory nothing changes: the read isn't begun
+    /// either.
+    pub fn read(&mut self, max_length: usize, ordered: bool) -> Result<Option<Chunk>, ReadFault>
+        requires { readable_fault self.old ordered ≡ None }
+        ensures answer { (result ≡ Err Lacking → ⊥) → IsReadAnswer (with_order self.old ordered) self.new max_length result }
+        ensures memory { result ≡ Err Lacking → self.new ≡ self.old }
+    {
+        let was_unordered = self.is_unordered;
+        self.set_unordered(was_unordered || !ordered);
+        match self.next(max_length) {
+            Err(ReadFault::Memory) => {
+                self.set_unordered(was_unordered);
+                Err(ReadFault::Memory)
+            }
+            answer => answer,
+        }
+    }
+
+    // Marks whether an unordered read was begun.
+    fn set_unordered(&mut self, is_unordered: bool)
+        ensures { self.new ≡ record self.old { is_unordered = is_unordered } }
+    {
+        self.is_unordered = is_unordered;
     }
 
     /// No more bytes are wanted: what waits is dropped. Where the final size isn't known the peer is to be told, with this code.
@@ -471,8 +497,8 @@ impl Recv {
         !(self.is_stopped || self.state.reset_code().is_some())
     }
 
-    /// Why a read isn't begun.
-    fn readable_fault(&self, ordered: bool) -> Option<ReadableFault>
+    /// Why a read isn't begun, in order or not.
+    pub fn readable_fault(&self, ordered: bool) -> Option<ReadableFault>
         ensures { result ≡ readable_fault self.now ordered }
     {
         if self.is_closed() {
@@ -499,7 +525,7 @@ impl Recv {
     }
 
     /// Gives bytes that wait, at most so many.
-    fn read(&mut self, max_length: usize) -> Result<Option<Chunk>, Memory>
+    fn give_bytes(&mut self, max_length: usize) -> Result<Option<Chunk>, Memory>
         requires { 0 < max_length }
         ensures ok { IfOk result (λ o. MatchOption o ((self.new ≡ self.old) × WaitsForMore self.old) (IsRead self.old self.new max_length)) }
         ensures err { OnErr result (self.new ≡ self.old) }

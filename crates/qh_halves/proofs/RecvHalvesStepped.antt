@@ -1,16 +1,21 @@
 -- What a step of one receiving half leaves of all that the receiving halves keep.
-use Rattle.std.proofs.Common.{◌≡◌, ◌⊎◌, ℕ, ◌+◌, ◌<◌, ◌≤◌, ◌^◌, ◌==◌, Bool, true, false, ◌&&◌, ◌||◌, not, List, [], length, Option, Some, None, IsSome, pos, if◌then◌else◌, refl, sym, ap, ap₂, ◌∙◌, arith, inl, inr}
+use Rattle.std.proofs.Common.{◌≡◌, ◌⊎◌, ℕ, ◌+◌, ◌<◌, ◌≤◌, ◌^◌, ◌==◌, Bool, true, false, ◌&&◌, ◌||◌, not, List, [], length, Option, Some, None, IsSome, Result, Err, pos, if◌then◌else◌, refl, sym, ap, ap₂, ◌∙◌, arith, inl, inr}
 use Rattle.std.specs.Ordering.{nat_cmp}
 use Rattle.std.specs.BTreeMap.{is_at}
 use Rattle.std.specs.Map.{set_value}
+use Rattle.std.proofs.Math.Bool.{or-false, or-true}
 use Rattle.std.proofs.lemmas.Bool.{cases_Bool, eq-eqb, or_cases, or_left, or_right, and_parts, both_ways, false≢true}
 use Rattle.std.proofs.lemmas.Bool.Decides.{eqb_tells}
 use Rattle.std.proofs.lemmas.Map.{length-set_value}
 use Rattle.qh_halves.specs.declared.limit.AnnouncedLimit.{AnnouncedLimit}
 use Rattle.qh_halves.specs.declared.pending.PendingStream.{PendingStream}
 use Rattle.qh_halves.specs.Pending.{PlainPending, is_same, has, AreInOrder}
-use Rattle.qh_half.specs.Recv.{PlainRecv, is_done, is_frame_due, counted}
-use Rattle.qh_halves.specs.RecvHalves.{PlainRecvHalves, recv_half_in, recv_at, unless_done, credited_after, due_entry, AreRecvHalves, IsRecvStep, IsSettled, IsHalfWritten}
+use Rattle.qh_buffers.specs.declared.assembler.Chunk.{Chunk}
+use Rattle.qh_half.specs.declared.fault.ReadFault.{ReadFault}
+use Rattle.qh_half.specs.declared.fault.ReadFault.TheVariants.{Memory}
+use Rattle.qh_half.specs.Recv.IsReadAnswer.{memory as no_memory}
+use Rattle.qh_half.specs.Recv.{PlainRecv, IsReadAnswer, with_order, is_done, is_frame_due, counted}
+use Rattle.qh_halves.specs.RecvHalves.{PlainRecvHalves, recv_half_in, recv_at, unless_done, credited_after, due_entry, AreRecvHalves, Begins, Reads, IsBegunRead, is_wanting, IsRecvStep, IsSettled, IsHalfWritten}
 use Rattle.qh_halves.proofs.MapWritten.{value_written}
 use Rattle.qh_halves.proofs.PendingOrder.{same_itself, same_is, same_parts}
 use Rattle.qh_halves.proofs.PendingRoom.{room_for_one}
@@ -161,6 +166,68 @@ pub stepped_alone : (P : PlainRecv → PlainRecv → Type 0) (old : PlainRecvHal
     → (w : IsHalfWritten P old.halves new id) → is_done w.next ≡ false → counted w.next ≡ counted w.half → IsRecvStep P old (record old { halves = new }) id 0
 stepped_alone P old new due id in_order within w undone counted_is =
     stepped P old id 0 w.half w.next new new due due false false old.received old.credited w.was w.step w.written (sym undone) (alone new due id in_order) (omega arith) (omega (arith, counted_is))
+
+-- ---- a read that begins and gives
+
+as_begun : (here : Bool) (at was o : Option PlainRecv) → o ≡ (if here then at else was) → (m : Option PlainRecv) (mid : Option PlainRecv) → mid ≡ (if here then m else was) → o ≡ (if here then at else mid)
+as_begun true at was o e m mid f = e
+as_begun false at was o e m mid f = e ∙ sym f
+
+pub begun_read : (old : PlainRecvHalves) (id max : ℕ) (ordered : Bool) (answer : Result (Option Chunk) ReadFault) (h next : PlainRecv) (written after : List (ℕ × PlainRecv)) (due queue : PlainPending) (is_due done : Bool) (credited : ℕ)
+    → AreInOrder due.streams → old.credited < 2 ^ 64 → is_done h ≡ false → recv_at old id ≡ Some h → IsReadAnswer (with_order h ordered) next max answer
+    → written ≡ set_value (is_at (nat_cmp id)) old.halves next → done ≡ is_done next → IsSettled written after due queue id done is_due → credited ≡ credited_after old.credited h next
+    → IsBegunRead max ordered answer old (record old { halves = after; credited = credited }) id
+begun_read old id max ordered answer h next written after due queue is_due done credited in_order within undone was step written_is done_is settled credited_is =
+    let marked = with_order h ordered in
+    let halves = set_value (is_at (nat_cmp id)) old.halves marked in
+    let begun = stepped_alone (Begins ordered) old halves due id in_order within (record { half = h; next = marked; was = was; step = refl; written = refl }) undone refl in
+    let none : old.received ≡ old.received + 0 = omega arith in
+    record {
+      mid = record old { halves = halves };
+      begun = begun;
+      reads = record {
+        half = marked;
+        next = next;
+        was = value_written old.halves id h marked was id ∙ ap (λ (b : Bool). if b then Some marked else recv_at old id) (eq-eqb id id refl);
+        step = step;
+        halves_are = λ k. as_begun (k == id) (unless_done next) (recv_at old k) (recv_half_in after k) (halves_settled old.halves written after due queue id h next is_due done was written_is done_is settled k)
+            (Some marked) (recv_half_in halves k) (value_written old.halves id h marked was k);
+        rest_is = ap₂ (λ (m n : ℕ). record old { halves = after; received = m; credited = n }) none credited_is;
+      };
+    }
+
+-- a step that leaves the half as it was
+still : (P : PlainRecv → PlainRecv → Type 0) (old : PlainRecvHalves) (id : ℕ) (h : PlainRecv) → old.credited < 2 ^ 64 → is_done h ≡ false → recv_at old id ≡ Some h → P h h → IsRecvStep P old old id 0
+still P old id h within undone was step =
+    let received : old.received ≡ old.received + 0 = omega arith in
+    let credited : old.credited ≡ credited_after old.credited h h = omega (arith, within) in
+    record {
+      half = h;
+      next = h;
+      was = was;
+      step = step;
+      halves_are = λ k. elim (eqb_tells k id) [
+        | inl same ↦ rw (same.0, undone) (ap (recv_at old) same.1 ∙ was)
+        | inr apart ↦ rw apart.0 refl
+      ];
+      rest_is = ap₂ (λ (m n : ℕ). record old { received = m; credited = n }) received credited;
+    }
+
+-- a read that memory lacks for
+pub unbegun_read : (old new : PlainRecvHalves) (id max : ℕ) (ordered : Bool) (answer : Result (Option Chunk) ReadFault) (h : PlainRecv) → old.credited < 2 ^ 64 → is_done h ≡ false → recv_at old id ≡ Some h
+    → new ≡ old → answer ≡ Err Memory → IsBegunRead max (ordered || is_wanting answer) answer old new id
+unbegun_read old new id max ordered answer h within undone was same wanting =
+    let unmarked : h ≡ with_order h true = ap (λ (b : Bool). record h { is_unordered = b }) (sym (or-false h.is_unordered)) in
+    let read : IsBegunRead max true (Err Memory) old old id = record {
+      mid = old;
+      begun = still (Begins true) old id h within undone was unmarked;
+      reads = still (Reads max (Err Memory)) old id h within undone was (no_memory refl);
+    } in
+    rw (wanting, same, or-true ordered) read
+
+-- one that it doesn't lack for begins as it was asked to
+pub order_is : (ordered : Bool) (answer : Result (Option Chunk) ReadFault) → is_wanting answer ≡ false → (ordered || is_wanting answer) ≡ ordered
+order_is ordered answer some = ap (λ (b : Bool). ordered || b) some ∙ or-false ordered
 
 -- with an empty queue no frame is due
 pub none_is_due : (es : List (ℕ × PlainRecv)) (due : PlainPending) (received window : ℕ) (announced : AnnouncedLimit) → AreRecvHalves es due received window announced

@@ -1,5 +1,5 @@
 -- The receiving halves of a connection's streams by their ids, and what they share: the connection's limit.
-use Rattle.std.specs.Prelude.{◌≡◌, ℕ, ◌+◌, ◌-◌, ◌<◌, ◌≤◌, ◌^◌, ◌==◌, min, max, Bool, true, false, ◌&&◌, ◌||◌, not, List, length, Option, Some, None, IsSome, pos, Result, if◌then◌else◌}
+use Rattle.std.specs.Prelude.{◌≡◌, ℕ, ◌+◌, ◌-◌, ◌<◌, ◌≤◌, ◌^◌, ◌==◌, min, max, Bool, true, false, ◌&&◌, ◌||◌, not, List, length, Option, Some, None, IsSome, pos, Result, Err, if◌then◌else◌}
 use Rattle.std.specs.Ordering.{nat_cmp}
 use Rattle.std.specs.BTreeMap.{is_at}
 use Rattle.std.specs.Map.{lookup, set_value}
@@ -7,6 +7,7 @@ use Rattle.std.specs.Option.{option_map}
 use Rattle.qh_buffers.specs.declared.send_buffer.Mark.TheVariants.{Sent, Queued, Acked}
 use Rattle.qh_buffers.specs.declared.assembler.Chunk.{Chunk}
 use Rattle.qh_half.specs.declared.fault.ReadFault.{ReadFault}
+use Rattle.qh_half.specs.declared.fault.ReadFault.TheVariants.{Memory}
 use Rattle.qh_half.specs.declared.fault.ReadableFault.{ReadableFault}
 use Rattle.qh_half.specs.declared.fault.ReadableFault.TheVariants.{ClosedStream}
 use Rattle.qh_half.specs.declared.recv.IngestFault.{IngestFault}
@@ -119,6 +120,17 @@ Reads max_length result r next = IsReadAnswer r next max_length result
 
 abbrev pub Begins : (ordered : Bool) → PlainRecv → PlainRecv → Type 0
 Begins ordered r next = next ≡ with_order r ordered
+
+-- memory lacked for the answer of a read
+abbrev pub is_wanting : Result (Option Chunk) ReadFault → Bool
+is_wanting (Err Memory) = true
+is_wanting other = false
+
+-- a read that begins, in order or not, and then answers so
+pub record IsBegunRead (max_length : ℕ) (ordered : Bool) (answer : Result (Option Chunk) ReadFault) (old new : PlainRecvHalves) (id : ℕ) : Type 0 where
+  pub mid : PlainRecvHalves
+  pub begun : IsRecvStep (Begins ordered) old mid id 0
+  pub reads : IsRecvStep (Reads max_length answer) mid new id 0
 
 abbrev pub Stops : (code : ℕ) → PlainRecv → PlainRecv → Type 0
 Stops code r next = IsStopped r next code

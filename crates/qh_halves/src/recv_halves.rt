@@ -1,13 +1,14 @@
-ghost use Rattle.std.specs.Prelude.{◌≡◌, ◌⊎◌, ℕ, ◌+◌, ◌-◌, ◌*◌, ◌<◌, ◌≤◌, ◌^◌, ◌==◌, ◌||◌, min, List, [], length, Option, Some, None, true, false, OnOk, OnErr, IfOk, IfErr, IfSome, MatchResult, is_some, if◌then◌else◌};
+ghost use Rattle.std.specs.Prelude.{◌≡◌, ◌⊎◌, ℕ, ◌+◌, ◌-◌, ◌*◌, ◌<◌, ◌≤◌, ◌^◌, ◌==◌, ◌||◌, min, List, [], length, Option, Some, None, true, false, Err, OnOk, OnErr, IfOk, IfErr, IfSome, MatchResult, is_some, if◌then◌else◌};
 ghost use Rattle.std.specs.Ordering.{nat_cmp};
 ghost use Rattle.std.specs.BTreeMap.{insert_entry};
 ghost use Rattle.std.specs.Map.{keys_of};
 ghost use Rattle.std.specs.List.Sorted.{IsStrictlySortedBy};
 ghost use Rattle.qh_buffers.specs.declared.send_buffer.Mark.TheVariants.{Sent, Acked};
+ghost use Rattle.qh_half.specs.declared.fault.ReadFault.TheVariants.{Memory as Lacking};
 ghost use Rattle.qh_half.specs.declared.recv.IngestFault.TheVariants.{Memory as Wanting};
 ghost use Rattle.qh_halves.specs.Limit.{is_due, acked_at, lost_at, owes_value};
 ghost use Rattle.qh_half.specs.Recv.{PlainRecv, new_recv, is_frame_due};
-ghost use Rattle.qh_halves.specs.RecvHalves.{recv_at, recv_half_in, data_limit, IsRecvHalf, IsRecvStep, IsRecvAbsent, ingest_fault_at, IsPieceTaken, IsResetTaken, readable_fault_at, is_closed_at, Reads, Begins, Stops, TakesReset, NoneIsDue, GivesControl, IsLimitAcked, IsLimitLost, IsStopAcked, IsStopLost, half_owes_limit, half_owes_stop, half_is_wanted, due_entry, is_credit_due, AreRecvAdded, PlainRecvHalves, IsSettled, IsHalfWritten, IsNoneDue};
+ghost use Rattle.qh_halves.specs.RecvHalves.{recv_at, recv_half_in, data_limit, IsRecvHalf, IsRecvStep, IsRecvAbsent, ingest_fault_at, IsPieceTaken, IsResetTaken, readable_fault_at, is_closed_at, Reads, Begins, IsBegunRead, is_wanting, Stops, TakesReset, NoneIsDue, GivesControl, IsLimitAcked, IsLimitLost, IsStopAcked, IsStopLost, half_owes_limit, half_owes_stop, half_is_wanted, due_entry, is_credit_due, AreRecvAdded, PlainRecvHalves, IsSettled, IsHalfWritten, IsNoneDue};
 ghost use Rattle.qh_halves.specs.Counts.{is_in_range};
 ghost use Rattle.qh_halves.specs.Pending.{has, AreInOrder};
 
@@ -222,6 +223,44 @@ impl RecvHalves {
         half.begin_read(ordered)
     }
 
+    /// Why a read isn't begun, in order or not, as `begin_read` tells it.
+    pub fn readable_fault(&self, id: u64, ordered: bool) -> Option<ReadableFault>
+        ensures { result ≡ readable_fault_at self.now id ordered }
+    {
+        match self.halves.get(&id) {
+            Some(half) => half.readable_fault(ordered),
+            None => Some(ReadableFault::ClosedStream),
+        }
+    }
+
+    /// Begins to read, in order or not, and gives what `next` gives. For want of memory nothing changes: no read out of order is
+    /// begun either.
+    pub fn read(
+        &mut self,
+        id: u64,
+        max_length: usize,
+        ordered: bool,
+    ) -> Result<Option<Chunk>, ReadFault>
+        requires { readable_fault_at self.old id ordered ≡ None }
+        ensures answer { IsBegunRead max_length (ordered || is_wanting result) result self.old self.new id }
+        ensures memory { result ≡ Err Lacking → self.new ≡ self.old }
+    {
+        let Some(half) = self.halves.get_mut(&id) else {
+            return Err(ReadFault::Blocked);
+        };
+        let before = half.counted();
+        let result = half.read(max_length, ordered);
+        if is_wanting(&result) {
+            return result;
+        }
+        let after = half.counted();
+        let is_done = half.is_done();
+        let is_due = half.is_frame_due(self.stream_window);
+        self.credited = self.credited.saturating_add(after - before);
+        settle(&mut self.halves, &mut self.due, id, is_done, is_due);
+        result
+    }
+
     /// Whether reads are refused: the stream has no half, or was stopped, or its end or its reset was given.
     pub fn is_closed(&self, id: u64) -> bool
         ensures { result ≡ is_closed_at self.now id }
@@ -413,6 +452,15 @@ impl RecvHalves {
             None => false,
         }
     }
+}
+
+// Memory lacked for the answer of a read.
+fn is_wanting(answer: &Result<Option<Chunk>, ReadFault>) -> bool
+    ensures value { result ≡ is_wanting answer.now }
+    ensures yes { result ≡ true → answer.now ≡ Err Lacking }
+    ensures no { result ≡ false → answer.now ≡ Err Lacking → ⊥ }
+{
+    matches!(answer, Err(ReadFault::Memory))
 }
 
 // The frame that is due of a stream.

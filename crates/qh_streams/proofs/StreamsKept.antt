@@ -1,5 +1,5 @@
 -- What a step leaves of all that the streams of a connection keep, and of the frames that are out.
-use Rattle.std.proofs.Common.{◌≡◌, ℕ, ◌+◌, ◌≤◌, ◌==◌, nat_lt, Bool, true, false, length, Option, Some, None, is_some, Result, Ok, Err, if◌then◌else◌, refl, sym, ap, ap₂, ◌∙◌, arith, inl, inr}
+use Rattle.std.proofs.Common.{◌≡◌, ℕ, ◌+◌, ◌≤◌, ◌==◌, nat_lt, Bool, true, false, ◌&&◌, not, length, Option, Some, None, is_some, Result, Ok, Err, if◌then◌else◌, refl, sym, ap, ap₂, ◌∙◌, arith, inl, inr}
 use Rattle.std.proofs.lemmas.Bool.{false≢true}
 use Rattle.std.proofs.lemmas.Bool.Decides.{eqb_tells}
 use Rattle.qh_halves.specs.declared.counts.StreamCounts.{StreamCounts}
@@ -7,9 +7,11 @@ use Rattle.qh_streams.specs.declared.frames.SentFrame.TheVariants as sent
 use Rattle.qh_halves.specs.Counts.{AreCounts, AreNoFewer, is_own, is_bi, index_of}
 use Rattle.qh_half.specs.Send.{PlainSend}
 use Rattle.qh_halves.specs.SendHalves.{PlainSendHalves, send_at, IsStep, IsLast, IsSettledBy, absent, on, done, KeepsSpans}
+use Rattle.qh_buffers.specs.declared.assembler.Chunk.{Chunk}
+use Rattle.qh_half.specs.declared.fault.ReadFault.{ReadFault}
 use Rattle.qh_half.specs.Recv.{PlainRecv}
-use Rattle.qh_halves.specs.RecvHalves.{PlainRecvHalves, recv_at, unless_done, IsRecvStep}
-use Rattle.qh_streams.specs.Streams.{PlainStreams, AreStreams, KeepsOut, counts_of, with_counts, counted_closed, was_opened}
+use Rattle.qh_halves.specs.RecvHalves.{PlainRecvHalves, recv_at, unless_done, IsBegunRead, IsRecvStep}
+use Rattle.qh_streams.specs.Streams.{PlainStreams, AreStreams, KeepsOut, counts_of, with_counts, counted_closed, is_live, was_opened}
 
 -- what holds where a call went well, and where it didn't
 pub by_result : {T E X : Type 0} (r : Result T E) → ((v : T) → r ≡ Ok v → X) → ((e : E) → r ≡ Err e → X) → X
@@ -69,6 +71,10 @@ pub recv_step : {P : PlainRecv → PlainRecv → Type 0} {old new : PlainRecvHal
 recv_step {old = old} {new = new} {id = id} s = record {
   among = λ k. one_there (k == id) (unless_done s.next) (recv_at old k) (recv_at new k) (was_there (recv_at old) id k s.half s.was) (s.halves_are k);
 }
+
+-- a read that begins and gives
+pub recv_read : {old new : PlainRecvHalves} {id max : ℕ} {order : Bool} {answer : Result (Option Chunk) ReadFault} → IsBegunRead max order answer old new id → AreRecvKept old new
+recv_read read = record { among = λ k there. (recv_step read.begun).among k ((recv_step read.reads).among k there) }
 
 -- ---- streams that were opened stay so
 
@@ -195,3 +201,15 @@ both_out {s = s} two_way c ok more = rw (both_are s two_way c) (counts_out s two
 pub recv_closed : {s new : PlainStreams} {capacity : ℕ} → AreStreams s capacity → (recv : PlainRecvHalves) (id : ℕ) (live was_live : Bool)
     → new ≡ counted_closed (record s { recv = recv }) id live → new.recv ≡ recv → live ≡ was_live → new ≡ counted_closed (record s { recv = new.recv }) id was_live
 recv_closed {s = s} ok recv id live was_live e recv_is live_is = e ∙ ap₂ (λ (r : PlainRecvHalves) (b : Bool). counted_closed (record s { recv = r }) id b) (sym recv_is) live_is
+
+never : (own live : Bool) → (not own && (live && not live)) ≡ false
+never true true = refl
+never true false = refl
+never false true = refl
+never false false = refl
+
+-- where the receiving halves are as they were, no half went
+pub recv_unread : {s new : PlainStreams} (recv : PlainRecvHalves) (id : ℕ) (live : Bool) → new ≡ counted_closed (record s { recv = recv }) id live → recv ≡ s.recv → live ≡ is_live s id → new ≡ s
+recv_unread {s = s} recv id live e recv_is live_is =
+    let none : counted_closed s id (is_live s id) ≡ s = rw (never (is_own s.side id) (is_live s id)) refl in
+    e ∙ ap₂ (λ (r : PlainRecvHalves) (b : Bool). counted_closed (record s { recv = r }) id b) recv_is live_is ∙ none

@@ -15,6 +15,8 @@ enum Step {
     Begin(bool, Result<(), ReadableFault>),
     // A read gives these bytes at an offset.
     Give(u64, &'static [u8]),
+    // A read that begins, in order or not, gives these bytes at an offset.
+    Read(bool, u64, &'static [u8]),
     // A read of no bytes.
     Nothing,
     // A read gives the end.
@@ -75,6 +77,21 @@ fn reads(rt: &impl Abort, recv: &mut Recv, max_length: usize) -> Result<Option<C
     recv.next(max_length)
 }
 
+fn begins_and_reads(
+    rt: &impl Abort,
+    recv: &mut Recv,
+    ordered: bool,
+) -> Result<Option<Chunk>, ReadFault> {
+    assert!(rt; recv.readable_fault(ordered).is_none());
+    recv.read(4, ordered)
+}
+
+fn is_piece(rt: &impl Abort, piece: Option<Chunk>, offset: u64, text: &[u8]) {
+    let piece = piece.expect(rt, "a piece");
+    assert_eq!(rt; piece.offset, offset);
+    assert_eq!(rt; piece.bytes.as_slice(), text);
+}
+
 fn gives(
     rt: &impl Abort,
     recv: &mut Recv,
@@ -82,9 +99,8 @@ fn gives(
     offset: u64,
     text: &[u8],
 ) -> Result<(), ReadFault> {
-    let piece = reads(rt, recv, max_length)?.expect(rt, "a piece");
-    assert_eq!(rt; piece.offset, offset);
-    assert_eq!(rt; piece.bytes.as_slice(), text);
+    let piece = reads(rt, recv, max_length)?;
+    is_piece(rt, piece, offset, text);
     Ok(())
 }
 
@@ -124,6 +140,10 @@ fn act(rt: &impl Abort, recv: &mut Recv, step: Step) -> Result<(), ReadFault> {
             assert_eq!(rt; recv.begin_read(ordered), answer);
         }
         Step::Give(offset, text) => gives(rt, recv, 4, offset, text)?,
+        Step::Read(ordered, offset, text) => {
+            let piece = begins_and_reads(rt, recv, ordered)?;
+            is_piece(rt, piece, offset, text);
+        }
         Step::Nothing => gives(rt, recv, 0, 0, b"")?,
         Step::End => assert!(rt; reads(rt, recv, 4)?.is_none()),
         Step::Blocked => lacks(rt, recv, ReadFault::Blocked),
@@ -156,7 +176,7 @@ const IN_ORDER: &[Step] = &[
     Step::Piece(0, b"abc", false, Ok(0)),
     Step::Nothing,
     Step::Give(0, b"abcd"),
-    Step::Give(4, b"ef"),
+    Step::Read(true, 4, b"ef"),
     Step::Is(6, false),
     Step::End,
     Step::Is(6, true),
@@ -214,7 +234,7 @@ const UNORDERED: &[Step] = &[
     Step::Give(3, b"def"),
     Step::Blocked,
     Step::Piece(0, b"abcdef", true, Ok(0)),
-    Step::Give(0, b"abc"),
+    Step::Read(false, 0, b"abc"),
     Step::End,
 ];
 

@@ -1,9 +1,10 @@
-ghost use Rattle.std.specs.Prelude.{◌≡◌, ◌⊎◌, take, min, length, true, false, Ok, Err, OnOk, OnErr, IfOk, IfErr, IfSome, MatchResult, None, Some, IsSome};
+ghost use Rattle.std.specs.Prelude.{◌≡◌, ◌⊎◌, ◌||◌, take, min, length, true, false, Ok, Err, OnOk, OnErr, IfOk, IfErr, IfSome, MatchResult, None, Some, IsSome};
 ghost use Rattle.std.specs.List.{concat};
+ghost use Rattle.qh_half.specs.declared.fault.ReadFault.TheVariants.{Memory as Lacking};
 ghost use Rattle.qh_half.specs.declared.fault.WriteFault.TheVariants.{Memory as Wanting};
 ghost use Rattle.qh_half.specs.Send.{credit, chunks_after, whole_chunks};
 ghost use Rattle.qh_halves.specs.SendHalves.{send_at, write_limit, write_fault_at, finish_fault_at, is_reset_refused_at, half_priority, IsStep, IsAbsent, Takes, Finishes, IsResetWith, HasPriority};
-ghost use Rattle.qh_halves.specs.RecvHalves.{IsRecvStep, Reads, Begins, Stops, TakesReset, readable_fault_at, is_closed_at, is_credit_due};
+ghost use Rattle.qh_halves.specs.RecvHalves.{IsRecvStep, Reads, Begins, IsBegunRead, is_wanting, Stops, TakesReset, readable_fault_at, is_closed_at, is_credit_due};
 ghost use Rattle.qh_streams.specs.Streams.{counted_closed, is_live, with_blocked, KeepsOut};
 
 use crate::{ClosedStream, FinishFault, ReadFault, ReadableFault, Streams, WriteFault, Written};
@@ -139,6 +140,33 @@ impl Streams {
     {
         let was_live = self.is_live(id);
         let result = self.recv.next(id.0, max_length);
+        self.count_closed(id, was_live);
+        result
+    }
+
+    /// Why a read of a stream isn't begun, in order or not, as `begin_read` tells it.
+    pub fn readable_fault(&self, id: StreamId, ordered: bool) -> Option<ReadableFault>
+        ensures { result ≡ readable_fault_at self.now.recv id.0 ordered }
+    {
+        self.recv.readable_fault(id.0, ordered)
+    }
+
+    /// Begins to read a stream, in order or not, and gives what `next` gives. For want of memory nothing changes: no read out of
+    /// order is begun either.
+    pub fn read(
+        &mut self,
+        id: StreamId,
+        max_length: usize,
+        ordered: bool,
+    ) -> Result<Option<Chunk>, ReadFault>
+        requires { readable_fault_at self.old.recv id.0 ordered ≡ None }
+        ensures answer { IsBegunRead max_length (ordered || is_wanting result) result self.old.recv self.new.recv id.0 }
+        ensures memory { result ≡ Err Lacking → self.new ≡ self.old }
+        ensures value { self.new ≡ counted_closed (record self.old { recv = self.new.recv }) id.0 (is_live self.old id.0) }
+        ensures keeps_out { KeepsOut self.old self.new }
+    {
+        let was_live = self.is_live(id);
+        let result = self.recv.read(id.0, max_length, ordered);
         self.count_closed(id, was_live);
         result
     }

@@ -1,15 +1,13 @@
+use Rattle.std.proofs.Common.{sym, ap, ◌∙◌}
 use Rattle.qh_half.specs.Recv.{PlainRecv}
-use Rattle.qh_half.proofs.RecvReads.{below_after, recv_after}
+use Rattle.qh_half.proofs.RecvReads.{nothing_read}
 use Rattle.qh_half.proofs.recv.Recv.read.Goals as goal
 
-pub counts_below-requires : goal.counts_below-requires
-counts_below-requires c =
-    let s = c.self.inside in
-    let r : PlainRecv = record { assembler = s.assembler; end = s.end; sent_max_stream_data = s.sent_max_stream_data; state = s.state; is_stopped = s.is_stopped; is_given = s.is_given; is_unordered = s.is_unordered; limit_mark = s.limit_mark; stop_frame = s.stop_frame } in
-    below_after r c.self.invariant c.read.new.self c.args.max_length c.in_ok-piece.piece c.in_ok-piece.ensures.none c.in_ok-piece.ensures.some
-
-pub invariant_of-self-2 : goal.invariant_of-self-2
-invariant_of-self-2 c =
-    let s = c.self.inside in
-    let r : PlainRecv = record { assembler = s.assembler; end = s.end; sent_max_stream_data = s.sent_max_stream_data; state = s.state; is_stopped = s.is_stopped; is_given = s.is_given; is_unordered = s.is_unordered; limit_mark = s.limit_mark; stop_frame = s.stop_frame } in
-    recv_after r c.self.invariant c.read.new.self c.args.max_length c.in_ok-piece.piece c.in_ok-piece.ensures.none c.in_ok-piece.ensures.some c.counts_below.ensures
+pub returns-in-Err-Memory-clause-memory : goal.returns-in-Err-Memory-clause-memory
+returns-in-Err-Memory-clause-memory c = λ _.
+    let marked = λ (r : PlainRecv). record r { is_unordered = c.self.inside.is_unordered } in
+    c.set_unordered-in-Err-Memory.ensures
+    ∙ ap marked (nothing_read _ _ c.args.max_length (rw c.in-Err-Memory.field-0-is at c.in-Err-Memory.ensures))
+    ∙ ap marked c.set_unordered.ensures
+    ∙ ap marked (sym c.self.view_is)
+    ∙ c.self.view_is
