@@ -2,7 +2,7 @@ ghost use Rattle.std.specs.Prelude.{◌≡◌, [], None, false};
 ghost use Rattle.qh_recovery.specs.Accepted.{Remembers};
 ghost use Rattle.qh_recovery.specs.Rtt.{new_estimator};
 ghost use Rattle.qh_recovery.specs.Window.{new_controller};
-ghost use Rattle.qh_space.specs.Space.{AreUnused, IsSpace};
+ghost use Rattle.qh_space.specs.Space.{AreUnused, IsSpace, first_streams};
 ghost use Rattle.qh_streams.specs.Streams.{with_peer};
 ghost use Rattle.qh_streams.specs.Tracked.{IsFresh};
 
@@ -65,6 +65,7 @@ impl DataSpace {
         ensures fresh { IsFresh result.streams }
         ensures side { result.streams.side ≡ side }
         ensures unused { AreUnused result.streams config.peer }
+        ensures streams { result.streams ≡ first_streams side config.limits config.peer }
         ensures received { Remembers [] result.dedup }
         ensures parts { (result.sent ≡ []) × (result.next_number ≡ 0) × (result.largest_acked ≡ None) × (result.acks ≡ record { ranges = []; is_due = false }) }
         ensures recovery { (result.rtt ≡ new_estimator config.initial_rtt.0) × (result.congestion ≡ new_controller config.initial_window) × (result.probes ≡ 0) × (result.is_probe_due ≡ false) }
