@@ -1,5 +1,6 @@
 -- What holds of a connection still holds once it ended, and behind the frames of a packet.
-use Rattle.std.proofs.Common.{◌≡◌, ℕ, true, false, List, Option, Some, None, refl, sym, ◌∙◌, subst}
+use Rattle.std.proofs.Common.{◌≡◌, ℕ, Bool, true, false, List, Option, Some, None, refl, sym, ap, ◌∙◌, subst}
+use Rattle.std.proofs.lemmas.Bool.{both_ways}
 use Rattle.qh_base.specs.declared.connection_error.ConnectionError.{ConnectionError}
 use Rattle.qh_base.specs.declared.connection_error.ConnectionError.TheVariants as error
 use Rattle.qh_base.specs.declared.time.Moment.{Moment}
@@ -32,43 +33,62 @@ frames_keep_end now bytes old new taken end (more _ rest f _ mid _ later _ b fre
 frames_keep_end now bytes old new taken end (closed _ rest f _ _ e b free step) = frame_keeps_end now old new f (Some e) step
 frames_keep_end now bytes old new taken end (refused _ rest f _ e b r) = (refl, refl)
 
-not_by_memory : (f : Frame) → IsClosedBy f (Some error.Memory) → ⊥
-not_by_memory kind.Padding h = cc
-not_by_memory kind.Ping h = cc
-not_by_memory (kind.Ack a) h = cc
-not_by_memory (kind.ResetStream id code size) h = cc
-not_by_memory (kind.StopSending id code) h = cc
-not_by_memory (kind.Crypto offset payload) h = cc
-not_by_memory (kind.NewToken token) h = cc
-not_by_memory (kind.Stream stream) h = cc
-not_by_memory (kind.MaxData limit) h = cc
-not_by_memory (kind.MaxStreamData id limit) h = cc
-not_by_memory (kind.MaxStreams dir count) h = cc
-not_by_memory (kind.DataBlocked limit) h = cc
-not_by_memory (kind.StreamDataBlocked id limit) h = cc
-not_by_memory (kind.StreamsBlocked dir count) h = cc
-not_by_memory (kind.NewConnectionId sequence prior id token) h = cc
-not_by_memory (kind.RetireConnectionId sequence) h = cc
-not_by_memory (kind.PathChallenge bytes) h = cc
-not_by_memory (kind.PathResponse bytes) h = cc
-not_by_memory (kind.ConnectionClose code frame reason) h = h
-not_by_memory (kind.ApplicationClose code reason) h = h
-not_by_memory kind.HandshakeDone h = cc
-not_by_memory (kind.Datagram payload) h = cc
+-- the errors of this end's that no packet brings: want of memory, and the idle time's end
+abbrev own_error : (memory : Bool) → ConnectionError
+own_error true = error.Memory
+own_error false = error.TimedOut
 
-frame_not_by_memory : (now : ℕ) (old new : DataSpace) (f : Frame) (end : Option ConnectionError) → IsFrameTaken now old new f end → end ≡ Some error.Memory → ⊥
-frame_not_by_memory now old new f end (passive _ _ _) h = cc
-frame_not_by_memory now old new f end (streams _ _ _ _ _) h = cc
-frame_not_by_memory now old new f end (ack _ _) h = cc
-frame_not_by_memory now old new f end (challenge _ _) h = cc
-frame_not_by_memory now old new f end (close _ e is _) h = not_by_memory f (subst (λ (o : Option ConnectionError). IsClosedBy f o) h is)
+not_closed_by : (memory : Bool) (f : Frame) → IsClosedBy f (Some (own_error memory)) → ⊥
+not_closed_by memory kind.Padding h = cc
+not_closed_by memory kind.Ping h = cc
+not_closed_by memory (kind.Ack a) h = cc
+not_closed_by memory (kind.ResetStream id code size) h = cc
+not_closed_by memory (kind.StopSending id code) h = cc
+not_closed_by memory (kind.Crypto offset payload) h = cc
+not_closed_by memory (kind.NewToken token) h = cc
+not_closed_by memory (kind.Stream stream) h = cc
+not_closed_by memory (kind.MaxData limit) h = cc
+not_closed_by memory (kind.MaxStreamData id limit) h = cc
+not_closed_by memory (kind.MaxStreams dir count) h = cc
+not_closed_by memory (kind.DataBlocked limit) h = cc
+not_closed_by memory (kind.StreamDataBlocked id limit) h = cc
+not_closed_by memory (kind.StreamsBlocked dir count) h = cc
+not_closed_by memory (kind.NewConnectionId sequence prior id token) h = cc
+not_closed_by memory (kind.RetireConnectionId sequence) h = cc
+not_closed_by memory (kind.PathChallenge bytes) h = cc
+not_closed_by memory (kind.PathResponse bytes) h = cc
+not_closed_by true (kind.ConnectionClose code frame reason) h = h
+not_closed_by false (kind.ConnectionClose code frame reason) h = h
+not_closed_by true (kind.ApplicationClose code reason) h = h
+not_closed_by false (kind.ApplicationClose code reason) h = h
+not_closed_by memory kind.HandshakeDone h = cc
+not_closed_by memory (kind.Datagram payload) h = cc
+
+frame_not_by : (memory : Bool) (now : ℕ) (old new : DataSpace) (f : Frame) (end : Option ConnectionError) → IsFrameTaken now old new f end → end ≡ Some (own_error memory) → ⊥
+frame_not_by memory now old new f end (passive _ _ _) h = cc
+frame_not_by memory now old new f end (streams _ _ _ _ _) h = cc
+frame_not_by memory now old new f end (ack _ _) h = cc
+frame_not_by memory now old new f end (challenge _ _) h = cc
+frame_not_by memory now old new f end (close _ e is _) h = not_closed_by memory f (subst (λ (o : Option ConnectionError). IsClosedBy f o) h is)
+
+not_refused_by : (memory : Bool) (e : TransportError) → ◌≡◌ {A = Option ConnectionError} (Some (error.TransportError e)) (Some (own_error memory)) → ⊥
+not_refused_by true e h = cc
+not_refused_by false e h = cc
+
+frames_not_by : (memory : Bool) (now : ℕ) (bytes : List ℕ) (old new : DataSpace) (taken : List Frame) (end : Option ConnectionError) → AreFramesTaken now bytes old new taken end
+    → end ≡ Some (own_error memory) → ⊥
+frames_not_by memory now bytes old new taken end (none _) h = cc
+frames_not_by memory now bytes old new taken end (more _ rest f _ mid _ later _ b free step t) h = frames_not_by memory now rest mid new later end t h
+frames_not_by memory now bytes old new taken end (closed _ rest f _ _ e b free step) h = frame_not_by memory now old new f (Some e) step h
+frames_not_by memory now bytes old new taken end (refused _ rest f _ e b r) h = not_refused_by memory e h
 
 -- no packet ends a connection for want of memory
 pub not_for_memory : (now : ℕ) (bytes : List ℕ) (old new : DataSpace) (taken : List Frame) (end : Option ConnectionError) → AreFramesTaken now bytes old new taken end → end ≡ Some error.Memory → ⊥
-not_for_memory now bytes old new taken end (none _) h = cc
-not_for_memory now bytes old new taken end (more _ rest f _ mid _ later _ b free step t) h = not_for_memory now rest mid new later end t h
-not_for_memory now bytes old new taken end (closed _ rest f _ _ e b free step) h = frame_not_by_memory now old new f (Some e) step h
-not_for_memory now bytes old new taken end (refused _ rest f _ e b r) h = cc
+not_for_memory now bytes old new taken end t h = frames_not_by true now bytes old new taken end t h
+
+-- nor because nothing came
+pub not_for_time : (now : ℕ) (bytes : List ℕ) (old new : DataSpace) (taken : List Frame) (end : Option ConnectionError) → AreFramesTaken now bytes old new taken end → end ≡ Some error.TimedOut → ⊥
+not_for_time now bytes old new taken end t h = frames_not_by false now bytes old new taken end t h
 
 -- ---- the connection
 
@@ -91,21 +111,45 @@ module _ {S : Type 0} where
   pub faulted_whole : (now : Moment) (e : TransportError) (old new : Inner S) → IsConnection old → IsFaulted now e old new → IsConnection new
   faulted_whole now e old new h f = ended_whole old new (Closed f.reason true f.closed.until) (error.TransportError e) h refl (λ same. cc) f.closed.rest_is
 
-  draining_whole : (now : Moment) (e : ConnectionError) (old new : Inner S) → IsConnection old → (e ≡ error.Memory → ⊥) → IsDrainingFrom now e old new → IsConnection new
-  draining_whole now e old new h named d = ended_whole old new (Draining d.until) e h refl named d.rest_is
+  -- it ended with this error, and nothing else changed
+  pub record IsEndedWith (e : ConnectionError) (old new : Inner S) : Type 0 where
+    pub state : State
+    pub shut : is_open state ≡ false
+    pub rest_is : new ≡ record old { state = state; error = Some e }
+
+  by_draining : (now : Moment) (e : ConnectionError) (old new : Inner S) → IsDrainingFrom now e old new → IsEndedWith e old new
+  by_draining now e old new d = record { state = Draining d.until; shut = refl; rest_is = d.rest_is }
+
+  -- whichever error it is
+  pub ended_with : (now : Moment) (e : ConnectionError) (old new : Inner S) → GoesOnWith now (Some e) old new → IsEndedWith e old new
+  ended_with now (error.TransportError e) old new f = record { state = Closed f.reason true f.closed.until; shut = refl; rest_is = f.closed.rest_is }
+  ended_with now error.VersionMismatch old new d = by_draining now _ old new d
+  ended_with now (error.ConnectionClosed said) old new d = by_draining now _ old new d
+  ended_with now (error.ApplicationClosed said) old new d = by_draining now _ old new d
+  ended_with now error.Reset old new d = by_draining now _ old new d
+  ended_with now error.TimedOut old new d = by_draining now _ old new d
+  ended_with now error.LocallyClosed old new d = by_draining now _ old new d
+  ended_with now error.CidsExhausted old new d = by_draining now _ old new d
+  ended_with now error.Memory old new d = by_draining now _ old new d
 
   -- whichever way it goes on behind the frames of a packet
   pub goes_on_whole : (now : Moment) (end : Option ConnectionError) (old new : Inner S) → IsConnection old → (end ≡ Some error.Memory → ⊥) → GoesOnWith now end old new → IsConnection new
   goes_on_whole now None old new h named same = subst (λ (c : Inner S). IsConnection c) (sym same) h
-  goes_on_whole now (Some (error.TransportError e)) old new h named f = faulted_whole now e old new h f
-  goes_on_whole now (Some error.VersionMismatch) old new h named d = draining_whole now _ old new h (λ same. cc) d
-  goes_on_whole now (Some (error.ConnectionClosed said)) old new h named d = draining_whole now _ old new h (λ same. cc) d
-  goes_on_whole now (Some (error.ApplicationClosed said)) old new h named d = draining_whole now _ old new h (λ same. cc) d
-  goes_on_whole now (Some error.Reset) old new h named d = draining_whole now _ old new h (λ same. cc) d
-  goes_on_whole now (Some error.TimedOut) old new h named d = draining_whole now _ old new h (λ same. cc) d
-  goes_on_whole now (Some error.LocallyClosed) old new h named d = draining_whole now _ old new h (λ same. cc) d
-  goes_on_whole now (Some error.CidsExhausted) old new h named d = draining_whole now _ old new h (λ same. cc) d
-  goes_on_whole now (Some error.Memory) old new h named d = absurd (named refl)
+  goes_on_whole now (Some e) old new h named on =
+      let end = ended_with now e old new on in
+      ended_whole old new end.state e h end.shut (λ same. named (ap Some same)) end.rest_is
+
+  -- an open connection goes on as it was, since none of the frames closed it or was refused
+  pub goes_on_open : (now : Moment) (end : Option ConnectionError) (old new : Inner S) → GoesOnWith now end old new → is_open new.state ≡ true → (end ≡ None) × (new ≡ old)
+  goes_on_open now None old new same opened = (refl, same)
+  goes_on_open now (Some e) old new on opened =
+      let end = ended_with now e old new on in
+      absurd (both_ways (is_open new.state) (ap (λ (c : Inner S). is_open c.state) end.rest_is ∙ end.shut) opened)
+
+  -- however it goes on behind the frames, its space is as they left it
+  pub goes_on_space : (now : Moment) (end : Option ConnectionError) (old new : Inner S) → GoesOnWith now end old new → new.space ≡ old.space
+  goes_on_space now None old new same = ap (λ (c : Inner S). c.space) same
+  goes_on_space now (Some e) old new on = ap (λ (c : Inner S). c.space) (ended_with now e old new on).rest_is
 
   -- an error that is no fault of the peer's
   pub goes_on_draining : (now : Moment) (e : ConnectionError) (old new : Inner S) → ((f : TransportError) → e ≡ error.TransportError f → ⊥) → IsDrainingFrom now e old new → GoesOnWith now (Some e) old new

@@ -18,6 +18,7 @@ use Rattle.qh_connection.specs.declared.state.Close.{Close}
 use Rattle.qh_connection.specs.declared.state.State.{State}
 use Rattle.qh_connection.specs.declared.state.State.TheVariants.{Closed}
 use Rattle.qh_connection.specs.declared.stats.UdpStats.{UdpStats}
+use Rattle.qh_connection.proofs.Followed.{same_end, unchanged}
 use Rattle.qh_connection.proofs.Handed.{never_empty}
 use Rattle.qh_connection.proofs.QuietCalls.{polled_call}
 use Rattle.qh_connection.proofs.StreamsGo.{quiet_follows}
@@ -79,23 +80,7 @@ module _ {S : Type 0} where
       → (c.error ≡ Some Memory → error ≡ Some Memory) → Follows c t
       → Follows (record c { idle = idle; state = state; error = error; is_lost_told = is_lost_told; is_drained_told = is_drained_told; udp_tx = sent; udp_rx = received }) t
   unfolding Follows
-  others_follow c idle state error is_lost_told is_drained_told sent received t failed f = record {
-    space = f.space;
-    is_space = elim f.is_space [ inl e ↦ inl (failed e) | inr same ↦ inr same ];
-    of = f.of;
-    sent = f.sent;
-    came = f.came;
-    is_sent = f.is_sent;
-    has_come = f.has_come;
-    stands = f.stands;
-    given = f.given;
-    gave = f.gave;
-    within = f.within;
-    each_within = f.each_within;
-    accepted = f.accepted;
-    remembers = f.remembers;
-    numbers = f.numbers;
-  }
+  others_follow c idle state error is_lost_told is_drained_told sent received t failed f = unchanged c _ t (same_end refl refl refl refl) refl failed f
 
   pub same_follows : (c d : Inner S) (t : List Act) → d ≡ c → Follows c t → Follows d t
   same_follows c d t e f = subst (λ (d : Inner S). Follows d t) (sym e) f

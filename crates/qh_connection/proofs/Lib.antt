@@ -19,6 +19,7 @@ pub mod MomentsFollow
 pub mod NothingSent
 pub mod OpenCall
 pub mod Opened
+pub mod OwnCounts
 pub mod PacketSteps
 pub mod PacketsAccepted
 pub mod PacketsCome
@@ -30,5 +31,6 @@ pub mod ReaderCalls
 pub mod StreamsGo
 pub mod Timeouts
 pub mod Transmitted
+pub mod Undisturbed
 pub mod WaitingKept
 pub mod WriterCalls

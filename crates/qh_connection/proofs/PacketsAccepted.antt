@@ -1,18 +1,18 @@
 -- A packet that is accepted: it is to be acknowledged, and what it acknowledges is out no more.
-use Rattle.std.proofs.Common.{◌≡◌, ◌⊎◌, ℕ, ◌<◌, ◌≤◌, ◌==◌, nat_le, Bool, true, List, [], ◌∷◌, ◌++◌, Option, Some, None, refl, sym, ap, subst, ◌∙◌, inl, inr, arith, append_assoc}
+use Rattle.std.proofs.Common.{◌≡◌, ◌⊎◌, ℕ, ◌<◌, ◌≤◌, ◌==◌, nat_le, Bool, true, List, [], ◌∷◌, ◌++◌, Option, Some, refl, sym, ap, subst, ◌∙◌, inl, inr, arith, append_assoc}
 use Rattle.std.specs.Prelude.{◌↔◌, ◌||◌}
 use Rattle.std.specs.List.{list_any}
-use Rattle.std.proofs.lemmas.Bool.{and_from, and_parts, both_ways, cases_lt, eq-eqb, eqb-true, le-leb, or_cases, or_left, or_right}
+use Rattle.std.proofs.lemmas.Bool.{and_from, and_parts, cases_lt, eq-eqb, eqb-true, le-leb, or_cases, or_left, or_right}
 use Rattle.std.proofs.lemmas.List.{append-nil}
 use borrow.Author.Tests.{leb-true}
 use Rattle.qh_base.specs.declared.connection_error.ConnectionError.{ConnectionError}
-use Rattle.qh_base.specs.declared.connection_error.ConnectionError.TheVariants as error
 use Rattle.qh_base.specs.declared.time.Moment.{Moment}
 use Rattle.qh_buffers.specs.Ranges.{PlainRange, has}
+use Rattle.qh_connection.proofs.Ends.{goes_on_open}
 use Rattle.qh_connection.proofs.AcksTaken.{AreSettled, acks_taken}
 use Rattle.qh_connection.specs.Inner.{is_open}
 use Rattle.qh_connection.specs.Progress.{AreNumbersOf, HasAckOf, IsAmong, IsAwaiting, IsScattered, NumberedPacket, Progress, wants_ack}
-use Rattle.qh_connection.specs.Receiving.{AreFramesTaken, GoesOnWith, IsAccepted, IsPacketTaken}
+use Rattle.qh_connection.specs.Receiving.{AreFramesTaken, IsAccepted, IsPacketTaken}
 use Rattle.qh_connection.specs.Timers.{restarted}
 use Rattle.qh_connection.specs.declared.inner.Inner.{Inner}
 use Rattle.qh_packet.specs.Frames.{is_ack_eliciting}
@@ -96,20 +96,6 @@ module _ (old new : List PlainRange) (bound : ℕ) (packets : List NumberedPacke
 
 -- ---- the packet
 
-module _ {S : Type 0} where
-  -- no frame of it closed, and none was refused, where the connection is open
-  none_closed : (now : Moment) (end : Option ConnectionError) (mid new : Inner S) → GoesOnWith now end mid new → is_open new.state ≡ true → (end ≡ None) × (new ≡ mid)
-  none_closed now None mid new e is = (refl, e)
-  none_closed now (Some (error.TransportError fault)) mid new f is = absurd (both_ways (is_open new.state) (ap (λ (c : Inner S). is_open c.state) f.closed.rest_is) is)
-  none_closed now (Some error.VersionMismatch) mid new d is = absurd (both_ways (is_open new.state) (ap (λ (c : Inner S). is_open c.state) d.rest_is) is)
-  none_closed now (Some (error.ConnectionClosed close)) mid new d is = absurd (both_ways (is_open new.state) (ap (λ (c : Inner S). is_open c.state) d.rest_is) is)
-  none_closed now (Some (error.ApplicationClosed close)) mid new d is = absurd (both_ways (is_open new.state) (ap (λ (c : Inner S). is_open c.state) d.rest_is) is)
-  none_closed now (Some error.Reset) mid new d is = absurd (both_ways (is_open new.state) (ap (λ (c : Inner S). is_open c.state) d.rest_is) is)
-  none_closed now (Some error.TimedOut) mid new d is = absurd (both_ways (is_open new.state) (ap (λ (c : Inner S). is_open c.state) d.rest_is) is)
-  none_closed now (Some error.LocallyClosed) mid new d is = absurd (both_ways (is_open new.state) (ap (λ (c : Inner S). is_open c.state) d.rest_is) is)
-  none_closed now (Some error.CidsExhausted) mid new d is = absurd (both_ways (is_open new.state) (ap (λ (c : Inner S). is_open c.state) d.rest_is) is)
-  none_closed now (Some error.Memory) mid new d is = absurd (both_ways (is_open new.state) (ap (λ (c : Inner S). is_open c.state) d.rest_is) is)
-
 -- What the space keeps behind a packet with these frames: its number waits to be acknowledged, and what it acknowledges is out
 -- no more.
 record IsTakenBy (p : NumberedPacket) (old new : DataSpace) : Type 0 where
@@ -191,7 +177,7 @@ module _ {S : Type 0} where
       → is_open new.state ≡ true → AreQuicFrames frames fs → Progress old sent accepted → Progress new sent (accepted ++ record { number = number; at = now; frames = fs } ∷ [])
   packet_accepted now number frames old new fs sent accepted t is_still reading progress =
       let p : NumberedPacket = record { number = number; at = now; frames = fs } in
-      let on = none_closed now t.end (record old { space = t.space; idle = restarted now old.idle }) new t.goes_on is_still in
+      let on = goes_on_open now t.end (record old { space = t.space; idle = restarted now old.idle }) new t.goes_on is_still in
       let wants : t.is_eliciting ≡ wants_ack p = t.surveyed.eliciting_is ∙ ap (list_any is_ack_eliciting) (quic_frames_agree frames t.surveyed.frames fs t.surveyed.are reading) in
       let settled = acks_taken now.0 frames t.mid t.space t.taken fs (subst (λ (end : Option ConnectionError). AreFramesTaken now.0 frames t.mid t.space t.taken end) on.0 t.are_taken) reading in
       accepted_more old new sent accepted p

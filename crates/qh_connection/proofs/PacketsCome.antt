@@ -10,6 +10,7 @@ use Rattle.qh_base.specs.declared.time.Moment.{Moment}
 use Rattle.qh_base.specs.declared.transport_error.TransportError.{TransportError}
 use Rattle.qh_connection.proofs.Acts.{in_last_act}
 use Rattle.qh_connection.proofs.DatagramsCome.{accepted_follows, handed_in_follows}
+use Rattle.qh_connection.proofs.Ends.{ended_with}
 use Rattle.qh_connection.proofs.Followed.{FollowsOf, carried_on, space_follows, unchanged}
 use Rattle.qh_connection.proofs.Following.{close_follows}
 use Rattle.qh_connection.proofs.FramesCome.{frames_follow}
@@ -47,15 +48,7 @@ module _ {S : Type 0} where
 
   goes_on : (now : Moment) (end : Option ConnectionError) (old new : Inner S) → GoesOnWith now end old new → GoesTo old new
   goes_on now None old new e = rw e (parts refl refl refl refl refl)
-  goes_on now (Some (error.TransportError fault)) old new f = rw f.closed.rest_is (parts refl refl refl refl refl)
-  goes_on now (Some error.VersionMismatch) old new d = rw d.rest_is (parts refl refl refl refl refl)
-  goes_on now (Some (error.ConnectionClosed close)) old new d = rw d.rest_is (parts refl refl refl refl refl)
-  goes_on now (Some (error.ApplicationClosed close)) old new d = rw d.rest_is (parts refl refl refl refl refl)
-  goes_on now (Some error.Reset) old new d = rw d.rest_is (parts refl refl refl refl refl)
-  goes_on now (Some error.TimedOut) old new d = rw d.rest_is (parts refl refl refl refl refl)
-  goes_on now (Some error.LocallyClosed) old new d = rw d.rest_is (parts refl refl refl refl refl)
-  goes_on now (Some error.CidsExhausted) old new d = rw d.rest_is (parts refl refl refl refl refl)
-  goes_on now (Some error.Memory) old new d = rw d.rest_is (parts refl refl refl refl refl)
+  goes_on now (Some e) old new on = rw (ended_with now e old new on).rest_is (parts refl refl refl refl refl)
 
   -- ---- a packet that is taken
 

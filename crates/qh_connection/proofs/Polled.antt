@@ -11,7 +11,7 @@ use Rattle.qh_streams.specs.Tracked.{AreTracked}
 use Rattle.qh_streams.specs.declared.frames.StreamEvent.{StreamEvent}
 
 -- what is told of streams leaves all but what waits to be told
-told_apart : (old new : PlainStreams) (e : Option StreamEvent) → IsPolled old new e → new ≡ record old { blocked = new.blocked; events = new.events }
+pub told_apart : (old new : PlainStreams) (e : Option StreamEvent) → IsPolled old new e → new ≡ record old { blocked = new.blocked; events = new.events }
 told_apart old new e (writable id front rest may blocked before can new_is) = new_is ∙ sym (ap (λ (s : PlainStreams). record old { blocked = s.blocked; events = s.events }) new_is)
 told_apart old new e (queued first rest nothing there new_is) = new_is ∙ sym (ap (λ (s : PlainStreams). record old { blocked = s.blocked; events = s.events }) new_is)
 told_apart old new e (none nothing there new_is) = new_is ∙ sym (ap (λ (s : PlainStreams). record old { blocked = s.blocked; events = s.events }) new_is)

@@ -1,6 +1,7 @@
 -- Calls of readers.
 use Rattle.std.proofs.Common.{◌≡◌, ℕ, ◌<◌, Bool, true, false, ◌&&◌, ◌||◌, not, List, [], ◌∷◌, ◌++◌, length, Option, Some, None, Result, Ok, Err, IfOk, IfSome, OnOk, OnErr, refl, sym, ap, subst, ◌∙◌, inl, inr}
 use Rattle.std.proofs.lemmas.Bool.{cases_Bool, eq-eqb}
+use Rattle.std.specs.Prelude.{is_some}
 use Rattle.qh_buffers.specs.declared.assembler.Chunk.{Chunk}
 use Rattle.qh_connection.specs.Follows.{Follows, stop_acts, received_reset_acts}
 use Rattle.qh_connection.specs.Inner.{HasNoHalf, IsConnection}
@@ -8,13 +9,14 @@ use Rattle.qh_connection.specs.declared.inner.Inner.{Inner}
 use Rattle.qh_connection.proofs.Handed.{HandNothing}
 use Rattle.qh_connection.proofs.QuietCalls.{same_call, send_set}
 use Rattle.qh_connection.proofs.StreamsGo.{StreamsGo, IsCall, stands_now}
+use Rattle.qh_connection.specs.Streams.{IsRead}
 use Rattle.qh_half.specs.Recv.{PlainRecv, is_closed, readable_fault}
 use Rattle.qh_half.specs.declared.fault.ClosedStream.{ClosedStream}
 use Rattle.qh_half.specs.declared.fault.ReadFault.{ReadFault}
 use Rattle.qh_half.specs.declared.fault.ReadFault.TheVariants.{Blocked, Reset as PeerReset, Memory}
 use Rattle.qh_halves.specs.Counts.{is_own, is_bi}
-use Rattle.qh_halves.specs.RecvHalves.{recv_at, half_is_closed, half_readable_fault, is_closed_at, readable_fault_at, IsRecvStep, Begins, Reads, Stops, TakesReset}
-use Rattle.qh_halves.specs.SendHalves.{PlainSendHalves}
+use Rattle.qh_halves.specs.RecvHalves.{recv_at, half_is_closed, half_readable_fault, is_closed_at, readable_fault_at, IsRecvStep, IsBegunRead, is_wanting, Begins, Stops, TakesReset}
+use Rattle.qh_halves.specs.SendHalves.{PlainSendHalves, send_at}
 use Rattle.qh_spec.specs.QuicFrame.{StreamFrame as Run}
 use Rattle.qh_spec.specs.Transcript.{Act, Stopped, read}
 use Rattle.qh_streams.proofs.StreamsTracked.{keeps_tracked, recv_goes}
@@ -126,8 +128,8 @@ read_reading id (Err Blocked) = record { handed = record { into = refl; out = re
 read_reading id (Err Memory) = record { handed = record { into = refl; out = refl }; unwritten = record { bytes = λ k. refl; ends = λ k. refl } }
 
 -- a read was begun
-abbrev pub IsBegun : (old mid : PlainStreams) → (id : ℕ) → (ordered : Bool) → Type 0
-IsBegun old mid id ordered = (readable_fault_at old.recv id ordered ≡ None) × IsRecvStep (Begins ordered) old.recv mid.recv id 0 × (mid ≡ record old { recv = mid.recv })
+abbrev IsBegun : (old mid : PlainStreams) → (id : ℕ) → (ordered wanting : Bool) → Type 0
+IsBegun old mid id ordered wanting = (readable_fault_at old.recv id ordered ≡ None) × IsRecvStep (Begins (ordered || wanting)) old.recv mid.recv id 0 × (mid ≡ record old { recv = mid.recv })
 
 not_closed : (r : PlainRecv) (ordered : Bool) → readable_fault r ordered ≡ None → is_closed r ≡ false
 not_closed r ordered can = elim (cases_Bool (is_closed r)) [
@@ -146,17 +148,17 @@ record IsReader (ordered : Bool) (r : PlainRecv) : Type 0 where
   live : is_closed r ≡ false
   turn : ordered ≡ true → r.is_unordered ≡ false
 
-with_turn : (b ordered : Bool) → ordered ≡ true → b ≡ false → (b || not ordered) ≡ false
-with_turn b ordered is turn = rw (is, turn) refl
+with_turn : (b ordered wanting : Bool) → ordered ≡ true → b ≡ false → (b || not (ordered || wanting)) ≡ false
+with_turn b ordered wanting is turn = rw (is, turn) refl
 
-reader : (old mid : PlainStreams) (id : ℕ) (ordered : Bool) (r : PlainRecv) → IsBegun old mid id ordered → recv_at mid.recv id ≡ Some r → IsReader ordered r
-reader old mid id ordered r begun is =
+reader : (old mid : PlainStreams) (id : ℕ) (ordered wanting : Bool) (r : PlainRecv) → IsBegun old mid id ordered wanting → recv_at mid.recv id ≡ Some r → IsReader ordered r
+reader old mid id ordered wanting r begun is =
     let b = (recv_goes begun.1).here id r (eq-eqb id id refl) is in
     let can : readable_fault b.half ordered ≡ None = sym (ap (λ (o : Option PlainRecv). half_readable_fault o ordered) b.was) ∙ begun.0 in
     record {
       live = ap is_closed b.step ∙ not_closed b.half ordered can;
       turn = λ in_order. ap (λ (r : PlainRecv). r.is_unordered) b.step
-          ∙ with_turn b.half.is_unordered ordered in_order (in_turn b.half (subst (λ (o : Bool). readable_fault b.half o ≡ None) in_order can));
+          ∙ with_turn b.half.is_unordered ordered wanting in_order (in_turn b.half (subst (λ (o : Bool). readable_fault b.half o ≡ None) in_order can));
     }
 
 begun_alone : (old mid : PlainStreams) → mid ≡ record old { recv = mid.recv } → IsReadAlone old mid
@@ -185,34 +187,51 @@ both_alone old mid new a b = record {
   announced = λ dir. b.announced dir ∙ a.announced dir;
 }
 
-begun_stands : (old mid : PlainStreams) (id : ℕ) (ordered : Bool) (came : List Run) (t : List Act) → IsBegun old mid id ordered → StandsIn old came t → StandsIn mid came t
-begun_stands old mid id ordered came t begun s = like_stand old mid came t (recv_goes begun.1) (begun_like came id ordered) (begun_alone old mid begun.2).opened s
+begun_stands : (old mid : PlainStreams) (id : ℕ) (ordered wanting : Bool) (came : List Run) (t : List Act) → IsBegun old mid id ordered wanting → StandsIn old came t → StandsIn mid came t
+begun_stands old mid id ordered wanting came t begun s = like_stand old mid came t (recv_goes begun.1) (begun_like came id (ordered || wanting)) (begun_alone old mid begun.2).opened s
 
-pub read_call : (old mid new : PlainStreams) (id max : ℕ) (ordered : Bool) (answer : Result (Option Chunk) ReadFault) → IsBegun old mid id ordered
-    → IsRecvStep (Reads max answer) mid.recv new.recv id 0 → IsCounted mid new id → KeepsOut old mid → KeepsOut mid new → IsCall old new (read_acts id answer)
-read_call old mid new id max ordered answer begun step rest keeps_mid keeps =
-    let a = begun_alone old mid begun.2 in
-    let b = alone mid new id rest in
-    let live : is_closed_at mid.recv id ≡ false = ap half_is_closed step.was ∙ (reader old mid id ordered step.half begun step.was).live in
+pub read_call : (old new : PlainStreams) (id max : ℕ) (ordered : Bool) (answer : Result (Option Chunk) ReadFault) → IsRead max ordered id answer old new → KeepsOut old new → IsCall old new (read_acts id answer)
+read_call old new id max ordered answer r keeps =
+    let mid = r.mid in
+    let wanting = is_wanting answer in
+    let begun : IsBegun old mid id ordered wanting = (r.readable, r.begun, r.mid_is) in
+    let a = begun_alone old mid r.mid_is in
+    let b = alone mid new id r.new_is in
+    let live : is_closed_at mid.recv id ≡ false = ap half_is_closed r.reads.was ∙ (reader old mid id ordered wanting r.reads.half begun r.reads.was).live in
     record {
       go = reading old new (read_acts id answer) (both_alone old mid new a b)
-          (λ frames p. keeps_tracked {old = mid} (receiving_keeps mid new id (reads max answer step) b.send b.announced) (keeps_tracked (receiving_keeps old mid id (begins ordered begun.1) a.send a.announced) p))
-          (λ f out. keeps f (keeps_mid f out)) (read_reading id answer)
-          (λ came t s. answer_stands mid new came t id max answer live step b.opened (begun_stands old mid id ordered came t begun s));
-      still = no_reader old mid id begun.1;
+          (λ frames p. keeps_tracked {old = mid} (receiving_keeps mid new id (reads max answer r.reads) b.send b.announced)
+          (keeps_tracked (receiving_keeps old mid id (begins (ordered || wanting) r.begun) a.send a.announced) p))
+          keeps (read_reading id answer)
+          (λ came t s. answer_stands mid new came t id max answer live r.reads b.opened (begun_stands old mid id ordered wanting came t begun s));
+      still = no_reader old mid id r.begun;
+    }
+
+-- a read that begins and gives is one
+pub read_is : (old new : PlainStreams) (id max : ℕ) (ordered : Bool) (answer : Result (Option Chunk) ReadFault) → readable_fault_at old.recv id ordered ≡ None
+    → IsBegunRead max (ordered || is_wanting answer) answer old.recv new.recv id → IsCounted old new id → IsRead max ordered id answer old new
+read_is old new id max ordered answer can b rest =
+    let lives = λ (o : Option PlainRecv). is_some (send_at old.send id) || is_some o in
+    record {
+      mid = record old { recv = b.mid };
+      readable = can;
+      begun = b.begun;
+      mid_is = refl;
+      reads = b.reads;
+      new_is = rest ∙ ap (λ (live : Bool). counted_closed (record old { recv = new.recv }) id live) (ap lives b.begun.was ∙ sym (ap lives b.reads.was));
     }
 
 -- an ordered read begins where what was read ends
-read_in_order : (old mid new : PlainStreams) (id max : ℕ) (ordered : Bool) (chunk : Chunk) (came : List Run) (t : List Act) → IsBegun old mid id ordered
-    → IsRecvStep (Reads max (Ok (Some chunk))) mid.recv new.recv id 0 → ordered ≡ true → 0 < length chunk.bytes → StandsIn old came t → chunk.offset ≡ length (read t id)
-read_in_order old mid new id max ordered chunk came t begun step in_order more s =
-    in_order_stands mid new came t id max chunk step.half step step.was ((reader old mid id ordered step.half begun step.was).turn in_order) more (begun_stands old mid id ordered came t begun s)
+read_in_order : (old new : PlainStreams) (id max : ℕ) (ordered : Bool) (chunk : Chunk) (came : List Run) (t : List Act) → IsRead max ordered id (Ok (Some chunk)) old new
+    → ordered ≡ true → 0 < length chunk.bytes → StandsIn old came t → chunk.offset ≡ length (read t id)
+read_in_order old new id max ordered chunk came t r in_order more s =
+    let begun : IsBegun old r.mid id ordered false = (r.readable, r.begun, r.mid_is) in
+    in_order_stands r.mid new came t id max chunk r.reads.half r.reads r.reads.was ((reader old r.mid id ordered false r.reads.half begun r.reads.was).turn in_order) more (begun_stands old r.mid id ordered false came t begun s)
 
 module _ {S : Type 0} where
-  pub reads_in_order : (c : Inner S) (mid new : PlainStreams) (id max : ℕ) (ordered : Bool) (o : Option Chunk) → IsBegun c.space.streams mid id ordered
-      → IsRecvStep (Reads max (Ok o)) mid.recv new.recv id 0 → IsConnection c
+  pub reads_in_order : (c : Inner S) (new : PlainStreams) (id max : ℕ) (ordered : Bool) (o : Option Chunk) → IsRead max ordered id (Ok o) c.space.streams new → IsConnection c
       → IfSome o (λ chunk. (t : List Act) → Follows c t → ordered ≡ true → 0 < length chunk.bytes → chunk.offset ≡ length (read t id))
-  reads_in_order c mid new id max ordered None begun step p = tt
-  reads_in_order c mid new id max ordered (Some chunk) begun step p = λ t f in_order more.
-      let now = stands_now c t f (λ failed. no_reader c.space.streams mid id begun.1 (p.no_half failed)) in
-      read_in_order c.space.streams mid new id max ordered chunk now.came t begun step in_order more now.stands.into
+  reads_in_order c new id max ordered None r p = tt
+  reads_in_order c new id max ordered (Some chunk) r p = λ t f in_order more.
+      let now = stands_now c t f (λ failed. no_reader c.space.streams r.mid id r.begun (p.no_half failed)) in
+      read_in_order c.space.streams new id max ordered chunk now.came t r in_order more now.stands.into

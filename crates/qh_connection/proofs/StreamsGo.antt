@@ -6,6 +6,7 @@ use Rattle.qh_connection.specs.Config.{peer_of}
 use Rattle.qh_connection.specs.Follows.{Following, Follows, HasComing, HasNumber}
 use Rattle.qh_connection.specs.Inner.{AreOf, HasNoHalf, IsConnection, with_streams}
 use Rattle.qh_connection.specs.declared.inner.Inner.{Inner}
+use Rattle.qh_connection.proofs.Followed.{carried_on, same_end, space_follows}
 use Rattle.qh_connection.proofs.Handed.{HandNothing, same_in, same_out, before_those}
 use Rattle.qh_history.specs.Standing.{Stands}
 use Rattle.qh_recovery.specs.Accepted.{Remembers}
@@ -61,23 +62,7 @@ module _ {S : Type 0} where
 
   -- what a connection stands to that want of memory ended
   failed : (c : Inner S) (new : PlainStreams) (t : List Act) → c.error ≡ Some Memory → Following c t → Following (with_streams c new) t
-  failed c new t error f = record {
-    space = f.space;
-    is_space = inl error;
-    of = f.of;
-    sent = f.sent;
-    came = f.came;
-    is_sent = f.is_sent;
-    has_come = f.has_come;
-    stands = f.stands;
-    given = f.given;
-    gave = f.gave;
-    within = f.within;
-    each_within = f.each_within;
-    accepted = f.accepted;
-    remembers = f.remembers;
-    numbers = f.numbers;
-  }
+  failed c new t error f = carried_on c (with_streams c new) t f.space (same_end refl refl refl refl) (inl error) (space_follows c t f)
 
   going : (c : Inner S) (new : PlainStreams) (u t : List Act) → StreamsGo c.space.streams new u → (f : Following c t) → c.space ≡ f.space → Following (with_streams c new) (t ++ u)
   going c new u t go f same =

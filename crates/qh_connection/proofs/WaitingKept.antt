@@ -1,14 +1,13 @@
 -- A connection keeps what came of its streams.
-use Rattle.std.proofs.Common.{◌≡◌, ◌⊎◌, ℕ, Bool, true, false, List, [], ◌∷◌, ◌++◌, append-nil, append_assoc, Option, Some, None, refl, sym, ap, subst, ◌∙◌, inl, inr}
+use Rattle.std.proofs.Common.{◌≡◌, ◌⊎◌, ℕ, Bool, true, List, [], ◌∷◌, ◌++◌, append-nil, append_assoc, Option, Some, None, refl, sym, ap, subst, ◌∙◌, inl, inr}
 use Rattle.std.specs.Prelude.{map}
-use Rattle.std.proofs.lemmas.Bool.{false≢true}
 use Rattle.qh_base.specs.declared.connection_error.ConnectionError.{ConnectionError}
-use Rattle.qh_base.specs.declared.connection_error.ConnectionError.TheVariants as error
 use Rattle.qh_base.specs.declared.path.Transmit.{Transmit}
 use Rattle.qh_base.specs.declared.time.Moment.{Moment}
 use Rattle.qh_connection.proofs.FramesRead.{frames_read}
+use Rattle.qh_connection.proofs.Ends.{goes_on_open, goes_on_space}
 use Rattle.qh_connection.specs.Inner.{is_open}
-use Rattle.qh_connection.specs.Receiving.{AreFramesTaken, GoesOnWith, IsDatagramTaken, IsPacketHandled, IsPacketTaken}
+use Rattle.qh_connection.specs.Receiving.{AreFramesTaken, IsDatagramTaken, IsPacketHandled, IsPacketTaken}
 use Rattle.qh_connection.specs.Receiving.AreFramesTaken.{none as none_taken, more as more_taken, closed as closed_taken, refused as refused_taken}
 use Rattle.qh_connection.specs.Receiving.IsDatagramTaken.{dropped, handled, told_again, closed_too, draining as in_draining, drained as in_drained}
 use Rattle.qh_connection.specs.Receiving.IsPacketHandled.{repeated, empty, faulty, taken as in_taken}
@@ -20,7 +19,6 @@ use Rattle.qh_connection.specs.Timers.AreLostByAge.{due as some_lost, not_yet as
 use Rattle.qh_connection.specs.Timers.IsProbed.{due as some_probe, not_yet as no_probe}
 use Rattle.qh_connection.specs.Timers.IsTimedOut.{idle, recovery, closed as out_closed, draining as out_draining, waits, drained as out_drained}
 use Rattle.qh_connection.specs.declared.inner.Inner.{Inner}
-use Rattle.qh_connection.specs.declared.state.State.{State}
 use Rattle.qh_frame.proofs.WrittenForms.{form_stream}
 use Rattle.qh_frame.specs.Plain.{plain_of}
 use Rattle.qh_frame.specs.WrittenForm.{written_form}
@@ -86,36 +84,6 @@ still_keeps old new came (inr lost) = kept_keeps old new came (at_once old new l
 module _ {S : Type 0} where
   streams_keep : (old new c : Inner S) (came : List Run) → new ≡ c → c.space.streams ≡ old.space.streams → KeepsWhatCame old.space.streams came → KeepsWhatCame new.space.streams came
   streams_keep old new c came is same = same_keeps old.space.streams new.space.streams came (ap (λ (c : Inner S). c.space.streams) is ∙ same)
-
-  -- one that is closed isn't open
-  not_open : {X : Type 0} (c : Inner S) (state : State) → c.state ≡ state → is_open state ≡ false → is_open c.state ≡ true → X
-  not_open c state is shut opened = absurd (false≢true (sym shut ∙ ap is_open (sym is) ∙ opened))
-
-  -- an open connection goes on as it was, since none of the frames closed it or was refused
-  goes_on_open : (now : Moment) (end : Option ConnectionError) (old new : Inner S) → GoesOnWith now end old new → is_open new.state ≡ true → (end ≡ None) × (new ≡ old)
-  goes_on_open now None old new same opened = (refl, same)
-  goes_on_open now (Some (error.TransportError e)) old new f opened = not_open new _ (ap (λ (c : Inner S). c.state) f.closed.rest_is) refl opened
-  goes_on_open now (Some error.VersionMismatch) old new d opened = not_open new _ (ap (λ (c : Inner S). c.state) d.rest_is) refl opened
-  goes_on_open now (Some (error.ConnectionClosed said)) old new d opened = not_open new _ (ap (λ (c : Inner S). c.state) d.rest_is) refl opened
-  goes_on_open now (Some (error.ApplicationClosed said)) old new d opened = not_open new _ (ap (λ (c : Inner S). c.state) d.rest_is) refl opened
-  goes_on_open now (Some error.Reset) old new d opened = not_open new _ (ap (λ (c : Inner S). c.state) d.rest_is) refl opened
-  goes_on_open now (Some error.TimedOut) old new d opened = not_open new _ (ap (λ (c : Inner S). c.state) d.rest_is) refl opened
-  goes_on_open now (Some error.LocallyClosed) old new d opened = not_open new _ (ap (λ (c : Inner S). c.state) d.rest_is) refl opened
-  goes_on_open now (Some error.CidsExhausted) old new d opened = not_open new _ (ap (λ (c : Inner S). c.state) d.rest_is) refl opened
-  goes_on_open now (Some error.Memory) old new d opened = not_open new _ (ap (λ (c : Inner S). c.state) d.rest_is) refl opened
-
-  -- however it goes on behind the frames, its space is as they left it
-  goes_on_space : (now : Moment) (end : Option ConnectionError) (old new : Inner S) → GoesOnWith now end old new → new.space ≡ old.space
-  goes_on_space now None old new same = ap (λ (c : Inner S). c.space) same
-  goes_on_space now (Some (error.TransportError e)) old new f = ap (λ (c : Inner S). c.space) f.closed.rest_is
-  goes_on_space now (Some error.VersionMismatch) old new d = ap (λ (c : Inner S). c.space) d.rest_is
-  goes_on_space now (Some (error.ConnectionClosed said)) old new d = ap (λ (c : Inner S). c.space) d.rest_is
-  goes_on_space now (Some (error.ApplicationClosed said)) old new d = ap (λ (c : Inner S). c.space) d.rest_is
-  goes_on_space now (Some error.Reset) old new d = ap (λ (c : Inner S). c.space) d.rest_is
-  goes_on_space now (Some error.TimedOut) old new d = ap (λ (c : Inner S). c.space) d.rest_is
-  goes_on_space now (Some error.LocallyClosed) old new d = ap (λ (c : Inner S). c.space) d.rest_is
-  goes_on_space now (Some error.CidsExhausted) old new d = ap (λ (c : Inner S). c.space) d.rest_is
-  goes_on_space now (Some error.Memory) old new d = ap (λ (c : Inner S). c.space) d.rest_is
 
   pub taken_keeps : (now : Moment) (number : ℕ) (frames : List ℕ) (old new : Inner S) (came : List Run) → (p : IsPacketTaken now number frames old new)
       → KeepsWhatCame old.space.streams came → KeepsWhatCame new.space.streams (came ++ runs_of (map plain_of p.taken))

@@ -8,10 +8,10 @@ use Rattle.qh_connection.specs.declared.state.State.{State}
 use Rattle.qh_connection.specs.declared.state.State.TheVariants.{Established, Drained}
 use Rattle.qh_connection.specs.declared.stats.UdpStats.{UdpStats}
 use Rattle.qh_recovery.specs.Rtt.{new_estimator}
-use Rattle.qh_space.specs.Space.{IsSpace}
+use Rattle.qh_space.specs.Space.{IsSpace, first_streams}
 use Rattle.qh_space.specs.declared.data_space.DataSpace.{DataSpace}
 use Rattle.qh_spec.specs.declared.sides.Side.{Side}
-use Rattle.qh_streams.specs.Streams.{PlainStreams}
+use Rattle.qh_streams.specs.Streams.{PlainStreams, counts_of}
 use Rattle.qh_streams.specs.declared.frames.PeerLimits.{PeerLimits}
 
 -- packets go both ways
@@ -36,11 +36,20 @@ pub record AreOf (side : Side) (peer : PeerLimits) (s : PlainStreams) : Type 0 w
   pub side_is : s.side ≡ side
   pub peer_is : s.peer ≡ peer
 
+-- so many streams of each direction as before were opened and accepted by this end
+pub record HaveSameCounts (old new : PlainStreams) : Type 0 where
+  pub bi_opened : new.bi.opened ≡ old.bi.opened
+  pub bi_accepted : new.bi.accepted ≡ old.bi.accepted
+  pub uni_opened : new.uni.opened ≡ old.uni.opened
+  pub uni_accepted : new.uni.accepted ≡ old.uni.accepted
+
 -- a space before its first packet
 pub record IsNewSpace (config : ConnConfig) (side : Side) (s : DataSpace) : Type 0 where
   pub no_half : HasNoHalf s.streams
+  pub streams_are : s.streams ≡ first_streams side config.limits (peer_of config.limits)
   pub of : AreOf side (peer_of config.limits) s.streams
   pub sent : s.sent ≡ []
+  pub counts : (two_way : Bool) → ((counts_of s.streams two_way).opened ≡ 0) × ((counts_of s.streams two_way).accepted ≡ 0)
   pub next : s.next_number ≡ 0
   pub largest : s.largest_acked ≡ None
   pub acks : s.acks ≡ record { ranges = []; is_due = false }

@@ -1,12 +1,13 @@
 -- What was sent and what was accepted, packet by packet, and how a connection stands to that: what arrival over a link that gives
 -- datagrams in time rests on (RFC 9000, section 13.2; RFC 9002, sections 2 and 6).
-use Rattle.std.specs.Prelude.{◌≡◌, ◌↔◌, ◌⊎◌, ℕ, ◌<◌, ◌≤◌, Bool, true, List, ◌++◌, length, slice_get, Some}
+use Rattle.std.specs.Prelude.{◌≡◌, ◌↔◌, ◌⊎◌, ℕ, ◌+◌, ◌-◌, ◌^◌, ◌<◌, ◌≤◌, min, max, Bool, true, List, ◌++◌, length, slice_get, Some}
 use Rattle.std.specs.List.{list_any}
 use Rattle.qh_base.specs.declared.time.Moment.{Moment}
 use Rattle.qh_buffers.specs.Ranges.{AreApart, PlainRange, has}
 use Rattle.qh_connection.specs.declared.inner.Inner.{Inner}
+use Rattle.qh_half.specs.Recv.{PlainRecv, bytes_read, is_queued_mark, wants_more}
 use Rattle.qh_halves.specs.Limit.{is_due}
-use Rattle.qh_halves.specs.RecvHalves.{data_limit}
+use Rattle.qh_halves.specs.RecvHalves.{data_limit, recv_at}
 use Rattle.qh_halves.specs.Counts.{count_limit}
 use Rattle.qh_packet.specs.Frames.{is_ack_eliciting}
 use Rattle.qh_recovery.specs.SentPackets.{packet_at, bytes_in_flight}
@@ -89,8 +90,19 @@ module _ {S : Type 0} where
   abbrev pub IsHeld : Inner S → Type 0
   IsHeld c = IsIdle c.space.streams ⊎ (0 < bytes_in_flight c.space.sent)
 
+-- The limit of a stream is what its half says now: as many bytes as reads gave, and the window more, at most 2^62 - 1, and never
+-- less than was announced. More bytes are wanted; and it exceeds the limit that was announced last, and then it is just those bytes
+-- and the window, or the frame with that one was lost (RFC 9000, section 4.1).
+pub record RisesOnStream (s : PlainStreams) (id limit : ℕ) : Type 0 where
+  pub half : PlainRecv
+  pub half_is : recv_at s.recv id ≡ Some half
+  pub limit_is : limit ≡ max (min (2 ^ 62 - 1) (bytes_read half + s.recv.stream_window)) half.sent_max_stream_data
+  pub wanted : wants_more half ≡ true
+  pub rises : (is_queued_mark half.limit_mark ≡ true) ⊎ ((half.sent_max_stream_data < limit) × (limit ≡ min (2 ^ 62 - 1) (bytes_read half + s.recv.stream_window)))
+
 -- Each limit that a MAX frame says is what it is now, and exceeds the one that was announced last, or the frame with that one was lost.
 abbrev pub Rises : PlainStreams → SentFrame → Type 0
 Rises s (sent_frame.MaxData limit) = (limit ≡ data_limit s.recv) × (is_due s.recv.announced limit ≡ true)
+Rises s (sent_frame.MaxStreamData id limit) = RisesOnStream s id.0 limit
 Rises s (sent_frame.MaxStreams dir count) = (count ≡ count_limit (counts_of s (is_two_way dir))) × (is_due (counts_of s (is_two_way dir)).announced count ≡ true)
 Rises s other = Unit {0}

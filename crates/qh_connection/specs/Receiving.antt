@@ -181,3 +181,8 @@ module _ {S : Type 0} where
   IsEventTaken accepts (Datagram now remote payload) old new = IsDatagramTaken accepts now payload (received (Datagram now remote payload) old) new
   IsEventTaken accepts (Close now code reason) old new =
       MatchBool (is_open old.state) (IsClosedWith now (Application (record { error_code = code; reason = reason })) LocallyClosed old new) (new ≡ old)
+
+-- when it is handed in
+abbrev pub handed_at : ConnectionEvent → Moment
+handed_at (Datagram now remote payload) = now
+handed_at (Close now code reason) = now

@@ -1,5 +1,5 @@
 -- What the calls on streams answer (RFC 9000, sections 2 and 3).
-use Rattle.std.specs.Prelude.{◌≡◌, ℕ, Bool, true, false, Option, Some, None, Result, Err}
+use Rattle.std.specs.Prelude.{◌≡◌, ℕ, ◌||◌, Bool, true, false, Option, Some, None, Result, Err}
 use Rattle.qh_buffers.specs.declared.assembler.Chunk.{Chunk}
 use Rattle.qh_connection.specs.Inner.{is_open, with_streams}
 use Rattle.qh_connection.specs.declared.fault.TakeFault.{TakeFault}
@@ -8,15 +8,15 @@ use Rattle.qh_connection.specs.declared.inner.Inner.{Inner}
 use Rattle.qh_half.specs.declared.fault.ReadFault.{ReadFault}
 use Rattle.qh_half.specs.declared.fault.WriteFault.{WriteFault}
 use Rattle.qh_half.specs.declared.fault.WriteFault.TheVariants.{Blocked, Memory}
-use Rattle.qh_halves.specs.RecvHalves.{IsRecvStep, Reads, Begins, readable_fault_at}
+use Rattle.qh_halves.specs.RecvHalves.{IsRecvStep, Reads, Begins, is_wanting, readable_fault_at}
 use Rattle.qh_halves.specs.SendHalves.{write_fault_at}
 use Rattle.qh_streams.specs.Streams.{PlainStreams, counted_closed, is_live, with_blocked}
 
--- a read that begins, in order or not, and answers so
+-- a read that begins, in order or not, and answers so; where memory lacks for the answer none out of order is begun
 pub record IsRead (max_length : ℕ) (ordered : Bool) (id : ℕ) (answer : Result (Option Chunk) ReadFault) (old new : PlainStreams) : Type 0 where
   pub mid : PlainStreams
   pub readable : readable_fault_at old.recv id ordered ≡ None
-  pub begun : IsRecvStep (Begins ordered) old.recv mid.recv id 0
+  pub begun : IsRecvStep (Begins (ordered || is_wanting answer)) old.recv mid.recv id 0
   pub mid_is : mid ≡ record old { recv = mid.recv }
   pub reads : IsRecvStep (Reads max_length answer) mid.recv new.recv id 0
   pub new_is : new ≡ counted_closed (record mid { recv = new.recv }) id (is_live mid id)

@@ -1,9 +1,10 @@
 -- When something is due (RFC 9000, section 10; RFC 9002, section 6), in whole nanoseconds.
-use Rattle.std.specs.Prelude.{◌≡◌, ℕ, ◌+◌, ◌-◌, ◌*◌, ◌^◌, ◌≤◌, ◌<◌, min, max, Bool, true, false, Option, Some, None, if◌then◌else◌}
+use Rattle.std.specs.Prelude.{◌≡◌, ◌⊎◌, ℕ, ◌+◌, ◌-◌, ◌*◌, ◌^◌, ◌≤◌, ◌<◌, min, max, Bool, true, false, Option, Some, None, if◌then◌else◌}
+use Rattle.qh_base.specs.declared.connection_error.ConnectionError.{ConnectionError}
 use Rattle.qh_base.specs.declared.connection_error.ConnectionError.TheVariants.{TimedOut}
 use Rattle.qh_base.specs.declared.time.Moment.{Moment}
 use Rattle.qh_base.specs.declared.time.Span.{Span}
-use Rattle.qh_connection.specs.Inner.{is_open, with_space}
+use Rattle.qh_connection.specs.Inner.{HaveSameCounts, is_open, with_space}
 use Rattle.qh_connection.specs.declared.idle.IdleTimer.{IdleTimer}
 use Rattle.qh_connection.specs.declared.inner.Inner.{Inner}
 use Rattle.qh_connection.specs.declared.state.Close.{Close}
@@ -32,6 +33,11 @@ restarted now t = record t { since = now; has_sent = false }
 
 abbrev pub sent_at : (now : Moment) → IdleTimer → IdleTimer
 sent_at now t = if t.has_sent then t else record t { since = now; has_sent = true }
+
+-- it is as long as before, and runs on, or from this moment on
+pub record RunsOn (now : Moment) (old new : IdleTimer) : Type 0 where
+  pub timeout : new.timeout ≡ old.timeout
+  pub since : (new.since ≡ old.since) ⊎ (new.since ≡ now)
 
 -- it ends then: it is at least three probe timeouts long
 pub record IsIdleEnd (t : IdleTimer) (rtt : RttEstimator) (moment : ℕ) : Type 0 where
@@ -92,3 +98,17 @@ module _ {S : Type 0} where
   pub record IsFirstDue (c : Inner S) (moment : ℕ) : Type 0 where
     pub is : IsDueAt c moment
     pub first : (other : ℕ) → IsDueAt c other → moment ≤ other
+
+  -- What a call at this moment leaves of the connection that no datagram tells: the counts of what its own calls opened and accepted,
+  -- the idle time, and that it isn't lost by that.
+  pub record IsUndisturbed (now : Moment) (old new : Inner S) : Type 0 where
+    pub counts : HaveSameCounts old.space.streams new.space.streams
+    pub idle : RunsOn now old.idle new.idle
+    pub timed_out : new.error ≡ Some TimedOut → old.error ≡ Some TimedOut
+
+  -- the same of the moments that are due: the idle time alone ends the connection, and with TimedOut
+  pub record IsKeptByTimers (now : ℕ) (old new : Inner S) : Type 0 where
+    pub counts : HaveSameCounts old.space.streams new.space.streams
+    pub idle : new.idle ≡ old.idle
+    pub timed_out : new.error ≡ Some TimedOut → (old.error ≡ Some TimedOut) ⊎ (is_open old.state ≡ true × IsIdleDue now old)
+    pub kept : (e : ConnectionError) → new.error ≡ Some e → (old.error ≡ Some e) ⊎ (e ≡ TimedOut)

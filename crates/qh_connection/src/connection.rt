@@ -1,11 +1,11 @@
-ghost use Rattle.std.specs.Prelude.{◌≡◌, ◌++◌, [], ℕ, List, true, false, not, None, is_some, OnOk, OnErr, IfOk, IfSome, MatchOption};
+ghost use Rattle.std.specs.Prelude.{◌≡◌, ◌↔◌, ◌++◌, [], ℕ, List, true, false, not, None, is_some, OnOk, OnErr, IfOk, IfSome, MatchOption};
 ghost use Rattle.qh_base.specs.declared.connection_error.ConnectionError.TheVariants.{LocallyClosed};
 ghost use Rattle.qh_connection.specs.Event.{IsDrainedTold, IsPolledEvent, is_drained};
 ghost use Rattle.qh_connection.specs.Follows.{Follows, event_acts, transmit_acts};
-ghost use Rattle.qh_connection.specs.Inner.{IsFailedBy, IsNewSpace, IsSameEnd, fresh_stats, is_open};
-ghost use Rattle.qh_connection.specs.Receiving.{IsClosedWith, IsEventTaken, received};
+ghost use Rattle.qh_connection.specs.Inner.{HaveSameCounts, IsFailedBy, IsNewSpace, IsSameEnd, fresh_stats, is_open};
+ghost use Rattle.qh_connection.specs.Receiving.{IsClosedWith, IsEventTaken, handed_at, received};
 ghost use Rattle.qh_connection.specs.Sending.{IsDatagramMade, NothingIsSent};
-ghost use Rattle.qh_connection.specs.Timers.{IsDueAt, IsFirstDue, IsTimedOut};
+ghost use Rattle.qh_connection.specs.Timers.{IsDueAt, IsFirstDue, IsKeptByTimers, IsTimedOut, IsUndisturbed};
 ghost use Rattle.qh_connection.specs.declared.state.Close.TheVariants.{Application};
 ghost use Rattle.qh_connection.specs.declared.state.State.TheVariants.{Established};
 ghost use Rattle.qh_loss.specs.Owed.{AreOwed};
@@ -19,7 +19,9 @@ use crate::inner::Parts;
 use crate::{
     ConnConfig, ConnectionEvent, ConnectionStats, EndpointEvent, Event, Inner, Session, State,
 };
-use qh_base::{ConnectionId, FourTuple, Memory, Moment, Reason, Side, Span, Transmit, VarInt};
+use qh_base::{
+    ConnectionError, ConnectionId, FourTuple, Memory, Moment, Reason, Side, Span, Transmit, VarInt,
+};
 use qh_recovery::ControllerMetrics;
 use std::alloc::Global;
 use std::marker::Model;
@@ -98,6 +100,7 @@ impl<S: Session> Connection<S> {
         ensures ok { OnOk result (IsEventTaken (S.accepts self.old.session) event self.old self.new) }
         ensures err { OnErr result (IsFailedBy (received event self.old) self.new) }
         ensures follows { (t : List Act) → Follows self.old t → Follows self.new (t ++ event_acts event) }
+        ensures undisturbed { OnOk result (IsUndisturbed (handed_at event) self.old self.new) }
         ensures same_end { IsSameEnd self.old self.new }
     {
         match event {
@@ -129,6 +132,7 @@ impl<S: Session> Connection<S> {
         ensures none { IfOk result (λ o. o ≡ None → (buf.new.items ≡ buf.old.items) × NothingIsSent self.old self.new) }
         ensures err { OnErr result ((buf.new.items ≡ buf.old.items) × IsFailedBy self.old self.new) }
         ensures follows { (t : List Act) → Follows self.old t → Follows self.new (t ++ transmit_acts buf.old.items buf.new.items result) }
+        ensures undisturbed { OnOk result (IsUndisturbed now self.old self.new) }
         ensures same_end { IsSameEnd self.old self.new }
     {
         self.inner.poll_transmit(self.alloc, now, buf)
@@ -140,6 +144,7 @@ impl<S> Connection<S> {
     /// and where a probe is due its frames are queued; a connection that was closed is drained.
     pub fn handle_timeout(&mut self, now: Moment)
         ensures done { IsTimedOut now.0 self.old self.new }
+        ensures kept { IsKeptByTimers now.0 self.old self.new }
         ensures follows { (t : List Act) → Follows self.old t → Follows self.new t }
         ensures same_end { IsSameEnd self.old self.new }
     {
@@ -157,6 +162,7 @@ impl<S> Connection<S> {
     /// What happened next, for the application. None exactly where nothing is left to be told.
     pub fn poll(&mut self) -> Option<Event>
         ensures told { IsPolledEvent self.old self.new result }
+        ensures kept { HaveSameCounts self.old.space.streams self.new.space.streams × (self.new.idle ≡ self.old.idle) × (self.new.error ≡ self.old.error) × (self.new.state ≡ self.old.state) }
         ensures follows { (t : List Act) → Follows self.old t → Follows self.new t }
         ensures same_end { IsSameEnd self.old self.new }
     {
@@ -229,6 +235,14 @@ impl<S> Connection<S> {
         ensures { result ≡ record { congestion_window = self.now.space.congestion.window; ssthresh = self.now.space.congestion.ssthresh } }
     {
         self.inner.space.congestion.metrics()
+    }
+
+    /// Why the connection is lost, where it is (quinn, `Connection::close_reason`). It takes no memory.
+    pub fn close_reason(&self) -> Option<ConnectionError>
+        ensures reason { result ≡ self.now.error }
+        ensures open { (result ≡ None) ↔ (is_open self.now.state ≡ true) }
+    {
+        self.inner.error.as_ref().map(ConnectionError::copied)
     }
 
     /// Whether the connection is closed: by either end, by the idle time, or by want of memory.

@@ -28,8 +28,9 @@ pub fn lawful<S>()
 /// What arrival over a link that gives datagrams in time rests on. An open connection stands to the packets that it sent and
 /// accepted so that what is out awaits its acknowledgement, and what came and wants one is acknowledged or about to be. Once
 /// `poll_transmit` was asked, all that came and wants it is acknowledged, and what waits is sent or held by the window, and that
-/// only while something is out that is to be acknowledged. The
-/// limit of the connection and the counts of streams are announced only where they rose, or where their frame was lost.
+/// only while something is out that is to be acknowledged. A limit of the connection or of a stream and a count of streams is
+/// announced only where it rose, or where the frame that said it was lost. The limit of a stream is the number of bytes that were
+/// read of it and the window, as far as a frame can bear it, and never falls.
 pub fn progress<S>()
     ensures fresh { (c : AnInner S) → IsNewSpace c.config c.side c.space → Progress c [] [] }
     ensures others { (old new : AnInner S) (sent accepted : List NumberedPacket) → new.space.sent ≡ old.space.sent → new.space.next_number ≡ old.space.next_number

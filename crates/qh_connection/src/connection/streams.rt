@@ -3,6 +3,8 @@ ghost use Rattle.std.specs.List.{concat};
 ghost use Rattle.qh_connection.specs.Follows.{Follows, write_acts, write_chunks_acts, finish_acts, reset_by_acts, stop_acts, take_acts, received_reset_acts};
 ghost use Rattle.qh_connection.specs.Inner.{is_open, with_streams};
 ghost use Rattle.qh_connection.specs.Streams.{IsRead, IsReadFault, IsWriteRefused};
+ghost use Rattle.qh_connection.specs.declared.fault.TakeFault.TheVariants.{Read};
+ghost use Rattle.qh_half.specs.declared.fault.ReadFault.TheVariants.{Memory as Wanting};
 ghost use Rattle.qh_half.specs.Send.{credit, chunks_after, whole_chunks};
 ghost use Rattle.qh_halves.specs.RecvHalves.{IsRecvStep, Stops, TakesReset, is_closed_at};
 ghost use Rattle.qh_halves.specs.SendHalves.{send_at, write_limit, write_fault_at, finish_fault_at, is_reset_refused_at, half_priority, IsStep, Takes, Finishes, IsResetWith, HasPriority};
@@ -134,7 +136,8 @@ impl<S> Connection<S> {
     }
 
     /// Gives bytes of a stream that wait, at most so many, or the end, None, or the reset; in order or not. What was read permits
-    /// the peer as many bytes more. With a length of 0 it gives no bytes, and neither the end nor the reset.
+    /// the peer as many bytes more. With a length of 0 it gives no bytes, and neither the end nor the reset. For want of memory it
+    /// gives nothing, and all stays as it was.
     pub fn read(
         &mut self,
         id: StreamId,
@@ -143,15 +146,16 @@ impl<S> Connection<S> {
     ) -> Result<Option<Chunk>, TakeFault>
         ensures ok { IfOk result (λ o. IsRead max_length ordered id.0 (Ok o) self.old.space.streams self.new.space.streams) }
         ensures fault { IfErr result (λ e. IsReadFault max_length ordered id.0 e self.old.space.streams self.new.space.streams) }
+        ensures unread { IfErr result (λ e. e ≡ Read Wanting → self.new ≡ self.old) }
         ensures rest { self.new ≡ with_streams self.old self.new.space.streams }
         ensures follows { (t : List Act) → Follows self.old t → Follows self.new (t ++ take_acts id.0 result) }
         ensures in_order { IfOk result (λ o. IfSome o (λ c. (t : List Act) → Follows self.old t → ordered ≡ true → 0 < length c.bytes → c.offset ≡ length (read t id.0))) }
     {
         let streams = &mut self.inner.space.streams;
-        if let Err(fault) = streams.begin_read(id, ordered) {
+        if let Some(fault) = streams.readable_fault(id, ordered) {
             return Err(TakeFault::Readable(fault));
         }
-        match streams.next(id, max_length) {
+        match streams.read(id, max_length, ordered) {
             Ok(chunk) => Ok(chunk),
             Err(fault) => Err(TakeFault::Read(fault)),
         }

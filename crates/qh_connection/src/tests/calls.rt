@@ -2,7 +2,7 @@
 use crate::{
     Connection, ConnectionEvent, ConnectionStats, EndpointEvent, Event, PlainSession, TakeFault,
 };
-use qh_base::{Dir, Memory, Moment, Reason, StreamId, Transmit, VarInt};
+use qh_base::{ConnectionError, Dir, Memory, Moment, Reason, StreamId, Transmit, VarInt};
 use qh_buffers::Chunk;
 use qh_streams::WriteFault;
 
@@ -46,6 +46,10 @@ pub(super) fn stats(end: &End) -> ConnectionStats {
 
 pub(super) fn ssthresh(end: &End) -> Option<u64> {
     end.congestion_state().ssthresh
+}
+
+pub(super) fn close_reason(end: &End) -> Option<ConnectionError> {
+    end.close_reason()
 }
 
 pub(super) fn is_closed(end: &End) -> bool {

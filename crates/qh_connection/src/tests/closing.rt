@@ -1,7 +1,7 @@
 //! How a connection ends: by either end, by both, or because nothing comes.
 use super::calls::{
-    End, close, handle_timeout, is_closed, is_drained, open, poll_endpoint_events, poll_timeout,
-    poll_transmit, stats, write,
+    End, close, close_reason, handle_timeout, is_closed, is_drained, open, poll_endpoint_events,
+    poll_timeout, poll_transmit, stats, write,
 };
 use super::frames::{hand_in, lost_by, packet};
 use super::link::{CONFIG, Pair, end};
@@ -211,6 +211,76 @@ fn nothing_comes_for_the_idle_time(rt: HostRuntime) -> Result<(), Fail> {
     let alloc = rt.alloc();
     for (timeout, steps, ends) in IDLE {
         assert!(rt; ends_at(alloc, *timeout, steps, *ends)?);
+    }
+    Ok(())
+}
+
+// How a connection ends: it doesn't, it closes, a packet with these frames comes, or nothing does for the idle time.
+#[derive(Clone, Copy)]
+enum Ending {
+    Stays,
+    Closes,
+    Hears(&'static [u8]),
+    Waits,
+}
+
+fn end_by(alloc: Global, client: &mut End, ending: Ending) -> Result<(), Fail> {
+    match ending {
+        Ending::Stays => {}
+        Ending::Closes => close(client, Moment(0)),
+        Ending::Hears(frames) => {
+            let bytes = packet(alloc, Side::Server, 0, 4, frames)?;
+            hand_in(alloc, client, Moment(0), &bytes)?;
+        }
+        Ending::Waits => handle_timeout(client, milliseconds(10_000)),
+    }
+    Ok(())
+}
+
+// What closed a connection, and the code that was said.
+fn named(reason: &ConnectionError) -> (&'static str, u64) {
+    match reason {
+        ConnectionError::LocallyClosed => ("this end", 0),
+        ConnectionError::ApplicationClosed(close) => ("application", close.error_code.into_inner()),
+        ConnectionError::ConnectionClosed(close) => ("transport", close.code.0),
+        ConnectionError::TimedOut => ("idle time", 0),
+        _ => ("another", 0),
+    }
+}
+
+// Why an end is lost, and what is told of that.
+fn reason_of(end: &mut End) -> (Option<(&'static str, u64)>, Option<(&'static str, u64)>) {
+    let reason = close_reason(end).as_ref().map(named);
+    (reason, lost_by(end).as_ref().map(named))
+}
+
+// Whether a client that ends so is lost for this reason, which is told to whoever polls, too.
+fn is_lost_by(
+    alloc: Global,
+    ending: Ending,
+    expected: Option<(&'static str, u64)>,
+) -> Result<bool, Fail> {
+    let mut client = end(alloc, Side::Client, CONFIG)?;
+    end_by(alloc, &mut client, ending)?;
+    Ok(reason_of(&mut client) == (expected, expected))
+}
+
+const ENDINGS: &[(Ending, Option<(&'static str, u64)>)] = &[
+    (Ending::Stays, None),
+    (Ending::Closes, Some(("this end", 0))),
+    (Ending::Hears(b"\x1d\x07\x03bye"), Some(("application", 7))),
+    (
+        Ending::Hears(b"\x1c\x0a\x08\x02no"),
+        Some(("transport", 10)),
+    ),
+    (Ending::Waits, Some(("idle time", 0))),
+];
+
+#[test]
+fn each_end_has_its_reason(rt: HostRuntime) -> Result<(), Fail> {
+    let alloc = rt.alloc();
+    for (ending, reason) in ENDINGS {
+        assert!(rt; is_lost_by(alloc, *ending, *reason)?);
     }
     Ok(())
 }
