@@ -1,0 +1,10 @@
+pub mod KeptHalves
+pub mod KeptStreams
+pub mod KeptArrivals
+pub mod InPackets
+pub mod OwingDatagrams
+pub mod OwingAcks
+pub mod OwingPackets
+pub mod OwingConnections
+pub mod OwingCalls
+pub mod WhatIsOwed

@@ -1,0 +1,114 @@
+ghost use Rattle.std.specs.Prelude.{◌≡◌, ◌⊎◌, ◌<◌, ◌≤◌, ◌++◌, [], ℕ, length, ℤ, Bool, List, Option, None, Some, Result, Ok, take, true, false, OnOk, OnErr, IfOk, IfErr, IfSome, bytes_eq};
+ghost use Rattle.std.specs.List.{concat};
+ghost use Rattle.qh_base.specs.declared.connection_error.ConnectionError.{ConnectionError as AnError};
+ghost use Rattle.qh_base.specs.declared.memory.Memory.{Memory as OutOfMemory};
+ghost use Rattle.qh_base.specs.declared.path.Transmit.{Transmit as ATransmit};
+ghost use Rattle.qh_base.specs.declared.stream_id.StreamId.{StreamId as AStreamId};
+ghost use Rattle.qh_base.specs.declared.time.Moment.{Moment as AMoment};
+ghost use Rattle.qh_buffers.specs.declared.assembler.Chunk.{Chunk as AChunk};
+ghost use Rattle.qh_connection.specs.Event.{IsDrainedTold, IsPolledEvent};
+ghost use Rattle.qh_connection.specs.Follows.{event_acts, transmit_acts, write_acts, write_chunks_acts, finish_acts, reset_by_acts, stop_acts, take_acts, received_reset_acts};
+ghost use Rattle.qh_connection.specs.Inner.{IsFailedBy, IsNewSpace, is_open, with_streams};
+ghost use Rattle.qh_connection.specs.Receiving.{IsClosedWith, IsEventTaken, received};
+ghost use Rattle.qh_connection.specs.Sending.{IsDatagramMade, NothingIsSent};
+ghost use Rattle.qh_connection.specs.Streams.{IsRead, IsReadFault, IsWriteRefused};
+ghost use Rattle.qh_connection.specs.Timers.{IsTimedOut};
+ghost use Rattle.qh_connection.specs.declared.event.ConnectionEvent.{ConnectionEvent as AConnectionEvent};
+ghost use Rattle.qh_connection.specs.declared.event.EndpointEvent.{EndpointEvent as AnEndpointEvent};
+ghost use Rattle.qh_connection.specs.declared.event.Event.{Event as AnEvent};
+ghost use Rattle.qh_connection.specs.declared.fault.TakeFault.{TakeFault as ATakeFault};
+ghost use Rattle.qh_connection.specs.declared.inner.Inner.{Inner as AnInner};
+ghost use Rattle.qh_connection.specs.declared.state.Close.{Close as AClose};
+ghost use Rattle.qh_half.specs.declared.fault.ClosedStream.{ClosedStream as AClosedStream};
+ghost use Rattle.qh_half.specs.declared.fault.FinishFault.{FinishFault as AFinishFault};
+ghost use Rattle.qh_half.specs.declared.fault.WriteFault.{WriteFault as AWriteFault};
+ghost use Rattle.qh_half.specs.declared.send.Written.{Written as AWritten};
+ghost use Rattle.qh_halves.specs.Counts.{other_side};
+ghost use Rattle.qh_halves.specs.RecvHalves.{IsRecvStep, Stops, TakesReset, is_closed_at};
+ghost use Rattle.qh_halves.specs.SendHalves.{send_at, finish_fault_at, is_reset_refused_at, IsStep, Takes, Finishes, IsResetWith, HasPriority};
+ghost use Rattle.qh_owing.specs.Owing.{KeepsWhatIsOwed, MakesTags, NamesTags, Owes};
+ghost use Rattle.qh_packet.specs.Session.{PlainKeys};
+ghost use Rattle.qh_spec.specs.StreamId.{stream_id};
+ghost use Rattle.qh_spec.specs.Tag.{tag_bytes};
+ghost use Rattle.qh_spec.specs.Transcript.{Act};
+ghost use Rattle.qh_spec.specs.declared.sides.Dir.{Dir as ADir};
+ghost use Rattle.qh_spec.specs.declared.sides.Side.{Side as ASide};
+ghost use Rattle.qh_spec.specs.declared.sides.Space.{Space as ASpace};
+ghost use Rattle.qh_streams.specs.Streams.{IsOpened, counted_closed, counts_of, is_live, is_two_way, with_accepted, with_counts};
+
+/// What a plain session makes and takes for tags are tags, as `owing` asks: its key id is a connection id, of at most 20 bytes (RFC
+/// 9000, section 17.2).
+pub fn plain_tags()
+    ensures names { (keys : PlainKeys) → length keys.key_id ≤ 20 → NamesTags (λ from space number tag. bytes_eq tag (tag_bytes keys.key_id from space number)) }
+    ensures makes { (keys : PlainKeys) → length keys.key_id ≤ 20 → MakesTags (tag_bytes keys.key_id) }
+{}
+
+/// What is owed isn't forgotten (RFC 9000, sections 2.2 and 13.3). While a connection is open, each byte that was written on a stream
+/// that wasn't reset, and each end of one that was finished, waits to be sent or is out in a packet, unless an ACK that came covers a
+/// packet that carried it: all that is told by the datagrams that were handed in and out. Each call carries that on, as its contract
+/// says what it does; the tags of the session have to be tags.
+pub fn owing<S>()
+    ensures owed { (c : AnInner S) (t : List Act) → is_open c.state ≡ true → Owes c t → KeepsWhatIsOwed c t }
+    ensures fresh { (c : AnInner S) → IsNewSpace c.config c.side c.space → Owes c [] }
+    ensures event { (accepts : ASide → ASpace → ℕ → List ℕ → Bool) (event : AConnectionEvent) (result : Result Unit OutOfMemory) (old new : AnInner S) (t : List Act)
+        → NamesTags accepts → OnOk result (IsEventTaken accepts event old new) → OnErr result (IsFailedBy (received event old) new)
+        → Owes old t → Owes new (t ++ event_acts event) }
+    ensures transmit { (sealed : ASide → ASpace → ℕ → List ℕ) (now : AMoment) (before after : List ℕ) (result : Result (Option ATransmit) OutOfMemory) (old new : AnInner S) (t : List Act)
+        → MakesTags sealed → IfOk result (λ o. IfSome o (λ transmit. IsDatagramMade sealed now old new before after transmit))
+        → IfOk result (λ o. o ≡ None → (after ≡ before) × NothingIsSent old new) → OnErr result ((after ≡ before) × IsFailedBy old new)
+        → Owes old t → Owes new (t ++ transmit_acts before after result) }
+    ensures timeout { (now : ℕ) (old new : AnInner S) (t : List Act) → IsTimedOut now old new → Owes old t → Owes new t }
+    ensures close { (now : AMoment) (reason : AClose) (error : AnError) (old new : AnInner S) (t : List Act)
+        → (is_open old.state ≡ true → IsClosedWith now reason error old new) → (is_open old.state ≡ false → new ≡ old) → Owes old t → Owes new t }
+    ensures poll { (result : Option AnEvent) (old new : AnInner S) (t : List Act) → IsPolledEvent old new result → Owes old t → Owes new t }
+    ensures endpoint { (result : Option AnEndpointEvent) (old new : AnInner S) (t : List Act) → IsDrainedTold old new result → Owes old t → Owes new t }
+    ensures opens { (dir : ADir) (result : Result (Option AStreamId) OutOfMemory) (old new : AnInner S) (t : List Act)
+        → IfOk result (λ o. IfSome o (λ id. (is_open old.state ≡ true) × (id.0 ≡ stream_id old.space.streams.side dir (counts_of old.space.streams (is_two_way dir)).opened)
+        × ((counts_of old.space.streams (is_two_way dir)).opened < (counts_of old.space.streams (is_two_way dir)).max_opened)
+        × IsOpened old.space.streams new.space.streams id.0 × (new ≡ with_streams old new.space.streams)))
+        → IfOk result (λ o. o ≡ None → (new ≡ old)
+        × ((is_open old.state ≡ false) ⊎ ((counts_of old.space.streams (is_two_way dir)).opened ≡ (counts_of old.space.streams (is_two_way dir)).max_opened)))
+        → OnErr result (new ≡ old) → Owes old t → Owes new t }
+    ensures accepts { (dir : ADir) (result : Option AStreamId) (old new : AnInner S) (t : List Act)
+        → IfSome result (λ id. (id.0 ≡ stream_id (other_side old.space.streams.side) dir (counts_of old.space.streams (is_two_way dir)).accepted)
+        × ((counts_of old.space.streams (is_two_way dir)).accepted < (counts_of old.space.streams (is_two_way dir)).arrived)
+        × (new ≡ with_streams old (with_counts old.space.streams (is_two_way dir) (with_accepted (counts_of old.space.streams (is_two_way dir))))))
+        → (result ≡ None → ((counts_of old.space.streams (is_two_way dir)).accepted ≡ (counts_of old.space.streams (is_two_way dir)).arrived) × (new ≡ old))
+        → Owes old t → Owes new t }
+    ensures write { (id : ℕ) (payload : List ℕ) (result : Result ℕ AWriteFault) (old new : AnInner S) (t : List Act)
+        → IfOk result (λ n. (is_open old.state ≡ true) × IsStep (Takes (take n payload)) old.space.streams.send new.space.streams.send id n
+        × (new ≡ with_streams old (record old.space.streams { send = new.space.streams.send })))
+        → IfErr result (λ e. IsWriteRefused id e old new) → Owes old t → Owes new (t ++ write_acts id payload result) }
+    ensures write_chunks { (id : ℕ) (chunks : List (List ℕ)) (result : Result AWritten AWriteFault) (old new : AnInner S) (t : List Act)
+        → IfOk result (λ w. (is_open old.state ≡ true) × IsStep (Takes (take w.bytes (concat chunks))) old.space.streams.send new.space.streams.send id w.bytes
+        × (new ≡ with_streams old (record old.space.streams { send = new.space.streams.send })))
+        → IfErr result (λ e. IsWriteRefused id e old new) → Owes old t → Owes new (t ++ write_chunks_acts id chunks result) }
+    ensures finish { (id : ℕ) (result : Result Unit AFinishFault) (old new : AnInner S) (t : List Act)
+        → OnOk result (IsStep Finishes old.space.streams.send new.space.streams.send id 0 × (new ≡ with_streams old (record old.space.streams { send = new.space.streams.send })))
+        → IfErr result (λ e. (finish_fault_at old.space.streams.send id ≡ Some e) × (new ≡ old)) → Owes old t → Owes new (t ++ finish_acts id result) }
+    ensures reset { (id code : ℕ) (result : Result Unit AClosedStream) (old new : AnInner S) (t : List Act)
+        → OnOk result (IsStep (IsResetWith code) old.space.streams.send new.space.streams.send id 0 × (new ≡ with_streams old (record old.space.streams { send = new.space.streams.send })))
+        → OnErr result ((is_reset_refused_at old.space.streams.send id ≡ true) × (new ≡ old)) → Owes old t → Owes new (t ++ reset_by_acts id code result) }
+    ensures set_priority { (id : ℕ) (priority : ℤ) (result : Result Unit AClosedStream) (old new : AnInner S) (t : List Act)
+        → OnOk result (IsStep (HasPriority priority) old.space.streams.send new.space.streams.send id 0 × (new ≡ with_streams old (record old.space.streams { send = new.space.streams.send })))
+        → OnErr result ((send_at old.space.streams.send id ≡ None) × (new ≡ old)) → Owes old t → Owes new t }
+    ensures read { (id max_length : ℕ) (ordered : Bool) (result : Result (Option AChunk) ATakeFault) (old new : AnInner S) (t : List Act)
+        → IfOk result (λ o. IsRead max_length ordered id (Ok o) old.space.streams new.space.streams)
+        → IfErr result (λ e. IsReadFault max_length ordered id e old.space.streams new.space.streams)
+        → new ≡ with_streams old new.space.streams → Owes old t → Owes new (t ++ take_acts id result) }
+    ensures stop { (id code : ℕ) (result : Result Unit AClosedStream) (old new : AnInner S) (t : List Act)
+        → OnOk result (IsRecvStep (Stops code) old.space.streams.recv new.space.streams.recv id 0
+        × (new ≡ with_streams old (counted_closed (record old.space.streams { recv = new.space.streams.recv }) id (is_live old.space.streams id))))
+        → OnErr result ((is_closed_at old.space.streams.recv id ≡ true) × (new ≡ old)) → Owes old t → Owes new (t ++ stop_acts id code result) }
+    ensures received_reset { (id : ℕ) (result : Result (Option ℕ) AClosedStream) (old new : AnInner S) (t : List Act)
+        → IfOk result (λ code. IsRecvStep (TakesReset code) old.space.streams.recv new.space.streams.recv id 0
+        × (new ≡ with_streams old (counted_closed (record old.space.streams { recv = new.space.streams.recv }) id (is_live old.space.streams id))))
+        → OnErr result ((is_closed_at old.space.streams.recv id ≡ true) × (new ≡ old)) → Owes old t → Owes new (t ++ received_reset_acts id result) }
+    ensures set_max_concurrent_streams { (dir : ADir) (count : ℕ) (old new : AnInner S) (t : List Act)
+        → new ≡ with_streams old (with_counts old.space.streams (is_two_way dir) (record (counts_of old.space.streams (is_two_way dir)) { max_concurrent = count }))
+        → Owes old t → Owes new t }
+    ensures set_send_window { (bytes : ℕ) (old new : AnInner S) (t : List Act)
+        → new ≡ with_streams old (record old.space.streams { send = record old.space.streams.send { send_window = bytes } }) → Owes old t → Owes new t }
+    ensures set_receive_window { (bytes : ℕ) (old new : AnInner S) (t : List Act)
+        → new ≡ with_streams old (record old.space.streams { recv = record old.space.streams.recv { receive_window = bytes } }) → Owes old t → Owes new t }
+{}
