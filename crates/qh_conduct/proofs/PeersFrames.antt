@@ -1,0 +1,210 @@
+-- No frame of the other end's is refused.
+use Rattle.std.proofs.Common.{◌≡◌, ℕ, ◌-◌, ◌/◌, ◌<◌, ◌≤◌, ◌==◌, false, List, [], ◌∷◌, length, Option, Some, None, refl, sym, ap, subst, ◌∙◌, arith, inl, inr}
+use Rattle.std.specs.Prelude.{◌⊎◌}
+use Rattle.std.proofs.lemmas.Bool.{cases_Bool, eqb-true, lt-ltb}
+use Rattle.qh_conduct.proofs.FramesSay.{Between, ack_kind, close_kind, count_kind, exact_kind, form_kind, says_ack}
+use Rattle.qh_conduct.proofs.PeersKept.{kept_frame, says_came, used_number}
+use Rattle.qh_conduct.proofs.PeersLimits.{all_within, stream_within}
+use Rattle.qh_conduct.proofs.PeersNames.{names_known}
+use Rattle.qh_conduct.proofs.PeersRange.{ranges_fit}
+use Rattle.qh_conduct.proofs.PeersRuns.{ends_written, reaches_written}
+use Rattle.qh_conduct.proofs.ReachSpaces.{form_same, frame_came}
+use Rattle.qh_conduct.proofs.ReachSums.{frame_unrefused}
+use Rattle.qh_conduct.specs.Announced.{Announced, IsKeptFrame}
+use Rattle.qh_conduct.specs.Announced.IsKeptFrame.{ping, response, ack, stream, reset, stop, max_data, max_stream_data, max_streams, close}
+use Rattle.qh_conduct.specs.Fitting.{AgreeOnSizes, AreWithinWritten, IsWithinStream}
+use Rattle.qh_conduct.specs.Granted.{AreGranted}
+use Rattle.qh_conduct.specs.Filled.{AreFilled}
+use Rattle.qh_conduct.specs.Peers.{AreLinked, ArePeers}
+use Rattle.qh_conduct.specs.Reached.{CameIn, EndsAt, Reached, Reaches}
+use Rattle.qh_conduct.specs.Sized.{AreRight}
+use Rattle.qh_connection.specs.Follows.{Following, HasFrame}
+use Rattle.qh_connection.specs.declared.inner.Inner.{Inner}
+use Rattle.qh_frame.specs.AckWritten.{AreApart, ack_frame, gaps}
+use Rattle.qh_frame.specs.Plain.{ack_of, plain_of}
+use Rattle.qh_frame.specs.WrittenForm.{ack_values, or_frame, written_form}
+use Rattle.qh_frame.specs.declared.ack.Ack.{Ack}
+use Rattle.qh_frame.specs.declared.ack.AckRange.{AckRange}
+use Rattle.qh_frame.specs.declared.frame.Frame.{Frame}
+use Rattle.qh_frame.specs.declared.frame.Frame.TheVariants as kind
+use Rattle.qh_space.specs.Receiving.{coming_of, frame_refusal}
+use Rattle.qh_spec.proofs.AckRows.{greatest_in}
+use Rattle.qh_spec.specs.Acknowledged.{Covers}
+use Rattle.qh_spec.specs.FrameViews.{stream_values}
+use Rattle.qh_spec.specs.Link.{other}
+use Rattle.qh_spec.specs.Lists.{In}
+use Rattle.qh_spec.specs.QuicFrame.{StreamFrame as Run, has_bit}
+use Rattle.qh_spec.specs.QuicFrames.{QuicFrame, Value, Num}
+use Rattle.qh_spec.specs.Transcript.{Act, handed_in, written}
+use Rattle.qh_streams.specs.Streams.{refusal_of}
+use Rattle.qh_streams.specs.declared.frames.StreamFrame.{StreamFrame}
+
+-- ---- the type of a frame and of its written form
+
+abbrev pub KeepsForm : QuicFrame → Type 0
+KeepsForm q = (written_form q ≡ q) ⊎ (((q.kind ≡ 3) × ((written_form q).kind ≡ 2)) ⊎ (((q.kind ≡ 48) × ((written_form q).kind ≡ 49)) ⊎ Between 10 15 (written_form q).kind))
+
+or_form : (o : Option Run) (q : QuicFrame) → (or_frame o q ≡ q) ⊎ Between 10 15 (or_frame o q).kind
+or_form None q = inl refl
+or_form (Some run) q = inr (form_kind _ run refl)
+
+pub keeps_form : (q : QuicFrame) → KeepsForm q
+keeps_form q = elim (cases_Bool (q.kind / 8 == 1)) [
+  | inl streams ↦
+      let form : written_form q ≡ or_frame (stream_values (has_bit 1 q.kind) q.values) q = rw streams refl in
+      elim (or_form (stream_values (has_bit 1 q.kind) q.values) q) [
+        | inl same ↦ inl (form ∙ same)
+        | inr kind ↦ inr (inr (inr (subst (λ (f : QuicFrame). Between 10 15 f.kind) (sym form) kind)))
+      ]
+  | inr others ↦ elim (cases_Bool (q.kind == 3)) [
+    | inl marked ↦
+        let form : written_form q ≡ record { kind = 2; values = ack_values q.values } = rw (others, marked) refl in
+        inr (inl (eqb-true q.kind 3 marked, ap (λ (f : QuicFrame). f.kind) form))
+    | inr not ↦ elim (cases_Bool (q.kind == 48)) [
+      | inl left ↦
+          let form : written_form q ≡ record { kind = 49; values = q.values } = rw (others, not, left) refl in
+          inr (inr (inl (eqb-true q.kind 48 left, ap (λ (f : QuicFrame). f.kind) form)))
+      | inr none ↦ inl (rw (others, not, none) refl)
+    ]
+  ]
+]
+
+-- what is written as an ACK is one
+ack_type : (q f : QuicFrame) → written_form q ≡ f → f.kind ≡ 2 → Between 2 3 q.kind
+ack_type q f e two = let kinds = ap (λ (f : QuicFrame). f.kind) e in elim (keeps_form q) [
+  | inl same ↦ let one = ap (λ (f : QuicFrame). f.kind) same in (omega (arith, kinds, one, two), omega (arith, kinds, one, two))
+  | inr (inl marked) ↦ let three = marked.0 in (omega (arith, three), omega (arith, three))
+  | inr (inr (inl left)) ↦ let last = left.1 in absurd (omega (arith, last, kinds, two))
+  | inr (inr (inr between)) ↦ let low = between.0 in absurd (omega (arith, low, kinds, two))
+]
+
+-- and what is written as a DATAGRAM
+datagram_type : (q f : QuicFrame) → written_form q ≡ f → f.kind ≡ 49 → 30 ≤ q.kind
+datagram_type q f e last = let kinds = ap (λ (f : QuicFrame). f.kind) e in elim (keeps_form q) [
+  | inl same ↦ let one = ap (λ (f : QuicFrame). f.kind) same in omega (arith, kinds, one, last)
+  | inr (inl marked) ↦ let two = marked.1 in absurd (omega (arith, two, kinds, last))
+  | inr (inr (inl left)) ↦ let is = left.0 in omega (arith, is)
+  | inr (inr (inr between)) ↦ let high = between.1 in absurd (omega (arith, high, kinds, last))
+]
+
+abbrev first_number : List Value → ℕ
+first_number (Num n ∷ more) = n
+first_number others = 0
+
+module _ {S : Type 0} (c : Inner S) (came : List (List ℕ)) where
+  -- the types of the frames that an end may send
+  abbrev IsSentKind : ℕ → Type 0
+  IsSentKind kind = (kind ≤ 29) × (kind ≡ 7 → ⊥)
+
+  between_kind : (low high k : ℕ) → Between low high k → high ≤ 29 → (7 < low) ⊎ (high < 7) → IsSentKind k
+  between_kind low high k b top (inl above) = let l = b.0 in let h = b.1 in (omega (arith, h, top), λ e. omega (arith, e, l, above))
+  between_kind low high k b top (inr below) = let l = b.0 in let h = b.1 in (omega (arith, h, top), λ e. omega (arith, e, h, below))
+
+  sent_kind : (q : QuicFrame) → IsKeptFrame c came q → IsSentKind q.kind
+  sent_kind q (ping is) = between_kind 1 1 q.kind (exact_kind q 1 [] is) (omega arith) (inr (omega arith))
+  sent_kind q (response echoed is) = between_kind 27 27 q.kind (exact_kind q 27 _ is) (omega arith) (inl (omega arith))
+  sent_kind q (ack ranges is apart all) = between_kind 2 2 q.kind (ack_kind q ranges is) (omega arith) (inr (omega arith))
+  sent_kind q (stream run is named) = between_kind 10 15 q.kind (form_kind q run is) (omega arith) (inl (omega arith))
+  sent_kind q (reset id code size is named) = between_kind 4 4 q.kind (exact_kind q 4 _ is) (omega arith) (inr (omega arith))
+  sent_kind q (stop id code is named) = between_kind 5 5 q.kind (exact_kind q 5 _ is) (omega arith) (inr (omega arith))
+  sent_kind q (max_data limit is below) = between_kind 16 16 q.kind (exact_kind q 16 _ is) (omega arith) (inl (omega arith))
+  sent_kind q (max_stream_data id limit is named below) = between_kind 17 17 q.kind (exact_kind q 17 _ is) (omega arith) (inl (omega arith))
+  sent_kind q (max_streams dir count is below) = between_kind 18 19 q.kind (count_kind q dir count is) (omega arith) (inl (omega arith))
+  sent_kind q (close reason is shut) = between_kind 28 29 q.kind (close_kind q reason is) (omega arith) (inl (omega arith))
+
+  -- an ACK covers its greatest number
+  own_greatest : (q : QuicFrame) (ranges : List AckRange) (a : Ack) → q ≡ ack_frame 0 ranges → AreApart ranges → written_form q ≡ ack_of a → Covers q a.greatest
+  own_greatest q [] a is apart form = absurd apart
+  own_greatest q (r ∷ more) a is apart form =
+      let same : ack_frame 0 (r ∷ more) ≡ ack_of a = ap written_form (sym is) ∙ form in
+      let greatest : r.greatest ≡ a.greatest = ap (λ (f : QuicFrame). first_number f.values) same in
+      subst (λ (n : ℕ). Covers q n) greatest (rw is (refl, greatest_in r.greatest ((r.greatest - r.least) ∷ gaps r.least more) (ranges_fit r.greatest r.least more apart.0 apart.2)))
+
+  covers_greatest : (q : QuicFrame) (a : Ack) → written_form q ≡ ack_of a → IsKeptFrame c came q → Covers q a.greatest
+  covers_greatest q a form (ack ranges is apart all) = own_greatest q ranges a is apart form
+  covers_greatest q a form (ping is) = let x = ack_type q _ form refl in let y = exact_kind q 1 [] is in absurd (omega (arith, x.0, x.1, y.0, y.1))
+  covers_greatest q a form (response echoed is) = let x = ack_type q _ form refl in let y = exact_kind q 27 _ is in absurd (omega (arith, x.0, x.1, y.0, y.1))
+  covers_greatest q a form (stream run is named) = let x = ack_type q _ form refl in let y = form_kind q run is in absurd (omega (arith, x.0, x.1, y.0, y.1))
+  covers_greatest q a form (reset id code size is named) = let x = ack_type q _ form refl in let y = exact_kind q 4 _ is in absurd (omega (arith, x.0, x.1, y.0, y.1))
+  covers_greatest q a form (stop id code is named) = let x = ack_type q _ form refl in let y = exact_kind q 5 _ is in absurd (omega (arith, x.0, x.1, y.0, y.1))
+  covers_greatest q a form (max_data limit is below) = let x = ack_type q _ form refl in let y = exact_kind q 16 _ is in absurd (omega (arith, x.0, x.1, y.0, y.1))
+  covers_greatest q a form (max_stream_data id limit is named below) = let x = ack_type q _ form refl in let y = exact_kind q 17 _ is in absurd (omega (arith, x.0, x.1, y.0, y.1))
+  covers_greatest q a form (max_streams dir count is below) = let x = ack_type q _ form refl in let y = count_kind q dir count is in absurd (omega (arith, x.0, x.1, y.0, y.1))
+  covers_greatest q a form (close reason is shut) = let x = ack_type q _ form refl in let y = close_kind q reason is in absurd (omega (arith, x.0, x.1, y.0, y.1))
+
+-- ---- no refusal
+
+module _ {S : Type 0} (c p : Inner S) (tc tp : List Act) (peers : ArePeers c p) (linked : AreLinked tc tp) (a : Announced c tc) (b : Announced p tp) (rc : Reached c tc) (rp : Reached p tp) (f : Following p tp)
+    (space_is : p.space ≡ f.space) (filled : AreFilled p tp) (right : AreRight p tp) (grants : AreGranted c) where
+  abbrev Came : StreamFrame → Type 0
+  Came g = CameIn (length c.local_id) (handed_in tc) (other c.side) g
+
+  reaches : (g : StreamFrame) (stream to : ℕ) → Came g → Reaches stream to g → to ≤ length (written tp stream)
+  reaches = reaches_written p tp f filled right (length c.local_id) (handed_in tc) (other c.side) (ap length peers.there) peers.sides linked.to
+
+  ends : (g : StreamFrame) (stream size : ℕ) → Came g → EndsAt stream size g → size ≡ length (written tp stream)
+  ends = ends_written p tp f filled right (length c.local_id) (handed_in tc) (other c.side) (ap length peers.there) peers.sides linked.to
+
+  module _ (g : StreamFrame) (came : Came g) where
+    came_too : (k : StreamFrame) → In k (g ∷ rc.frames) → Came k
+    came_too k (inl same) = subst (λ (k : StreamFrame). Came k) same came
+    came_too k (inr before) = rc.came k before
+
+    fits : AreWithinWritten (g ∷ rc.frames) tp
+    fits k id to is r = reaches k id to (came_too k is) r
+
+    agree : AgreeOnSizes (g ∷ rc.frames)
+    agree x y id size to is_x is_y end r =
+        let whole = ends x id size (came_too x is_x) end in
+        let most = reaches y id to (came_too y is_y) r in
+        omega (arith, whole, most)
+
+    within : IsWithinStream c.space.streams g
+    within id to h r is =
+        let most = reaches g id to came r in
+        let limit = stream_within c p tc tp peers a f linked.from grants id h is in
+        omega (arith, most, limit)
+
+    coming_unrefused : refusal_of c.space.streams g ≡ None
+    coming_unrefused =
+        frame_unrefused c.side c.space.streams rc.frames rc.are g tp agree fits (all_within c p tc tp peers a f linked.from grants) within
+        (names_known c p tc tp peers a b rc rp f space_is linked.from grants g (says_came p tp b (length c.local_id) (handed_in tc) (other c.side) (ap length peers.there) linked.to g came))
+
+  module _ (q : QuicFrame) (has : HasFrame (length c.local_id) (handed_in tc) (other c.side) q) where
+    kept : IsKeptFrame p (handed_in tp) q
+    kept = kept_frame p tp b (length c.local_id) (handed_in tc) (other c.side) (ap length peers.there) linked.to q has
+
+    below_next : (x : Ack) → written_form q ≡ ack_of x → x.greatest < c.space.next_number
+    below_next x form =
+        used_number c tc a (length p.local_id) (handed_in tp) (other p.side) (ap length peers.back) linked.from x.greatest
+        (says_ack p (handed_in tp) q x.greatest (covers_greatest p (handed_in tp) q x form kept) kept)
+
+    not_kind : (form : QuicFrame) → written_form q ≡ form → (form.kind / 8 == 1) ≡ false → (form.kind == 2) ≡ false → (form.kind == 49) ≡ false → (form.kind ≤ 29) × (form.kind ≡ 7 → ⊥)
+    not_kind form e plain no_ack no_datagram = subst (λ (f : QuicFrame). (f.kind ≤ 29) × (f.kind ≡ 7 → ⊥)) (form_same q form e plain no_ack no_datagram) (sent_kind p (handed_in tp) q kept)
+
+    as_coming : (x : Frame) (g : StreamFrame) → coming_of x ≡ Some g → written_form q ≡ plain_of x → refusal_of c.space.streams g ≡ None
+    as_coming x g is form = coming_unrefused g (frame_came c.side (length c.local_id) (handed_in tc) x q g is form has)
+
+    pub unrefused : (x : Frame) → written_form q ≡ plain_of x → frame_refusal c.space x ≡ None
+    unrefused (kind.Ack x) form = rw (lt-ltb x.greatest c.space.next_number (below_next x form)) refl
+    unrefused (kind.NewToken token) form = absurd ((not_kind _ form refl refl refl).1 refl)
+    unrefused kind.HandshakeDone form = let low = (not_kind _ form refl refl refl).0 in absurd (omega (arith, low))
+    unrefused (kind.Datagram payload) form = let high = datagram_type q _ form refl in let low = (sent_kind p (handed_in tp) q kept).0 in absurd (omega (arith, high, low))
+    unrefused (kind.Stream s) form = as_coming (kind.Stream s) _ refl form
+    unrefused (kind.ResetStream id code size) form = as_coming (kind.ResetStream id code size) _ refl form
+    unrefused (kind.StopSending id code) form = as_coming (kind.StopSending id code) _ refl form
+    unrefused (kind.MaxData limit) form = as_coming (kind.MaxData limit) _ refl form
+    unrefused (kind.MaxStreamData id limit) form = as_coming (kind.MaxStreamData id limit) _ refl form
+    unrefused (kind.MaxStreams dir count) form = as_coming (kind.MaxStreams dir count) _ refl form
+    unrefused kind.Padding form = refl
+    unrefused kind.Ping form = refl
+    unrefused (kind.Crypto offset payload) form = refl
+    unrefused (kind.DataBlocked limit) form = refl
+    unrefused (kind.StreamDataBlocked id limit) form = refl
+    unrefused (kind.StreamsBlocked dir count) form = refl
+    unrefused (kind.NewConnectionId sequence prior id token) form = refl
+    unrefused (kind.RetireConnectionId sequence) form = refl
+    unrefused (kind.PathChallenge bytes) form = refl
+    unrefused (kind.PathResponse bytes) form = refl
+    unrefused (kind.ConnectionClose code frame_type reason) form = refl
+    unrefused (kind.ApplicationClose code reason) form = refl

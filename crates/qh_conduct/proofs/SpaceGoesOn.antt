@@ -1,0 +1,120 @@
+-- What a step of the space leaves of what was announced.
+use Rattle.std.proofs.Common.{◌≡◌, ℕ, ◌+◌, ◌-◌, nat_lt, Bool, true, false, List, length, Option, Some, None, refl, sym, ap, subst, ◌∙◌}
+use Rattle.std.specs.Prelude.{MatchBool}
+use Rattle.qh_base.specs.declared.connection_error.ConnectionError.{ConnectionError}
+use Rattle.qh_conduct.proofs.StreamsGoOn.{GoOn, acked_goes, go_on, handed_goes, lost_goes, same_go}
+use Rattle.qh_conduct.proofs.StreamsReceive.{received_go}
+use Rattle.qh_connection.specs.Receiving.{AreFramesTaken}
+use Rattle.qh_connection.specs.Receiving.AreFramesTaken.{none as none_taken, more as more_taken, closed as closed_by, refused as refused_at}
+use Rattle.qh_connection.specs.Timers.{AreLostByAge, IsProbed}
+use Rattle.qh_connection.specs.Timers.AreLostByAge.{due as age_due, not_yet as age_not_yet}
+use Rattle.qh_connection.specs.Timers.IsProbed.{due as probe_due, not_yet as probe_not_yet}
+use Rattle.qh_frame.specs.declared.frame.Frame.{Frame}
+use Rattle.qh_history.proofs.Carried.{by_frame, by_left, by_loss, by_packet, by_probe}
+use Rattle.qh_loss.specs.declared.probe.Probe.{Probe}
+use Rattle.qh_loss.specs.declared.probe.Probe.TheVariants as probe
+use Rattle.qh_recovery.specs.declared.sent_packets.SentPacket.{SentPacket}
+use Rattle.qh_space.specs.Receiving.{IsFrameTaken, IsLossTaken, frame_refusal}
+use Rattle.qh_space.specs.Receiving.IsFrameTaken.{passive, streams as of_streams, ack as of_ack, challenge, close}
+use Rattle.qh_space.specs.Sending.{AreElicitingPut, AreLeft, IsPacketMade, may_elicit, with_sent}
+use Rattle.qh_space.specs.Timers.{pings_after}
+use Rattle.qh_space.specs.declared.data_space.DataSpace.{DataSpace}
+use Rattle.qh_streams.specs.Streams.{PlainStreams, IsHandedOver, IsLostFrame}
+use Rattle.qh_streams.specs.declared.frames.SentFrame.{SentFrame}
+
+-- the streams go on so, the next number stays, and so do the numbers that are to be acknowledged
+pub record SpaceGoes (old new : DataSpace) : Type 0 where
+  pub streams : GoOn old.streams new.streams
+  pub next : new.next_number ≡ old.next_number
+  pub acks : new.acks ≡ old.acks
+
+pub space_same : (s : DataSpace) → SpaceGoes s s
+space_same s = record { streams = same_go s.streams; next = refl; acks = refl }
+
+pub space_on : (first old new : DataSpace) → SpaceGoes first old → SpaceGoes old new → SpaceGoes first new
+space_on first old new before after = record { streams = go_on first.streams old.streams new.streams after.streams before.streams; next = after.next ∙ before.next; acks = after.acks ∙ before.acks }
+
+lost_on : (first old new : PlainStreams) (f : SentFrame) → IsLostFrame old new f → GoOn first old → GoOn first new
+lost_on first old new f lost p = go_on first old new (lost_goes old new f lost) p
+
+handed_on : (first old new : PlainStreams) (room : ℕ) (f : SentFrame) → IsHandedOver old new room f → GoOn first old → GoOn first new
+handed_on first old new room f handed p = go_on first old new (handed_goes old new room f handed) p
+
+-- ---- frames that come
+
+frame_streams : (now : ℕ) (old new : DataSpace) (f : Frame) (end : Option ConnectionError) → frame_refusal old f ≡ None → IsFrameTaken now old new f end → GoOn old.streams new.streams
+frame_streams now old new f end free taken = by_frame (λ s. GoOn old.streams s) (lost_on old.streams) (λ was s g a p. go_on old.streams was s (acked_goes was s g a) p) now old new f end
+    (λ c of r. received_go old.streams new.streams c (sym (of.refusal old) ∙ free) r) (λ none. same_go old.streams) taken
+
+lost_next : (largest now : ℕ) (old new : DataSpace) → IsLossTaken largest now old new → (new.next_number ≡ old.next_number) × (new.acks ≡ old.acks)
+lost_next largest now old new l = (ap (λ (s : DataSpace). s.next_number) l.rest_is, ap (λ (s : DataSpace). s.acks) l.rest_is)
+
+frame_rest : (now : ℕ) (old new : DataSpace) (f : Frame) (end : Option ConnectionError) → IsFrameTaken now old new f end → (new.next_number ≡ old.next_number) × (new.acks ≡ old.acks)
+frame_rest now old new f end (passive _ idle e) = (ap (λ (s : DataSpace). s.next_number) e, ap (λ (s : DataSpace). s.acks) e)
+frame_rest now old new f end (of_streams _ c is r e) = (ap (λ (s : DataSpace). s.next_number) e, ap (λ (s : DataSpace). s.acks) e)
+frame_rest now old new f end (of_ack a r) =
+    let after = lost_next _ now r.mid new r.lost in
+    (after.0 ∙ ap (λ (s : DataSpace). s.next_number) r.mid_is, after.1 ∙ ap (λ (s : DataSpace). s.acks) r.mid_is)
+frame_rest now old new f end (challenge bytes e) = (ap (λ (s : DataSpace). s.next_number) e, ap (λ (s : DataSpace). s.acks) e)
+frame_rest now old new f end (close _ error is e) = (ap (λ (s : DataSpace). s.next_number) e, ap (λ (s : DataSpace). s.acks) e)
+
+frame_goes : (now : ℕ) (old new : DataSpace) (f : Frame) (end : Option ConnectionError) → frame_refusal old f ≡ None → IsFrameTaken now old new f end → SpaceGoes old new
+frame_goes now old new f end free taken = let rest = frame_rest now old new f end taken in record { streams = frame_streams now old new f end free taken; next = rest.0; acks = rest.1 }
+
+pub frames_go : (now : ℕ) (bytes : List ℕ) (old new : DataSpace) (taken : List Frame) (end : Option ConnectionError) → AreFramesTaken now bytes old new taken end → SpaceGoes old new
+frames_go now bytes old new taken end (none_taken _) = space_same old
+frames_go now bytes old new taken end (more_taken _ rest f _ mid _ later _ b free step t) = space_on old mid new (frame_goes now old mid f None free step) (frames_go now rest mid new later end t)
+frames_go now bytes old new taken end (closed_by _ rest f _ _ e b free step) = frame_goes now old new f (Some e) free step
+frames_go now bytes old new taken end (refused_at _ rest f _ e b r) = space_same old
+
+-- ---- what is due
+
+lost_go : (largest now : ℕ) (old new : DataSpace) → IsLossTaken largest now old new → SpaceGoes old new
+lost_go largest now old new l =
+    let rest = lost_next largest now old new l in
+    record { streams = by_loss (λ s. GoOn old.streams s) (lost_on old.streams) largest now old new l (same_go old.streams); next = rest.0; acks = rest.1 }
+
+pub aged_go : (now : ℕ) (old new : DataSpace) → AreLostByAge now old new → SpaceGoes old new
+aged_go now old new (age_due moment largest is by_now acked lost) = lost_go largest now old new lost
+aged_go now old new (age_not_yet later e) = subst (λ (s : DataSpace). SpaceGoes old s) (sym e) (space_same old)
+
+pings_rest : (p : Probe) (s : DataSpace) → ((pings_after p s).next_number ≡ s.next_number) × ((pings_after p s).acks ≡ s.acks)
+pings_rest probe.Stream s = (refl, refl)
+pings_rest probe.Others s = (refl, refl)
+pings_rest probe.Ping s = (refl, refl)
+
+pub probed_go : (now : ℕ) (old new : DataSpace) → IsProbed now old new → SpaceGoes old new
+probed_go now old new (probe_due moment is by_now due) =
+    let rest = pings_rest due.probe (record old { streams = new.streams; is_probe_due = true }) in
+    record {
+      streams = by_probe (λ s. GoOn old.streams s) (lost_on old.streams) old new due (same_go old.streams);
+      next = ap (λ (s : DataSpace). s.next_number) due.rest_is ∙ rest.0;
+      acks = ap (λ (s : DataSpace). s.acks) due.rest_is ∙ rest.1;
+    }
+probed_go now old new (probe_not_yet later e) = subst (λ (s : DataSpace). SpaceGoes old s) (sym e) (space_same old)
+
+-- ---- what is handed out
+
+pub left_go : (old new : PlainStreams) → AreLeft old new → GoOn old new
+left_go old new left = by_left (λ s. GoOn old s) (lost_on old) (handed_on old) old new left (same_go old)
+
+pub made_go : (now around room : ℕ) (old new : DataSpace) (before after : List ℕ) → IsPacketMade now around room old new before after → GoOn old.streams new.streams
+made_go now around room old new before after made =
+    by_packet (λ s. GoOn old.streams s) (lost_on old.streams) (handed_on old.streams) now around room old new before after made (same_go old.streams)
+
+sent_next : (s : DataSpace) (packet : SentPacket SentFrame) (is_eliciting : Bool) → (with_sent s packet is_eliciting).next_number ≡ s.next_number + 1
+sent_next s packet true = refl
+sent_next s packet false = refl
+
+put_next : (may : Bool) (room : ℕ) (old new : DataSpace) (before after : List ℕ) (frames : List SentFrame) → MatchBool may (AreElicitingPut room old new before after frames) ((new ≡ old) × (after ≡ before))
+    → new.next_number ≡ old.next_number
+put_next true room old new before after frames put = ap (λ (s : DataSpace). s.next_number) put.rest_is
+put_next false room old new before after frames none = ap (λ (s : DataSpace). s.next_number) none.0
+
+pub made_rest : (now around room : ℕ) (old new : DataSpace) (before after : List ℕ) → IsPacketMade now around room old new before after
+    → (new.next_number ≡ old.next_number + 1) × (new.acks.ranges ≡ old.acks.ranges)
+made_rest now around room old new before after made = (
+  ap (λ (s : DataSpace). s.next_number) made.new_is ∙ sent_next made.mid made.packet (nat_lt (length made.out_mid) (length after))
+      ∙ ap (λ (n : ℕ). n + 1) (put_next (may_elicit old) (room - (length made.out_mid - length before)) old made.mid made.out_mid after made.packet.frames.items made.eliciting),
+  ap (λ (s : DataSpace). s.acks.ranges) made.new_is,
+)

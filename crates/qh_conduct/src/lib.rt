@@ -1,0 +1,18 @@
+//! How a connection behaves to its peer, by the datagrams that went both ways: what it knows came, what it sends keeps what it
+//! announced, which is never below its first limits, and each final size that it says is right; and over a link that gives each end
+//! only what the other handed out no end refuses what comes. Laws alone, over the contracts of `qh_connection`.
+#![tactic(auto)]
+
+pub mod announced;
+mod filled;
+mod fitting;
+mod granted;
+pub mod peers;
+mod reaching;
+mod sized;
+
+pub use filled::fills;
+pub use fitting::{faults, frames_fit};
+pub use granted::grants;
+pub use reaching::reached;
+pub use sized::sizes;
