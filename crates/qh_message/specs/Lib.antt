@@ -1,0 +1,4 @@
+pub mod Reading
+pub mod Room
+pub mod Sections
+pub mod Written
