@@ -1,0 +1,14 @@
+pub mod Acted
+pub mod Acts
+pub mod ClientGoes
+pub mod ClientLaws
+pub mod ClientLists
+pub mod HandlerLists
+pub mod HandlerSteps
+pub mod Reading
+pub mod ServerAccepts
+pub mod ServerCares
+pub mod ServerEntries
+pub mod ServerSteps
+pub mod StepLaws
+pub mod Stirred
