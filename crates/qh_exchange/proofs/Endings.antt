@@ -15,7 +15,7 @@ use Rattle.qh_spec.specs.TokenScript.{IsTokenScript, token_report}
 use Rattle.qh_spec.specs.Words.{Command, IsCommand, Exchange, Make, Workers, Tokens}
 use Rattle.qh_exchange.specs.declared.error.ExchangeError.{ExchangeError}
 use Rattle.qh_exchange.specs.declared.program.Ending.{Ending}
-use Rattle.qh_exchange.specs.Program.{IsLastLine, invalid, timed_out, out_of_rounds, link, protocol, memory_wanting, not_built, HasRun, ScriptEnds, answered, failed, TextEnds, refused, unbuilt, ran, TokensEnd, looked, Ends, usage, unbuilt_words, read_fault, read, tokens, memory, AreLookedAt, IsAnswered}
+use Rattle.qh_exchange.specs.Program.{IsLastLine, invalid, timed_out, out_of_rounds, link, protocol, memory_wanting, HasRun, ScriptEnds, answered, failed, TextEnds, refused, unbuilt, ran, TokensEnd, looked, Ends, usage, unbuilt_words, read_fault, read, tokens, memory, AreLookedAt, IsAnswered}
 use Rattle.qh_exchange.specs.Reading.{IsRead, IsInput, all, front, IsAppended, IsWritten, whole, cut}
 use Rattle.qh_exchange.specs.Unbuilt.{IsUnbuiltLine, IsUnbuiltAt}
 use Rattle.qh_exchange.proofs.Unbuilt.{AreBuilt}
@@ -87,7 +87,6 @@ no_last e status last z out_of_rounds = absurd (omega arith)
 no_last e status last z link = absurd (omega arith)
 no_last e status last z (protocol x) = absurd (omega arith)
 no_last e status last z memory_wanting = absurd (omega arith)
-no_last e status last z not_built = absurd (omega arith)
 
 script_done : (s : Script) (l : PlainLink) (served : List PlainEntry) (status : ℕ) (text : List ℕ) → status ≡ 0 → ScriptEnds s l served status text → IsDone s l served text
 script_done s l served status text z (answered answers run told) = record { answers = answers; run = run; told = told }

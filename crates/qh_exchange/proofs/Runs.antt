@@ -1,15 +1,15 @@
 -- What an exchange of a script's requests leaves behind, where a service echoes over a link in memory.
-use Rattle.std.proofs.Common.{◌≡◌, ◌≢◌, inl, inr, ℕ, zero, suc, ◌≤◌, List, [], ◌∷◌, length, Option, Some, None, Result, Ok, Err, refl, sym, ap, ◌∙◌, subst, arith}
-use Rattle.std.specs.Prelude.{IfOk, IfErr, IsOk, All, slice_get}
-use Rattle.std.proofs.lemmas.Bool.{false≢true}
+use Rattle.std.proofs.Common.{◌≡◌, ℕ, List, [], ◌++◌, Option, Some, None, Result, Ok, Err, refl, sym, ap, ◌∙◌, subst}
+use Rattle.std.specs.Prelude.{IfOk, IfErr, All}
 use Rattle.std.proofs.lemmas.Result.{IfOk-weaker}
+use Rattle.qh_base.specs.declared.connection_error.ConnectionError.{ConnectionError}
 use Rattle.qh_base.specs.declared.memory.Memory.{Memory as OutOfMemory}
 use Rattle.qh_link.specs.ScriptLink.{PlainLink, plan_of}
-use Rattle.qh_script.specs.Report.{HaveMaps}
+use Rattle.qh_roles.specs.Server.{GrewByAnswers}
 use Rattle.qh_spec.specs.declared.link.Event.{Event}
 use Rattle.qh_spec.specs.declared.link.Upset.{Upset}
 use Rattle.qh_spec.specs.Config.{PlainConfig}
-use Rattle.qh_spec.specs.Echoed.{HasMaps, AreEchoed}
+use Rattle.qh_spec.specs.Echoed.{HasMaps}
 use Rattle.qh_spec.specs.Fault.{CountsFaults}
 use Rattle.qh_spec.specs.Headline.{ServedOnce, AnsweredOnce}
 use Rattle.qh_spec.specs.Honest.{IsHonest}
@@ -17,89 +17,42 @@ use Rattle.qh_spec.specs.Link.{moments_of}
 use Rattle.qh_spec.specs.Lists.{In}
 use Rattle.qh_spec.specs.Message.{PlainMessage}
 use Rattle.qh_spec.specs.Record.{PlainEntry}
-use Rattle.qh_spec.specs.Same.{SameMessage}
 use Rattle.qh_spec.specs.Schedule.{Plan, IsScheduled, IsUnforged}
 use Rattle.qh_spec.specs.Script.{Script, rounds_of}
 use Rattle.qh_spec.specs.Service.{echo}
-use Rattle.qh_spec.proofs.Echoes.{echoes_told}
-use Rattle.qh_spec.proofs.RecordLaws.{grew_few}
+use Rattle.qh_spec.specs.Validity.{IsFaultIndex, IsValidList}
 use Rattle.qh_spec.proofs.Schedules.{unforged_is_honest}
 use Rattle.qh_exchange.specs.declared.error.ExchangeError.{ExchangeError}
-use Rattle.qh_exchange.specs.declared.error.ExchangeError.TheVariants.{Invalid, Link, TimedOut, OutOfRounds, Protocol, Memory, Unbuilt}
+use Rattle.qh_exchange.specs.declared.error.ExchangeError.TheVariants.{Invalid, Link, TimedOut, OutOfRounds, Protocol, Memory}
 use Rattle.qh_exchange.specs.declared.program.Ending.{Ending}
 use Rattle.qh_exchange.specs.Endings.{EndsAnswered, EndsFailed, IsRunAs}
-use Rattle.qh_exchange.specs.Exchange.{IsExchangeError, IsUnbuilt, IfUnbuilt, IfOutOfRounds, RanOut}
+use Rattle.qh_exchange.specs.Exchange.{IfInvalid, IfOutOfRounds, IfProtocol, IfTimedOut, IsInvalidAnswer}
+use Rattle.qh_exchange.specs.Pair.{KeepWithin}
 use Rattle.qh_exchange.specs.Program.{AreEchoes, HasRun, ScriptEnds, answered, failed}
-use Rattle.qh_exchange.specs.Small.{IsBuilt}
-use Rattle.qh_exchange.specs.Turn.{GrewByAnswers, Records, HasUnbuilt, has_link_failed}
-
--- ---- what is told of echoes
-
-nothing_of : {X : Type 0} (xs : List X) → length xs ≤ 0 → xs ≡ []
-nothing_of [] l = refl
-nothing_of (x ∷ xs) l = absurd (omega arith)
-
--- a list of one element at most that has this one
-only : {X : Type 0} (x : X) (xs : List X) → length xs ≤ 1 → In x xs → xs ≡ x ∷ []
-only x [] l i = absurd i
-only x (y ∷ []) l (inl e) = ap (λ (z : _). z ∷ []) e
-only x (y ∷ []) l (inr i) = absurd i
-only x (y ∷ z ∷ xs) l i = absurd (omega arith)
-
-one_of : {X : Type 0} (xs : List X) → length xs ≡ 1 → (x : X) × (xs ≡ x ∷ [])
-one_of [] e = absurd (omega arith)
-one_of (x ∷ []) e = (x, refl)
-one_of (x ∷ y ∷ xs) e = absurd (omega arith)
-
-only_request : (x : PlainMessage) (index : ℕ) (m : PlainMessage) → slice_get (x ∷ []) index ≡ Some m → x ≡ m
-only_request x zero m e = cc
-only_request x (suc index) m e = cc
-
-not_two : (config : PlainConfig) (m n : PlainMessage) (ms : List PlainMessage) → IsBuilt config (m ∷ n ∷ ms) → ⊥
-not_two config m n ms b = let e : m ∷ n ∷ ms ≡ b.request ∷ [] = b.alone in cc
-
-echoed_one : (k limit : ℕ) (events : List Event) (m : PlainMessage) (served : List PlainEntry) (answers : List PlainMessage)
-    → AnsweredOnce k events (m ∷ []) [] served answers → AreEchoes limit served → HasMaps m → HaveMaps served answers → AreEchoed 0 limit (m ∷ []) served answers
-echoed_one k limit events m served answers p echoes maps have =
-    let one = one_of answers p.count in
-    let recorded = p.each 0 one.0 (ap (λ (z : List PlainMessage). slice_get z 0) one.1) in
-    let fresh : p.served.grew.fresh ≡ served = sym p.served.grew.longer in
-    let few : length served ≤ 1 = grew_few [] served (m ∷ []) p.served.grew in
-    let among : In recorded.entry served = subst (λ (z : List PlainEntry). In recorded.entry z) fresh recorded.among in
-    let alone : served ≡ recorded.entry ∷ [] = only recorded.entry served few among in
-    let asked = p.served.grew.as_asked recorded.entry recorded.among in
-    let same : SameMessage recorded.entry.request m =
-    subst (λ (z : PlainMessage). SameMessage recorded.entry.request z) (sym (only_request m asked.index asked.asked asked.asked_is)) asked.same in
-    let told = subst (λ (z : List PlainEntry). HaveMaps z (one.0 ∷ [])) alone (subst (HaveMaps served) one.1 have) in
-    subst (λ (z : List PlainEntry). AreEchoed 0 limit (m ∷ []) z answers) (sym alone)
-    (subst (AreEchoed 0 limit (m ∷ []) (recorded.entry ∷ [])) (sym one.1)
-    (record { stream_is = recorded.stream_is; asked = same; response_is = echoes recorded.entry among; told = recorded.same }, maps, told.0, told.1, tt))
-
-echoed : (k limit : ℕ) (config : PlainConfig) (events : List Event) (requests : List PlainMessage) (served : List PlainEntry) (answers : List PlainMessage)
-    → AnsweredOnce k events requests [] served answers → AreEchoes limit served → (requests ≢ [] → IsBuilt config requests) → All HasMaps requests → HaveMaps served answers
-    → AreEchoed 0 limit requests served answers
-echoed k limit config events [] served answers p echoes built maps have =
-    let none : served ≡ [] = nothing_of served (grew_few [] served [] p.served.grew) in
-    let count = p.count in
-    let silent : answers ≡ [] = nothing_of answers (omega (arith, count)) in
-    subst (λ (z : List PlainEntry). AreEchoed 0 limit [] z answers) (sym none) (subst (AreEchoed 0 limit [] []) (sym silent) tt)
-echoed k limit config events (m ∷ []) served answers p echoes built maps have = echoed_one k limit events m served answers p echoes (maps 0 m (omega arith)) have
-echoed k limit config events (m ∷ n ∷ ms) served answers p echoes built maps have = absurd (not_two config m n ms (built (λ e. cc)))
+use Rattle.qh_exchange.specs.Settings.{conn_config}
+use Rattle.qh_exchange.specs.Turn.{RanOut, WasIdle, WasLost, has_link_failed}
+use Rattle.qh_exchange.proofs.Reported.{reported}
 
 -- ---- what is known of an exchange
+
+abbrev IsFaultOf : PlainConfig → List PlainMessage → ℕ → Type 0
+IsFaultOf config requests index = IsFaultIndex config.max_requests config.max_field_section_size config.max_request_body requests index
+
+abbrev IsValidAt : PlainConfig → List PlainMessage → Type 0
+IsValidAt config requests = IsValidList config.max_requests config.max_field_section_size config.max_request_body requests
 
 -- what the clauses of `exchange` say of a fresh link in memory and of a service that echoes and had served nothing
 pub record Exchanged {V : Type 0} (items : V → List PlainMessage) (config : PlainConfig) (requests : List PlainMessage) (rounds : ℕ) (new : PlainLink) (after : List PlainEntry) (r : Result V ExchangeError) : Type 0 where
   pub answered : IsHonest new.events → IfOk r (λ v. AnsweredOnce config.local_id_len new.events requests [] after (items v))
   pub once : IsHonest new.events → ServedOnce config.local_id_len new.events requests [] after
-  pub empty : requests ≡ [] → IsOk r
-  pub unbuilt_list : requests ≢ [] → (IsBuilt config requests → ⊥) → IsUnbuilt r × (new.events ≡ []) × (after ≡ [])
-  pub records : IsBuilt config requests → Records [] after r
+  pub within : KeepWithin config.local_id_len (conn_config config) new.events
+  pub invalid : IfInvalid r (λ index. IsFaultOf config requests index × (new.events ≡ []) × (after ≡ []))
+  pub not_valid : (IsValidAt config requests → ⊥) → IsInvalidAnswer r × (new.events ≡ []) × (after ≡ [])
   pub answers : GrewByAnswers (λ q a. a ≡ echo config.max_response_body q) [] after
-  pub built : IfOk r (λ v. requests ≢ [] → IsBuilt config requests)
   pub cause : CountsFaults 0 new.faults (has_link_failed r)
+  pub timed_out : IfTimedOut r (WasIdle (conn_config config).idle [] (moments_of new.events))
+  pub lost : IfProtocol r (WasLost requests (Some []) (Some new.events) [] after)
   pub out_of_rounds : IfOutOfRounds r (RanOut rounds requests (Some []) (Some new.events) [] (moments_of new.events) [] after)
-  pub errors : IfErr r IsExchangeError
 
 -- the clauses of `exchange`, over a link in memory and with a service that echoes
 pub record Clauses {V : Type 0} (items : V → List PlainMessage) (config : PlainConfig) (requests : List PlainMessage) (rounds : ℕ) (old new : PlainLink) (before after : List PlainEntry)
@@ -108,14 +61,24 @@ pub record Clauses {V : Type 0} (items : V → List PlainMessage) (config : Plai
       → IfOk r (λ v. AnsweredOnce config.local_id_len events requests before after (items v))
   pub once : (events : List Event) → Some old.events ≡ Some [] → Some new.events ≡ Some events → IsHonest events
       → ServedOnce config.local_id_len events requests before after
-  pub empty : requests ≡ [] → IsOk r × (new ≡ old) × (after ≡ before)
-  pub unbuilt_list : requests ≢ [] → (IsBuilt config requests → ⊥) → IsUnbuilt r × (new ≡ old) × (after ≡ before)
-  pub records : IsBuilt config requests → Records before after r
+  pub within : (earlier more : List Event) → Some old.events ≡ Some earlier → Some new.events ≡ Some (earlier ++ more)
+      → KeepWithin config.local_id_len (conn_config config) more
+  pub invalid : IfInvalid r (λ index. IsFaultOf config requests index × (new ≡ old) × (after ≡ before))
+  pub not_valid : (IsValidAt config requests → ⊥) → IsInvalidAnswer r × (new ≡ old) × (after ≡ before)
   pub answers : GrewByAnswers (λ q a. a ≡ echo config.max_response_body q) before after
-  pub built : IfOk r (λ v. requests ≢ [] → IsBuilt config requests)
   pub cause : CountsFaults old.faults new.faults (has_link_failed r)
+  pub timed_out : IfTimedOut r (WasIdle (conn_config config).idle (moments_of old.events) (moments_of new.events))
+  pub lost : IfProtocol r (WasLost requests (Some old.events) (Some new.events) before after)
   pub out_of_rounds : IfOutOfRounds r (RanOut rounds requests (Some old.events) (Some new.events) (moments_of old.events) (moments_of new.events) before after)
-  pub errors : IfErr r IsExchangeError
+
+invalid_weaker : {V : Type 0} (r : Result V ExchangeError) (P Q : ℕ → Type 0) → ((index : ℕ) → P index → Q index) → IfInvalid r P → IfInvalid r Q
+invalid_weaker (Ok v) P Q f h = tt
+invalid_weaker (Err (Invalid index)) P Q f h = f index h
+invalid_weaker (Err Link) P Q f h = tt
+invalid_weaker (Err TimedOut) P Q f h = tt
+invalid_weaker (Err OutOfRounds) P Q f h = tt
+invalid_weaker (Err (Protocol x)) P Q f h = tt
+invalid_weaker (Err Memory) P Q f h = tt
 
 -- the same, where nothing had happened on the link and nothing was served
 exchanged : {V : Type 0} (items : V → List PlainMessage) (config : PlainConfig) (requests : List PlainMessage) (rounds : ℕ) (old new : PlainLink) (before after : List PlainEntry)
@@ -123,18 +86,21 @@ exchanged : {V : Type 0} (items : V → List PlainMessage) (config : PlainConfig
     → Exchanged items config requests rounds new after r
 exchanged items config requests rounds old new before after r none never nothing x =
     let fresh : Some old.events ≡ Some [] = ap Some none in
+    let unused : new ≡ old → new.events ≡ [] = λ e. ap (λ (l : PlainLink). l.events) e ∙ none in
     record {
       answered = λ h. subst (λ (z : List PlainEntry). IfOk r (λ v. AnsweredOnce config.local_id_len new.events requests z after (items v))) nothing (x.answered new.events fresh refl h);
       once = λ h. subst (λ (z : List PlainEntry). ServedOnce config.local_id_len new.events requests z after) nothing (x.once new.events fresh refl h);
-      empty = λ e. (x.empty e).0;
-      unbuilt_list = λ some n. let a = x.unbuilt_list some n in (a.0, ap (λ (l : PlainLink). l.events) a.1 ∙ none, a.2 ∙ nothing);
-      records = λ b. subst (λ (z : List PlainEntry). Records z after r) nothing (x.records b);
+      within = x.within [] new.events fresh refl;
+      invalid = invalid_weaker r (λ index. IsFaultOf config requests index × (new ≡ old) × (after ≡ before)) (λ index. IsFaultOf config requests index × (new.events ≡ []) × (after ≡ []))
+          (λ index h. (h.0, unused h.1, h.2 ∙ nothing)) x.invalid;
+      not_valid = λ n. let a = x.not_valid n in (a.0, unused a.1, a.2 ∙ nothing);
       answers = subst (λ (z : List PlainEntry). GrewByAnswers (λ q a. a ≡ echo config.max_response_body q) z after) nothing x.answers;
-      built = x.built;
       cause = subst (λ (z : ℕ). CountsFaults z new.faults (has_link_failed r)) never x.cause;
+      timed_out = subst (λ (z : List Event). IfTimedOut r (WasIdle (conn_config config).idle (moments_of z) (moments_of new.events))) none x.timed_out;
+      lost = subst (λ (z : List PlainEntry). IfProtocol r (WasLost requests (Some []) (Some new.events) z after)) nothing
+          (subst (λ (z : List Event). IfProtocol r (WasLost requests (Some z) (Some new.events) before after)) none x.lost);
       out_of_rounds = subst (λ (z : List PlainEntry). IfOutOfRounds r (RanOut rounds requests (Some []) (Some new.events) [] (moments_of new.events) z after)) nothing
           (subst (λ (z : List Event). IfOutOfRounds r (RanOut rounds requests (Some z) (Some new.events) (moments_of z) (moments_of new.events) before after)) none x.out_of_rounds);
-      errors = x.errors;
     }
 
 abbrev step_in : Option Plan → ℕ
@@ -145,6 +111,8 @@ abbrev schedule_in : Option Plan → List Upset
 schedule_in None = []
 schedule_in (Some p) = p.schedule
 
+-- ---- an error says the same of any value that isn't there
+
 rounds_as : (V W : Type 0) (e : ExchangeError) (P : Type 0) → IfOutOfRounds {T = V} (Err e) P → IfOutOfRounds {T = W} (Err e) P
 rounds_as V W (Invalid index) P h = tt
 rounds_as V W Link P h = tt
@@ -152,26 +120,38 @@ rounds_as V W TimedOut P h = tt
 rounds_as V W OutOfRounds P h = h
 rounds_as V W (Protocol x) P h = tt
 rounds_as V W Memory P h = tt
-rounds_as V W Unbuilt P h = tt
 
-unbuilt_as : (V W : Type 0) (e : ExchangeError) → IsUnbuilt {T = V} (Err e) → IsUnbuilt {T = W} (Err e)
-unbuilt_as V W (Invalid index) h = absurd h
-unbuilt_as V W Link h = absurd h
-unbuilt_as V W TimedOut h = absurd h
-unbuilt_as V W OutOfRounds h = absurd h
-unbuilt_as V W (Protocol x) h = absurd h
-unbuilt_as V W Memory h = tt
-unbuilt_as V W Unbuilt h = tt
+time_as : (V W : Type 0) (e : ExchangeError) (P : Type 0) → IfTimedOut {T = V} (Err e) P → IfTimedOut {T = W} (Err e) P
+time_as V W (Invalid index) P h = tt
+time_as V W Link P h = tt
+time_as V W TimedOut P h = h
+time_as V W OutOfRounds P h = tt
+time_as V W (Protocol x) P h = tt
+time_as V W Memory P h = tt
 
-unbuilt_why : (V W : Type 0) (e : ExchangeError) (requests : List PlainMessage) (after : List PlainEntry) (B : Type 0)
-    → (requests ≡ [] → IsOk {T = V} (Err e)) → (B → Records {T = V} [] after (Err e)) → IfUnbuilt {T = W} (Err e) ((requests ≢ []) × (B → HasUnbuilt after))
-unbuilt_why V W (Invalid index) requests after B none records = tt
-unbuilt_why V W Link requests after B none records = tt
-unbuilt_why V W TimedOut requests after B none records = tt
-unbuilt_why V W OutOfRounds requests after B none records = tt
-unbuilt_why V W (Protocol x) requests after B none records = tt
-unbuilt_why V W Memory requests after B none records = tt
-unbuilt_why V W Unbuilt requests after B none records = (λ e. false≢true (none e), λ b. let x = records b in subst HasUnbuilt (sym x.longer) x.built)
+loss_as : (V W : Type 0) (e : ExchangeError) (P : ConnectionError → Type 0) → IfProtocol {T = V} (Err e) P → IfProtocol {T = W} (Err e) P
+loss_as V W (Invalid index) P h = tt
+loss_as V W Link P h = tt
+loss_as V W TimedOut P h = tt
+loss_as V W OutOfRounds P h = tt
+loss_as V W (Protocol x) P h = h
+loss_as V W Memory P h = tt
+
+fault_as : (V W : Type 0) (e : ExchangeError) (P : ℕ → Type 0) → IfInvalid {T = V} (Err e) P → IfInvalid {T = W} (Err e) P
+fault_as V W (Invalid index) P h = h
+fault_as V W Link P h = tt
+fault_as V W TimedOut P h = tt
+fault_as V W OutOfRounds P h = tt
+fault_as V W (Protocol x) P h = tt
+fault_as V W Memory P h = tt
+
+invalid_as : (V W : Type 0) (e : ExchangeError) → IsInvalidAnswer {T = V} (Err e) → IsInvalidAnswer {T = W} (Err e)
+invalid_as V W (Invalid index) h = tt
+invalid_as V W Link h = absurd h
+invalid_as V W TimedOut h = absurd h
+invalid_as V W OutOfRounds h = absurd h
+invalid_as V W (Protocol x) h = absurd h
+invalid_as V W Memory h = tt
 
 -- what a record that grew from nothing has
 grown_echoes : (limit : ℕ) (after : List PlainEntry) → GrewByAnswers (λ q a. a ≡ echo limit q) [] after → AreEchoes limit after
@@ -191,18 +171,19 @@ ends_ok items s new after v w x step schedule scheduled maps ends =
       served_once = λ u. x.once (honest u);
       answered_once = λ u. x.answered (honest u);
       echoes = echoes;
+      kept_within = x.within;
       cause = x.cause;
+      invalid = tt;
+      not_valid = λ n. let a = x.not_valid n in absurd a.0;
+      timed_out = tt;
+      lost = tt;
       out_of_rounds = tt;
-      unbuilt = tt;
-      unbuilt_list = λ some n. let a = x.unbuilt_list some n in absurd a.0;
-      errors = tt;
     } in
     IfOk-weaker w (λ (e : Ending). EndsAnswered after (items v) e.status e.text.items) (λ (e : Ending). ScriptEnds s new after e.status e.text.items)
     (λ e h. subst (λ (z : ℕ). ScriptEnds s new after z e.text.items) (sym h.status_is)
     (subst (λ (z : List ℕ). ScriptEnds s new after 0 z) (sym h.text_is)
     (answered (items v) run
-    (λ u. echoes_told s.config.max_response_body s.requests after (items v)
-    (echoed s.config.local_id_len s.config.max_response_body s.config new.events s.requests after (items v) (x.answered (honest u)) echoes x.built maps h.maps)))))
+    (λ u. reported s.config.local_id_len s.config.max_response_body new.events s.requests after (items v) (x.answered (honest u)) echoes maps h.maps))))
     ends
 
 ends_err : {V : Type 0} (items : V → List PlainMessage) (s : Script) (new : PlainLink) (after : List PlainEntry) (x : ExchangeError) (w : Result Ending OutOfMemory)
@@ -216,11 +197,13 @@ ends_err {V} items s new after x w known step schedule scheduled ends =
       served_once = λ u. known.once (honest u);
       answered_once = λ u. tt;
       echoes = grown_echoes s.config.max_response_body after known.answers;
+      kept_within = known.within;
       cause = known.cause;
+      invalid = fault_as V (List PlainMessage) x _ known.invalid;
+      not_valid = λ n. let a = known.not_valid n in (invalid_as V (List PlainMessage) x a.0, a.1, a.2);
+      timed_out = time_as V (List PlainMessage) x _ known.timed_out;
+      lost = loss_as V (List PlainMessage) x _ known.lost;
       out_of_rounds = rounds_as V (List PlainMessage) x _ known.out_of_rounds;
-      unbuilt = unbuilt_why V (List PlainMessage) x s.requests after _ known.empty known.records;
-      unbuilt_list = λ some n. let a = known.unbuilt_list some n in (unbuilt_as V (List PlainMessage) x a.0, a.1, a.2);
-      errors = known.errors;
     } in
     IfOk-weaker w (λ (e : Ending). EndsFailed after x e.status e.text.items) (λ (e : Ending). ScriptEnds s new after e.status e.text.items)
     (λ e h. subst (λ (z : List ℕ). ScriptEnds s new after e.status z) (sym h.text_is) (failed x e.status h.last run h.last_is))

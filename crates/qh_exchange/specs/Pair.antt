@@ -1,111 +1,125 @@
 -- How a pair stands to what happened on its link, and what its service recorded, since it was opened. No object stores
 -- these lists.
-use Rattle.std.specs.Prelude.{◌≡◌, ◌⊎◌, ℕ, ◌*◌, false, List, [], ◌++◌, Option, Some, None, length, slice_get}
-use Rattle.qh_conn.specs.Connection.{ConnectionState}
-use Rattle.qh_conn.specs.Follows.{Follows}
-use Rattle.qh_conn.specs.Session.{PlainKeys}
-use Rattle.qh_service.specs.declared.service.Limits.{Limits}
+use Rattle.std.specs.Prelude.{◌≡◌, ◌⊎◌, ℕ, ◌*◌, Bool, true, false, not, List, [], ◌∷◌, ◌++◌, Option, Some, None, length, filter, map, slice_get, MatchBool}
+use Rattle.qh_connection.specs.Follows.{Follows, IsWithinLimits}
+use Rattle.qh_connection.specs.declared.config.ConnConfig.{ConnConfig}
+use Rattle.qh_connection.specs.declared.inner.Inner.{Inner}
+use Rattle.qh_packet.specs.Session.{PlainKeys}
+use Rattle.qh_roles.specs.Client.{PlainClient, Asking, HasOpened}
+use Rattle.qh_roles.specs.Server.{PlainServer, Serving, HasAccepted}
 use Rattle.qh_spec.specs.declared.link.Event.{Event}
+use Rattle.qh_spec.specs.declared.link.Event.TheVariants.{Sent, Given, Dry, Round, Fault}
 use Rattle.qh_spec.specs.declared.sides.Side.{Side}
 use Rattle.qh_spec.specs.declared.sides.Side.TheVariants.{Client, Server}
-use Rattle.qh_spec.specs.Growth.{streams_of}
 use Rattle.qh_spec.specs.Headline.{ServedOnce, IsRecordedAnswer}
-use Rattle.qh_spec.specs.Lawful.{WritesMessage, ReadsMessage}
-use Rattle.qh_spec.specs.Link.{sent_by, given_to}
-use Rattle.qh_spec.specs.Lists.{In, Distinct}
-use Rattle.qh_spec.specs.Message.{PlainMessage, IsRequest, IsResponse}
+use Rattle.qh_spec.specs.Honest.{IsHonest}
+use Rattle.qh_spec.specs.Lawful.{Lawful}
+use Rattle.qh_spec.specs.Link.{if_same_side}
+use Rattle.qh_spec.specs.Message.{PlainMessage}
 use Rattle.qh_spec.specs.Record.{PlainEntry}
-use Rattle.qh_spec.specs.Transcript.{Act, handed_in, handed_out, written, finished}
+use Rattle.qh_spec.specs.Transcript.{Act, HandedIn, HandedOut, handed_in, handed_out}
 
 -- an end of a connection with a plain session
 abbrev pub End : Type 0
-End = ConnectionState PlainKeys
+End = Inner PlainKeys
 
 pub record PairState : Type 0 where
   -- how many bytes the connection ids of the two ends have
   pub id_length : ℕ
-  pub limits : Limits
-  pub requests : List PlainMessage
+  -- what both ends begin with
+  pub config : ConnConfig
+  pub client : PlainClient
+  pub server : PlainServer
   -- the two ends, from the first turn on
-  pub client : Option End
-  pub server : Option End
-  -- of the first requests, in order
-  pub answers : List PlainMessage
+  pub client_end : Option End
+  pub server_end : Option End
+  -- a turn answered an error, or is being made
+  pub is_over : Bool
+
+-- ---- an end and its acts
 
 -- this side's end, between ids of this length
-pub record IsEndOf (side : Side) (id_length : ℕ) (c : End) : Type 0 where
+pub record IsEndOf (side : Side) (id_length : ℕ) (config : ConnConfig) (c : End) : Type 0 where
   pub side_is : c.side ≡ side
   pub local : length c.local_id ≡ id_length
   pub remote : length c.remote_id ≡ id_length
+  pub config_is : c.config ≡ config
 
 -- an end stands where this transcript leaves it; one that isn't there has none
-abbrev pub Stands : Side → ℕ → Option End → List Act → Type 0
-Stands side id_length None t = t ≡ []
-Stands side id_length (Some c) t = IsEndOf side id_length c × Follows c t
+abbrev pub Stands : Side → ℕ → ConnConfig → Option End → List Act → Type 0
+Stands side id_length config None t = t ≡ []
+Stands side id_length config (Some c) t = IsEndOf side id_length config c × Follows c t
 
--- an end with its transcript, of which the events tell: what was handed in was given on the link, and what was sent on
--- it was handed out
-pub record EndAt (side : Side) (id_length : ℕ) (end : Option End) (events : List Event) (t : List Act) : Type 0 where
-  pub stands : Stands side id_length end t
-  pub given : (d : List ℕ) → In d (handed_in t) → In d (given_to side events)
-  pub sent : (d : List ℕ) → In d (sent_by side events) → In d (handed_out t)
+-- the acts that hand datagrams in and out, in order
+abbrev pub is_wire : Act → Bool
+is_wire (HandedIn d) = true
+is_wire (HandedOut d) = true
+is_wire _ = false
 
--- nothing was written on the stream
-abbrev pub IsUntouched : List Act → ℕ → Type 0
-IsUntouched t stream = (written t stream ≡ []) × (finished t stream ≡ false)
+abbrev pub wire : List Act → List Act
+wire t = filter is_wire t
 
--- one of the requests is written on the stream, which has its index
-pub record Asks (requests : List PlainMessage) (t : List Act) (stream : ℕ) : Type 0 where
-  pub index : ℕ
-  pub asked : PlainMessage
-  pub asked_is : slice_get requests index ≡ Some asked
-  pub stream_is : stream ≡ 4 * index
-  pub is_request : IsRequest asked.head
-  pub writes : WritesMessage t stream asked
+-- what the link tells of a side: a datagram that was given to it was handed in, one that it sent was handed out
+abbrev pub told_acts : Side → List Event → List Act
+told_acts s [] = []
+told_acts s (Sent t d ∷ es) = if_same_side s t (HandedOut d ∷ told_acts s es) (told_acts s es)
+told_acts s (Given t d ∷ es) = if_same_side s t (HandedIn d ∷ told_acts s es) (told_acts s es)
+told_acts s (Dry t ∷ es) = told_acts s es
+told_acts s (Round n ∷ es) = told_acts s es
+told_acts s (Fault ∷ es) = told_acts s es
 
--- what a client does with its streams: it writes requests, and its answers are what it read
-pub record Asking (requests answers : List PlainMessage) (t : List Act) : Type 0 where
-  pub asks : (stream : ℕ) → IsUntouched t stream ⊎ Asks requests t stream
-  pub answers_are : (index : ℕ) (answer : PlainMessage) → slice_get answers index ≡ Some answer
-      → IsResponse answer.head × ReadsMessage t (4 * index) answer
+-- The wire saw what the link tells. Where a call failed, the last datagram was given and not handed in, or handed out and not sent.
+pub data IsTold (side : Side) (events : List Event) (t : List Act) : Type 0 where
+  all : wire t ≡ told_acts side events → IsTold side events t
+  unhanded : (d : List ℕ) → told_acts side events ≡ wire t ++ HandedIn d ∷ [] → IsTold side events t
+  unsent : (d : List ℕ) → wire t ≡ told_acts side events ++ HandedOut d ∷ [] → IsTold side events t
 
--- the response of an entry is written on its stream
-pub record Responds (entries : List PlainEntry) (t : List Act) (stream : ℕ) : Type 0 where
-  pub entry : PlainEntry
-  pub among : In entry entries
-  pub stream_is : entry.stream ≡ stream
-  pub is_response : IsResponse entry.response.head
-  pub writes : WritesMessage t stream entry.response
+-- the wire saw all that the link tells, where no call failed
+abbrev pub IsToldIf : Bool → Side → List Event → List Act → Type 0
+IsToldIf is_whole side events t = MatchBool is_whole (wire t ≡ told_acts side events) (IsTold side events t)
 
--- what a server does with its streams: the requests of the entries are what it read, no stream twice, and it writes their
--- responses
-pub record Serving (entries : List PlainEntry) (t : List Act) : Type 0 where
-  pub served : (e : PlainEntry) → In e entries → IsRequest e.request.head × ReadsMessage t e.stream e.request
-  pub once : Distinct (streams_of entries)
-  pub responds : (stream : ℕ) → IsUntouched t stream ⊎ Responds entries t stream
+-- an end with its transcript, of which the events tell
+pub record EndAt (is_whole : Bool) (side : Side) (id_length : ℕ) (config : ConnConfig) (end : Option End) (events : List Event) (t : List Act) : Type 0 where
+  pub stands : Stands side id_length config end t
+  pub told : IsToldIf is_whole side events t
 
-pub record ClientAt (p : PairState) (events : List Event) : Type 0 where
+-- ---- a pair
+
+-- as many streams were opened as the client says; none where there is no end
+abbrev pub HasOpenedEnd : PlainClient → Option End → Type 0
+HasOpenedEnd c None = c.next ≡ 0
+HasOpenedEnd c (Some end) = HasOpened c end
+
+-- as many streams were accepted as the server says
+abbrev pub HasAcceptedEnd : PlainServer → Option End → Type 0
+HasAcceptedEnd s None = s.accepted ≡ 0
+HasAcceptedEnd s (Some end) = HasAccepted s end
+
+pub record ClientAt (is_whole : Bool) (p : PairState) (events : List Event) : Type 0 where
   pub acts : List Act
-  pub at : EndAt Client p.id_length p.client events acts
-  pub asking : Asking p.requests p.answers acts
+  pub at : EndAt is_whole Client p.id_length p.config p.client_end events acts
+  pub asking : Asking p.client acts
+  pub opened : HasOpenedEnd p.client p.client_end
 
-pub record ServerAt (p : PairState) (events : List Event) (entries : List PlainEntry) : Type 0 where
+pub record ServerAt (is_whole : Bool) (p : PairState) (events : List Event) (entries : List PlainEntry) : Type 0 where
   pub acts : List Act
-  pub at : EndAt Server p.id_length p.server events acts
-  pub serving : Serving entries acts
+  pub at : EndAt is_whole Server p.id_length p.config p.server_end events acts
+  pub serving : Serving p.server entries acts
+  pub accepted : HasAcceptedEnd p.server p.server_end
 
 -- the pair stands where these events and entries leave it
-pub record IsRunning (p : PairState) (events : List Event) (entries : List PlainEntry) : Type 0 where
-  pub client : ClientAt p events
-  pub server : ServerAt p events entries
+pub record IsRunning (is_whole : Bool) (p : PairState) (events : List Event) (entries : List PlainEntry) : Type 0 where
+  pub client : ClientAt is_whole p events
+  pub server : ServerAt is_whole p events entries
 
 unfoldable pub Running : PairState → List Event → List PlainEntry → Type 0
-Running p events entries = IsRunning p events entries
+Running p events entries = IsRunning (not p.is_over) p events entries
 
--- the pair has the same requests, and stands where what the link and the service tell now leaves it
+-- the pair has the same requests and settings, and stands where what the link and the service tell now leaves it
 pub record WentOn (old new : PairState) (earlier events : List Event) (told : Option (List Event)) (before entries served : List PlainEntry) : Type 0 where
-  pub same_requests : new.requests ≡ old.requests
+  pub same_requests : new.client.requests ≡ old.client.requests
   pub same_ids : new.id_length ≡ old.id_length
+  pub same_config : new.config ≡ old.config
   pub more : List Event
   pub told_is : told ≡ Some (earlier ++ (events ++ more))
   pub fresh : List PlainEntry
@@ -119,9 +133,26 @@ GoesOn old told_before served_before new told_after served_after =
     → Running old events entries → told_before ≡ Some (earlier ++ events) → served_before ≡ before ++ entries
     → WentOn old new earlier events told_after before entries served_after
 
+-- ---- what it means
+
 -- What a pair means over an honest link: no request was served twice or altered, each that was served was whole in what
 -- the server was given, and each answer that is held is the one recorded and was whole in what the client was given.
 pub record Means (p : PairState) (events : List Event) (before entries : List PlainEntry) : Type 0 where
-  pub served : ServedOnce p.id_length events p.requests before (before ++ entries)
-  pub answered : (index : ℕ) (answer : PlainMessage) → slice_get p.answers index ≡ Some answer
+  pub served : ServedOnce p.id_length events p.client.requests before (before ++ entries)
+  pub answered : (index : ℕ) (answer : PlainMessage) → slice_get p.client.answers index ≡ Some (Some answer)
       → IsRecordedAnswer p.id_length events entries index answer
+
+-- A side that sent this datagram behind these events kept within the limits that it was given before: some transcript of it, of
+-- which the events tell and by which it sent only what was written, has no more written than the peer's credit, on each stream
+-- and on all, and no stream past the peer's count (RFC 9000, sections 4.1 and 4.6).
+pub record KeptWithin (id_length : ℕ) (config : ConnConfig) (side : Side) (before : List Event) (datagram : List ℕ) : Type 0 where
+  pub acts : List Act
+  pub told : wire acts ≡ told_acts side before
+  pub rest : List Act
+  pub lawful : Lawful side id_length id_length (acts ++ (HandedOut datagram ∷ rest))
+  pub within : IsWithinLimits id_length id_length side config acts datagram
+
+-- so did each that was sent, over any link
+abbrev pub KeepWithin : ℕ → ConnConfig → List Event → Type 0
+KeepWithin id_length config events = (before after : List Event) (side : Side) (datagram : List ℕ) → events ≡ before ++ Sent side datagram ∷ after
+    → KeptWithin id_length config side before datagram

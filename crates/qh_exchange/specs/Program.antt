@@ -1,27 +1,30 @@
 -- What a run of the program reads, does and writes, by its status (own).
-use Rattle.std.specs.Prelude.{◌≡◌, ◌≢◌, ◌⊎◌, ℕ, ◌<◌, ◌≤◌, List, [], ◌++◌, codes, decimal, flat_map, Option, Some, Result, Ok, Err, IfOk, IfErr}
+use Rattle.std.specs.Prelude.{◌≡◌, ◌≢◌, ◌⊎◌, ℕ, ◌<◌, ◌≤◌, List, [], ◌++◌, codes, decimal, flat_map, Option, Some, Result, Ok, Err, IfOk}
 use Rattle.qh_spec.specs.Fault.{Rose, CountsFaults}
 use Rattle.qh_spec.specs.Headline.{ServedOnce, AnsweredOnce}
 use Rattle.qh_spec.specs.Link.{moments_of}
 use Rattle.qh_spec.specs.Lists.{In}
 use Rattle.qh_spec.specs.Message.{PlainMessage}
 use Rattle.qh_spec.specs.Record.{PlainEntry}
-use Rattle.qh_spec.specs.Report.{newline, entry_block, report, report_of}
+use Rattle.qh_spec.specs.Report.{newline, entry_block, report_of}
 use Rattle.qh_spec.specs.Schedule.{IsUnforged}
 use Rattle.qh_spec.specs.Service.{echo}
 use Rattle.qh_spec.specs.Script.{Script, IsScript, IsRefusedAt, rounds_of}
 use Rattle.qh_spec.specs.TokenFilter.{TokenLimits}
 use Rattle.qh_spec.specs.TokenLog.{Token}
 use Rattle.qh_spec.specs.TokenScript.{IsTokenScript, IsTokenRefusedAt, token_report}
+use Rattle.qh_spec.specs.Validity.{IsFaultIndex, IsValidList}
 use Rattle.qh_spec.specs.Words.{Command, Exchange, Tokens, IsCommand, AreUnknown}
 use Rattle.qh_base.specs.declared.connection_error.ConnectionError.{ConnectionError}
 use Rattle.qh_link.specs.ScriptLink.{PlainLink}
+use Rattle.qh_script.specs.Report.{report_by}
 use Rattle.qh_exchange.specs.declared.error.ExchangeError.{ExchangeError}
-use Rattle.qh_exchange.specs.declared.error.ExchangeError.TheVariants.{Invalid, Link, TimedOut, OutOfRounds, Protocol, Memory, Unbuilt}
-use Rattle.qh_exchange.specs.Exchange.{IsExchangeError, IsUnbuilt, IfUnbuilt, IfOutOfRounds, RanOut}
+use Rattle.qh_exchange.specs.declared.error.ExchangeError.TheVariants.{Invalid, Link, TimedOut, OutOfRounds, Protocol, Memory}
+use Rattle.qh_exchange.specs.Exchange.{IfInvalid, IfOutOfRounds, IfProtocol, IfTimedOut, IsInvalidAnswer}
+use Rattle.qh_exchange.specs.Pair.{KeepWithin}
 use Rattle.qh_exchange.specs.Reading.{IsRead, IsInput, IsAppended, IsWritten}
-use Rattle.qh_exchange.specs.Small.{IsBuilt}
-use Rattle.qh_exchange.specs.Turn.{HasUnbuilt, has_link_failed}
+use Rattle.qh_exchange.specs.Settings.{conn_config}
+use Rattle.qh_exchange.specs.Turn.{RanOut, WasIdle, WasLost, has_link_failed}
 use Rattle.qh_exchange.specs.Unbuilt.{IsUnbuiltAt}
 
 -- ---- the last lines
@@ -46,17 +49,6 @@ pub data IsLastLine : ExchangeError → ℕ → List ℕ → Type 0 where
   link : IsLastLine Link 7 (codes "link" ++ newline)
   protocol : (e : ConnectionError) → IsLastLine (Protocol e) 8 (codes "protocol" ++ newline)
   memory_wanting : IsLastLine Memory 9 memory_line
-  not_built : IsLastLine Unbuilt 12 unbuilt_line
-
--- what is told before the last line: the entries of the record, but nothing of what isn't built
-abbrev pub entries_told : ExchangeError → List PlainEntry → List ℕ
-entries_told Unbuilt served = []
-entries_told (Invalid index) served = flat_map entry_block served
-entries_told TimedOut served = flat_map entry_block served
-entries_told OutOfRounds served = flat_map entry_block served
-entries_told Link served = flat_map entry_block served
-entries_told (Protocol e) served = flat_map entry_block served
-entries_told Memory served = flat_map entry_block served
 
 -- ---- what is done
 
@@ -73,19 +65,22 @@ pub record HasRun (s : Script) (link : PlainLink) (served : List PlainEntry) (re
   pub served_once : IsUnforged s.schedule → ServedOnce s.config.local_id_len link.events s.requests [] served
   pub answered_once : IsUnforged s.schedule → IfOk result (λ answers. AnsweredOnce s.config.local_id_len link.events s.requests [] served answers)
   pub echoes : AreEchoes s.config.max_response_body served
+  -- what an end sent kept within what it was given before, whatever the schedule does
+  pub kept_within : KeepWithin s.config.local_id_len (conn_config s.config) link.events
   -- why it failed
   pub cause : CountsFaults 0 link.faults (has_link_failed result)
+  pub invalid : IfInvalid result (λ index. IsFaultIndex s.config.max_requests s.config.max_field_section_size s.config.max_request_body s.requests index × (link.events ≡ []) × (served ≡ []))
+  pub not_valid : (IsValidList s.config.max_requests s.config.max_field_section_size s.config.max_request_body s.requests → ⊥) → IsInvalidAnswer result × (link.events ≡ []) × (served ≡ [])
+  pub timed_out : IfTimedOut result (WasIdle (conn_config s.config).idle [] (moments_of link.events))
+  pub lost : IfProtocol result (WasLost s.requests (Some []) (Some link.events) [] served)
   pub out_of_rounds : IfOutOfRounds result (RanOut (rounds_of s) s.requests (Some []) (Some link.events) [] (moments_of link.events) [] served)
-  pub unbuilt : IfUnbuilt result ((s.requests ≢ []) × (IsBuilt s.config s.requests → HasUnbuilt served))
-  pub unbuilt_list : s.requests ≢ [] → (IsBuilt s.config s.requests → ⊥) → IsUnbuilt result × (link.events ≡ []) × (served ≡ [])
-  pub errors : IfErr result IsExchangeError
 
 -- how a run ends that had a script: its status and its text
 pub data ScriptEnds (s : Script) (link : PlainLink) (served : List PlainEntry) : (status : ℕ) → (text : List ℕ) → Type 0 where
   answered : (answers : List PlainMessage) → HasRun s link served (Ok answers)
-      → (IsUnforged s.schedule → report served answers ≡ report_of s.config.max_response_body s.requests) → ScriptEnds s link served 0 (report served answers)
+      → (IsUnforged s.schedule → report_by served answers ≡ report_of s.config.max_response_body s.requests) → ScriptEnds s link served 0 (report_by served answers)
   failed : (e : ExchangeError) (status : ℕ) (last : List ℕ) → HasRun s link served (Err e) → IsLastLine e status last
-      → ScriptEnds s link served status (entries_told e served ++ last)
+      → ScriptEnds s link served status (flat_map entry_block served ++ last)
 
 -- How a run ends that read a text: a line of it is refused, or isn't built yet, whichever comes first, or it is a script.
 pub data TextEnds (text : List ℕ) (link : PlainLink) (served : List PlainEntry) : (status : ℕ) → (written : List ℕ) → Type 0 where

@@ -1,12 +1,17 @@
--- What a turn and its steps add to the events of a link.
-use Rattle.std.specs.Prelude.{◌≡◌, Bool, true, false, List, ◌++◌, Option, Some, Result, Ok, Err}
+-- What a turn and its steps add to the events of a link, and why one fails.
+use Rattle.std.specs.Prelude.{◌≡◌, ◌≢◌, ◌⊎◌, ◌<◌, ℕ, Bool, true, false, List, [], ◌++◌, Option, Some, None, Result, Ok, Err, length}
+use Rattle.qh_base.specs.declared.connection_error.ConnectionError.{ConnectionError}
+use Rattle.qh_base.specs.declared.connection_error.ConnectionError.TheVariants as lost
+use Rattle.qh_roles.specs.Client.{held}
 use Rattle.qh_spec.specs.declared.link.Event.{Event}
-use Rattle.qh_spec.specs.Lists.{In}
 use Rattle.qh_spec.specs.Message.{PlainMessage}
 use Rattle.qh_spec.specs.Record.{PlainEntry}
+use Rattle.qh_spec.specs.Turns.{AreWholeTurns}
+use Rattle.qh_exchange.specs.Clock.{HasPassed}
+use Rattle.qh_exchange.specs.Pair.{End, PairState, Running}
 use Rattle.qh_exchange.specs.declared.error.ExchangeError.{ExchangeError}
-use Rattle.qh_exchange.specs.declared.error.ExchangeError.TheVariants.{Invalid, Link, TimedOut, OutOfRounds, Protocol, Memory, Unbuilt}
-use Rattle.qh_exchange.specs.Small.{IsSmall}
+use Rattle.qh_exchange.specs.declared.error.ExchangeError.TheVariants.{Invalid, Link, TimedOut, OutOfRounds, Protocol, Memory}
+use Rattle.qh_base.specs.declared.time.Span.{Span}
 
 -- where the events were told they are told still, with more that are of this kind behind them
 abbrev pub Adds : (List Event → Type 0) → Option (List Event) → Option (List Event) → Type 0
@@ -15,12 +20,7 @@ Adds Kind before after = (events : List Event) → before ≡ Some events → (m
 -- the call answered that the link failed
 abbrev pub is_link : ExchangeError → Bool
 is_link Link = true
-is_link (Invalid index) = false
-is_link TimedOut = false
-is_link OutOfRounds = false
-is_link (Protocol e) = false
-is_link Memory = false
-is_link Unbuilt = false
+is_link _ = false
 
 abbrev pub has_link_failed : {T : Type 0} → Result T ExchangeError → Bool
 has_link_failed (Ok x) = false
@@ -28,41 +28,59 @@ has_link_failed (Err e) = is_link e
 
 -- the errors that a turn may answer
 abbrev pub IsTurnError : ExchangeError → Type 0
-IsTurnError Link = Unit {0}
-IsTurnError Memory = Unit {0}
-IsTurnError Unbuilt = Unit {0}
 IsTurnError (Invalid index) = ⊥
-IsTurnError TimedOut = ⊥
 IsTurnError OutOfRounds = ⊥
-IsTurnError (Protocol e) = ⊥
+IsTurnError _ = Unit {0}
 
--- each response that was recorded is small
-abbrev pub AreSmall : List PlainEntry → Type 0
-AreSmall fresh = (e : PlainEntry) → In e fresh → IsSmall e.response
+-- ---- an end that is lost
 
--- some response that was recorded isn't small
-abbrev pub HasUnbuilt : List PlainEntry → Type 0
-HasUnbuilt fresh = (e : PlainEntry) × In e fresh × (IsSmall e.response → ⊥)
+-- the end is lost, with this error
+abbrev pub IsLostWith : ConnectionError → Option End → Type 0
+IsLostWith e None = ⊥
+IsLostWith e (Some c) = c.error ≡ Some e
 
--- `Unbuilt` is answered where a response isn't small, and there alone
-abbrev pub BuiltBy : {T : Type 0} → Result T ExchangeError → List PlainEntry → Type 0
-BuiltBy (Ok x) fresh = AreSmall fresh
-BuiltBy (Err Unbuilt) fresh = HasUnbuilt fresh
-BuiltBy (Err (Invalid index)) fresh = AreSmall fresh
-BuiltBy (Err Link) fresh = AreSmall fresh
-BuiltBy (Err TimedOut) fresh = AreSmall fresh
-BuiltBy (Err OutOfRounds) fresh = AreSmall fresh
-BuiltBy (Err (Protocol e)) fresh = AreSmall fresh
-BuiltBy (Err Memory) fresh = AreSmall fresh
+abbrev pub IsNotLost : Option End → Type 0
+IsNotLost None = Unit {0}
+IsNotLost (Some c) = c.error ≡ None
 
--- the record grew by entries, whose responses are small or were answered by `Unbuilt`
-pub record Records {T : Type 0} (before after : List PlainEntry) (result : Result T ExchangeError) : Type 0 where
-  pub fresh : List PlainEntry
-  pub longer : after ≡ before ++ fresh
-  pub built : BuiltBy result fresh
+-- it is the error of the end that is lost, the client's where both are
+abbrev pub IsKeptError : ConnectionError → PairState → Type 0
+IsKeptError e p = IsLostWith e p.client_end ⊎ (IsNotLost p.client_end × IsLostWith e p.server_end)
 
--- the record grew by entries whose responses are answers to their requests
-pub record GrewByAnswers (Answer : PlainMessage → PlainMessage → Type 0) (before after : List PlainEntry) : Type 0 where
-  pub fresh : List PlainEntry
-  pub longer : after ≡ before ++ fresh
-  pub each : (e : PlainEntry) → In e fresh → Answer e.request e.response
+-- a loss of a connection other than by its idle time or for want of memory
+pub record IsProtocolLoss (e : ConnectionError) (p : PairState) : Type 0 where
+  pub kept : IsKeptError e p
+  pub not_idle : e ≢ lost.TimedOut
+  pub not_memory : e ≢ lost.Memory
+
+-- ---- how an exchange ends without its answers
+
+-- a pair with these requests made these turns
+pub record WasMade (requests : List PlainMessage) (told_before told_after : Option (List Event)) (served_before served_after : List PlainEntry) (p : PairState) : Type 0 where
+  pub asked : p.client.requests ≡ requests
+  pub stands : (events more : List Event) (fresh : List PlainEntry) → told_before ≡ Some events → told_after ≡ Some (events ++ more)
+      → served_after ≡ served_before ++ fresh → Running p more fresh
+
+-- there were requests, exactly so many rounds were made, each a whole turn where the events are told, and the pair that
+-- made them holds fewer answers than requests
+pub record RanOut (rounds : ℕ) (requests : List PlainMessage) (told_before told_after : Option (List Event)) (moments_before moments_after : List ℕ) (served_before served_after : List PlainEntry) : Type 0 where
+  pub some : requests ≢ []
+  pub turns : Adds (AreWholeTurns rounds) told_before told_after
+  pub moments : List ℕ
+  pub moments_are : moments_after ≡ moments_before ++ moments
+  pub rounds_are : length moments ≡ rounds
+  pub pair : PairState
+  pub made : WasMade requests told_before told_after served_before served_after pair
+  pub fewer : held pair.client.answers < length requests
+
+-- the pair lost the connection of one of its ends with this error
+pub record WasLost (requests : List PlainMessage) (told_before told_after : Option (List Event)) (served_before served_after : List PlainEntry) (e : ConnectionError) : Type 0 where
+  pub pair : PairState
+  pub made : WasMade requests told_before told_after served_before served_after pair
+  pub loss : IsProtocolLoss e pair
+
+-- as long as the idle time passed in this call, from its first round to its last
+pub record WasIdle (idle : Option Span) (moments_before moments_after : List ℕ) : Type 0 where
+  pub moments : List ℕ
+  pub are : moments_after ≡ moments_before ++ moments
+  pub passed : HasPassed idle moments

@@ -5,10 +5,7 @@ use Rattle.qh_spec.specs.Lines.{lines}
 
 -- the first words of these lines
 abbrev pub unbuilt_words : List (List ℕ)
-unbuilt_words =
-    codes "section" ∷ codes "response" ∷ codes "rounds" ∷ codes "step" ∷ codes "field" ∷ codes "trailer" ∷ codes "body" ∷ codes "fill"
-    ∷ codes "requestbody" ∷ codes "cap" ∷ codes "bidi" ∷ codes "window" ∷ codes "idle" ∷ codes "rtt" ∷ codes "drop" ∷ codes "twice"
-    ∷ codes "late" ∷ codes "fail" ∷ codes "retry" ∷ codes "forge" ∷ codes "grease" ∷ []
+unbuilt_words = codes "retry" ∷ codes "forge" ∷ codes "grease" ∷ []
 
 -- what stands before the first space
 abbrev pub first_word : List ℕ → List ℕ

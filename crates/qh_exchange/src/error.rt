@@ -5,28 +5,24 @@ use thiserror::Error;
 /// Why an exchange ended without all its answers.
 #[derive(Debug, PartialEq, Eq, Drop, Error)]
 pub enum ExchangeError {
-    /// The request at this index breaks a rule, or is one too many. Nothing was sent. It isn't answered yet.
+    /// The request at this index breaks a rule, or is one too many. Nothing was sent.
     #[error("request {index} isn't valid")]
     Invalid { index: usize },
     /// The link failed.
     #[error("the link failed")]
     Link,
-    /// An end heard nothing for its idle time. It isn't answered yet.
+    /// An end heard nothing for its idle time.
     #[error("timed out")]
     TimedOut,
     /// All rounds were made, and some answer is missing.
     #[error("out of rounds")]
     OutOfRounds,
-    /// An end lost its connection. It isn't answered yet.
+    /// An end lost its connection, for this reason: the client's where both did.
     #[error(transparent)]
     Protocol(ConnectionError),
     /// The allocator had no memory.
     #[error("out of memory")]
     Memory,
-    /// This stage carries one small request without fields, body and trailers, and an answer without fields and
-    /// trailers.
-    #[error("not built yet")]
-    Unbuilt,
 }
 
 impl From<LinkFault> for ExchangeError {
@@ -51,5 +47,20 @@ impl From<Memory> for ExchangeError {
 
     fn from(_: Memory) -> ExchangeError {
         ExchangeError::Memory
+    }
+}
+
+impl From<ConnectionError> for ExchangeError {
+    ghost use Rattle.std.specs.Prelude.{◌≡◌};
+    ghost use Rattle.qh_exchange.specs.Error.{error_of_loss};
+
+    ghost from_gives = { λ loss error. error ≡ error_of_loss loss };
+
+    fn from(loss: ConnectionError) -> ExchangeError {
+        match loss {
+            ConnectionError::TimedOut => ExchangeError::TimedOut,
+            ConnectionError::Memory => ExchangeError::Memory,
+            loss => ExchangeError::Protocol(loss),
+        }
     }
 }

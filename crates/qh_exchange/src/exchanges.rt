@@ -1,23 +1,28 @@
-ghost use Rattle.std.specs.Prelude.{◌≡◌, ◌≢◌, ◌<◌, ◌^◌, ◌++◌, [], ℕ, List, Some, Ok, Err, length, IfOk, IfErr, IsOk};
+ghost use Rattle.std.specs.Prelude.{◌≡◌, ◌≢◌, ◌<◌, ◌^◌, ◌++◌, [], ℕ, false, List, Some, Ok, Err, length, IfOk, IfErr, IsOk};
 ghost use Rattle.qh_spec.specs.declared.link.Event.{Event};
 ghost use Rattle.qh_spec.specs.Config.{Fits};
 ghost use Rattle.qh_spec.specs.Fault.{CountsFaults};
 ghost use Rattle.qh_spec.specs.Headline.{ServedOnce, AnsweredOnce};
 ghost use Rattle.qh_spec.specs.Honest.{IsHonest};
-ghost use Rattle.qh_exchange.specs.Exchange.{IsExchangeError, IsUnbuilt, IfOutOfRounds, RanOut};
-ghost use Rattle.qh_exchange.specs.Small.{IsBuilt, limits_of};
-ghost use Rattle.qh_exchange.specs.Turn.{Records, GrewByAnswers, has_link_failed};
+ghost use Rattle.qh_spec.specs.Validity.{IsFaultIndex, IsValidList};
+ghost use Rattle.qh_exchange.specs.Exchange.{IfInvalid, IfOutOfRounds, IfProtocol, IfTimedOut, IsInvalidAnswer};
+ghost use Rattle.qh_exchange.specs.Clock.{IsClocked};
+ghost use Rattle.qh_exchange.specs.Pair.{KeepWithin};
+ghost use Rattle.qh_exchange.specs.Rounds.{IsAsked, RoundsMade};
+ghost use Rattle.qh_roles.specs.Client.{held};
+ghost use Rattle.qh_exchange.specs.Settings.{conn_config, limits_of};
+ghost use Rattle.qh_exchange.specs.Turn.{RanOut, WasIdle, WasLost, has_link_failed};
+ghost use Rattle.qh_roles.specs.Server.{GrewByAnswers};
 
-use crate::valid::are_requests_built;
-use crate::{Config, ExchangeError, Link, Message, Pair, Service};
-use qh_base::Moment;
+use crate::{Config, ExchangeError, Link, Message, Pair, Service, pairs, valid};
+use qh_base::{Memory, Moment};
+use qh_message::writable;
 use std::alloc::Global;
 
 /// Exchanges requests for answers between a client and a server over a link, in at most so many rounds: `answers[i]`
-/// answers `requests[i]`. An empty list is answered at once, with nothing sent.
-///
-/// So far it carries one valid request without fields, body and trailers, of a size of at most 900, and answers
-/// `Unbuilt` for other lists, with nothing sent, and for an answer with fields, with trailers or above that size.
+/// answers `requests[i]`, which goes on stream `4*i`. A list that isn't valid is refused before anything is sent; an empty list is
+/// answered at once, with nothing sent. Then the first answer that a turn gives counts, and last `OutOfRounds`, after exactly
+/// so many rounds.
 pub fn exchange<V: Service, L: Link>(
     alloc: Global,
     config: &Config,
@@ -36,37 +41,70 @@ pub fn exchange<V: Service, L: Link>(
     // given to the server.
     ensures never_twice { (events : List Event) → L.events link.old ≡ Some [] → L.events link.new ≡ Some events → IsHonest events
         → ServedOnce config.now.local_id_len events requests.now (V.served service.old) (V.served service.new) }
+    // Whatever is answered, over any link, each datagram that an end sent kept within the limits that it was given before.
+    ensures within_announced { (before more : List Event) → L.events link.old ≡ Some before → L.events link.new ≡ Some (before ++ more)
+        → KeepWithin config.now.local_id_len (conn_config config.now) more }
     // A link that told its events tells them still.
     ensures told { (events : List Event) → L.events link.old ≡ Some events → (more : List Event) × (L.events link.new ≡ Some (events ++ more)) }
     ensures plan { L.plan link.new ≡ L.plan link.old }
     ensures count { IfOk result (λ answers. length answers.items ≡ length requests.now) }
+    // A list that isn't valid is refused with the least index at fault; nothing was sent or served.
+    ensures invalid { IfInvalid result (λ index. IsFaultIndex config.now.max_requests config.now.max_field_section_size config.now.max_request_body requests.now index
+        × (link.new ≡ link.old) × (service.new ≡ service.old)) }
+    ensures not_valid { (IsValidList config.now.max_requests config.now.max_field_section_size config.now.max_request_body requests.now → ⊥)
+        → IsInvalidAnswer result × (link.new ≡ link.old) × (service.new ≡ service.old) }
     ensures empty { requests.now ≡ [] → IsOk result × (link.new ≡ link.old) × (service.new ≡ service.old) }
-    // A list that isn't built yet is answered at once.
-    ensures unbuilt_list { requests.now ≢ [] → (IsBuilt config.now requests.now → ⊥)
-        → IsUnbuilt result × (link.new ≡ link.old) × (service.new ≡ service.old) }
-    // Of one that is built, `Unbuilt` tells that a response that was recorded isn't, and nothing else does.
-    ensures records { IsBuilt config.now requests.now → Records (V.served service.old) (V.served service.new) result }
     // Each response that was recorded is one that the service may give to its request.
     ensures answers { GrewByAnswers (V.may_answer (limits_of config.now)) (V.served service.old) (V.served service.new) }
-    // Answers to a list that isn't empty tell that it is built.
-    ensures built { IfOk result (λ _. requests.now ≢ [] → IsBuilt config.now requests.now) }
     ensures cause { CountsFaults (L.faults link.old) (L.faults link.new) (has_link_failed result) }
+    ensures timed_out { IfTimedOut result (WasIdle (conn_config config.now).idle (L.moments link.old) (L.moments link.new)) }
+    ensures lost { IfProtocol result (WasLost requests.now (L.events link.old) (L.events link.new) (V.served service.old) (V.served service.new)) }
     ensures out_of_rounds { IfOutOfRounds result
         (RanOut rounds requests.now (L.events link.old) (L.events link.new) (L.moments link.old) (L.moments link.new) (V.served service.old) (V.served service.new)) }
-    ensures errors { IfErr result IsExchangeError }
 {
     if requests.is_empty() {
         return Ok(Vec::new(alloc));
     }
-    if !are_requests_built(config, requests)? {
-        return Err(ExchangeError::Unbuilt);
-    }
+    valid(config, requests)?;
+    let mut pair = asked_pair(alloc, config, requests)?;
+    pairs();
+    make_rounds(&mut pair, service, link, rounds)?;
+    Ok(pair.into_answers()?)
+}
+
+// A pair before its first turn, with copies of these requests.
+fn asked_pair(alloc: Global, config: &Config, requests: &[Message]) -> Result<Pair, Memory>
+    requires config { Fits config.now }
+    requires some { requests.now ≢ [] }
+    requires valid { IsValidList config.now.max_requests config.now.max_field_section_size config.now.max_request_body requests.now }
+    ensures { IfOk result (IsAsked config.now.local_id_len (conn_config config.now) (limits_of config.now) requests.now) }
+{
     let mut pair = Pair::open_pair(alloc, config, Moment(0))?;
+    writable();
     pair.ask(requests)?;
+    Ok(pair)
+}
+
+// Makes rounds until an answer is held for each request. `OutOfRounds` comes after exactly so many.
+fn make_rounds<V: Service, L: Link>(
+    pair: &mut Pair,
+    service: &mut V,
+    link: &mut L,
+    rounds: u64,
+) -> Result<(), ExchangeError>
+    requires going { pair.old.is_over ≡ false }
+    requires lacks { held pair.old.client.answers ≢ length pair.old.client.requests }
+    requires clocked { IsClocked pair.old [] }
+    ensures made { RoundsMade rounds pair.old pair.new (L.events link.old) (L.events link.new) (L.moments link.old) (L.moments link.new) (V.served service.old) (V.served service.new) result }
+    ensures cause { CountsFaults (L.faults link.old) (L.faults link.new) (has_link_failed result) }
+    ensures plan { L.plan link.new ≡ L.plan link.old }
+    ensures answered { GrewByAnswers (V.may_answer pair.old.server.limits) (V.served service.old) (V.served service.new) }
+{
     for _round in 0..rounds {
         if pair.turn(service, link)? {
-            return Ok(pair.into_answers());
+            return Ok(());
         }
     }
+    pair.is_within();
     Err(ExchangeError::OutOfRounds)
 }

@@ -1,71 +1,46 @@
-ghost use Rattle.std.specs.Prelude.{◌≡◌, ◌⊎◌, ◌≤◌, ◌↔◌, ◌++◌, ◌∷◌, [], ℕ, List, Option, Some, true, length, is_some, slice_get, IfOk, IfErr, IsTrue};
-ghost use Rattle.qh_conn.specs.Follows.{Follows, IsSameEnd};
+ghost use Rattle.std.specs.Prelude.{◌≡◌, ◌⊎◌, ◌≤◌, ◌↔◌, ◌++◌, ◌∷◌, [], ℕ, List, Option, Some, None, true, false, length, is_some, IfOk, IfErr, IsTrue, map};
+ghost use Rattle.qh_exchange.specs.Clock.{HasPassed, IsClocked, RunsByTheClock};
+ghost use Rattle.qh_exchange.specs.Exchange.{IfProtocol, IfTimedOut};
+ghost use Rattle.qh_exchange.specs.Pair.{PairState, Running, GoesOn, Means, KeepWithin};
+ghost use Rattle.qh_exchange.specs.Settings.{conn_config, limits_of};
+ghost use Rattle.qh_exchange.specs.Steps.{AreIntakes, AreNotLost, AreOutputs, AreTicking, BeginsAt, ClientPolled, IsCounted, IsLastOf, IsLinkError, IsOnSide, IsOpen, IsStill, KeepsTicking, PairStep, ServerPolled, TicksOn, ended_by, is_done};
+ghost use Rattle.qh_exchange.specs.Turn.{Adds, IsNotLost, IsProtocolLoss, IsTurnError, has_link_failed};
+ghost use Rattle.qh_roles.specs.Client.{AreAskable, held};
+ghost use Rattle.qh_roles.specs.Server.{GrewByAnswers};
 ghost use Rattle.qh_spec.specs.declared.link.Event.{Event};
 ghost use Rattle.qh_spec.specs.declared.link.Event.TheVariants.{Round};
+ghost use Rattle.qh_spec.specs.declared.sides.Side.TheVariants.{Client as TheClient, Server as TheServer};
 ghost use Rattle.qh_spec.specs.Config.{Fits};
 ghost use Rattle.qh_spec.specs.Fault.{CountsFaults};
 ghost use Rattle.qh_spec.specs.Honest.{IsHonest};
-ghost use Rattle.qh_spec.specs.Message.{PlainMessage, IsRequest};
+ghost use Rattle.qh_spec.specs.Message.{PlainMessage};
 ghost use Rattle.qh_spec.specs.Record.{PlainEntry};
-ghost use Rattle.qh_spec.specs.Service.{IsAnswerHead};
-ghost use Rattle.qh_spec.specs.Transcript.{Act, HandedIn};
-ghost use Rattle.qh_spec.specs.Turns.{IsWholeTurn, IsIntake, IsOutput};
-ghost use Rattle.qh_exchange.specs.Pair.{PairState, Running, GoesOn, IsEndOf, Means};
-ghost use Rattle.qh_exchange.specs.Small.{IsCarried, AreAskable, limits_of};
-ghost use Rattle.qh_exchange.specs.Steps.{EndStep, PairStep, IsStill, IsOpen, AreIntakes, AreOutputs, IsLinkError, IsServiceError, MayWrite, ClientStep, ServerStep, Serves, answers_of, polled_acts};
-ghost use Rattle.qh_exchange.specs.Turn.{Adds, Records, BuiltBy, GrewByAnswers, IsTurnError, has_link_failed};
+ghost use Rattle.qh_spec.specs.Turns.{IsWholeTurn};
 
-use crate::stream::{read_request, read_response, write_message};
-use crate::valid::{is_answer_built, is_servable};
-use crate::{Config, ExchangeError, Head, Link, MAX_DATAGRAM, Message, Service};
-use bytes::Bytes;
-use qh_base::{ConnectionId, FourTuple, Memory, Moment, Side};
-use qh_conn::{Connection, ConnectionEvent, PlainSession};
+use crate::ends::{End, Ids, MAX_NAME, open_end, receive_at, tick_at, transmit_at};
+use crate::{Config, ExchangeError, Head, Link, Message, Service};
+use qh_base::{ConnectionError, Memory, Moment, Side};
+use qh_connection::{ConnConfig, PlainSession, lawful};
+use qh_roles::{Client, Server};
 use qh_service::Limits;
+use qh_streams::StreamLimits;
 use std::alloc::Global;
 use std::marker::Model;
-use std::net::{IpAddr, Ipv4Addr, SocketAddr};
-
-// What the ids of the client, those of the server, and the one that their tags are made of begin with.
-const CLIENT_MARK: u8 = 0xc0;
-
-const SERVER_MARK: u8 = 0x50;
-
-const KEY_MARK: u8 = 0xd0;
 
 // The name that a client asks for where the host can't be one.
 const NO_NAME: &str = "-";
-
-const MAX_NAME: usize = 255;
-
-// How many datagrams an end takes in a turn, and how many it sends.
-const TAKEN_A_TURN: u32 = 65_536;
-
-const SENT_A_TURN: u32 = 4_096;
-
-// The stream of the one request.
-const STREAM: u64 = 0;
-
-type End = Connection<PlainSession>;
-
-// The connection ids of the two ends, and the one that their tags are made of.
-#[derive(Clone, Copy)]
-struct Ids {
-    client: ConnectionId,
-    server: ConnectionId,
-    key: ConnectionId,
-}
 
 /// The two ends of an exchange, with the requests that the client asks and the answers that came.
 #[derive(Drop)]
 pub struct Pair {
     alloc: Global,
     ids: Ids,
-    limits: Limits,
-    requests: Vec<Message>,
-    client: Option<End>,
-    server: Option<End>,
-    answers: Vec<Message>,
+    config: ConnConfig,
+    client: Client,
+    server: Server,
+    client_end: Option<End>,
+    server_end: Option<End>,
+    is_over: bool,
 }
 
 impl Model for Pair {
@@ -74,102 +49,109 @@ impl Model for Pair {
 
     ghost Value = { PairState };
 
-    ghost view = { λ p. record { id_length = length p.ids.client; limits = p.limits; requests = p.requests.items; client = p.client; server = p.server; answers = p.answers.items } };
+    ghost view = { λ p. record { id_length = length p.ids.client; config = p.config; client = p.client; server = p.server; client_end = p.client_end; server_end = p.server_end; is_over = p.is_over } };
 
-    ghost use Rattle.qh_exchange.specs.Small.{AreAskable};
+    ghost use Rattle.qh_exchange.specs.Steps.{HasRun};
 
-    ghost invariant = { λ p. (length p.ids.server ≡ length p.ids.client) × AreAskable p.requests.items };
+    ghost invariant = { λ p. (length p.ids.server ≡ length p.ids.client)
+        × HasRun (record { id_length = length p.ids.client; config = p.config; client = p.client; server = p.server; client_end = p.client_end; server_end = p.server_end; is_over = p.is_over }) };
 }
 
-/// What a pair that stands where these events and entries leave it means, over an honest link.
+/// What a pair that stands where these events and entries leave it means: over an honest link what it served and what it holds,
+/// and over any link that what it sent kept within the limits that it was given before.
 pub fn pairs()
-    ensures { (p : PairState) (events : List Event) (before entries : List PlainEntry) → IsHonest events → Running p events entries
+    ensures honest { (p : PairState) (events : List Event) (before entries : List PlainEntry) → IsHonest events → Running p events entries
         → Means p events before entries }
-{}
+    ensures within { (p : PairState) (events : List Event) (entries : List PlainEntry) → Running p events entries → KeepWithin p.id_length p.config events }
+{
+    lawful::<PlainSession>();
+}
 
 impl Pair {
     /// A pair before anything passed. The client connects in the first turn, and the server's end opens then too.
     pub fn open_pair(alloc: Global, config: &Config, now: Moment) -> Result<Pair, Memory>
         requires { Fits config.now }
         ensures running { IfOk result (λ p. Running p [] []) }
+        ensures clocked { IfOk result (λ p. IsClocked p []) }
         ensures ids { IfOk result (λ p. p.id_length ≡ config.now.local_id_len) }
-        ensures limits { IfOk result (λ p. p.limits ≡ limits_of config.now) }
-        ensures requests { IfOk result (λ p. p.requests ≡ []) }
+        ensures config { IfOk result (λ p. p.config ≡ conn_config config.now) }
+        ensures limits { IfOk result (λ p. p.server.limits ≡ limits_of config.now) }
+        ensures unasked { IfOk result (λ p. (p.client ≡ record { requests = []; next = 0; streams = []; answers = [] }) × (p.client_end ≡ None) × (p.is_over ≡ false)) }
     {
         let _opened = now;
-        let ids = Ids {
-            client: marked_id(CLIENT_MARK, config.local_id_len),
-            server: marked_id(SERVER_MARK, config.local_id_len),
-            key: marked_id(KEY_MARK, config.first_id_len),
-        };
         Ok(Pair {
             alloc,
-            ids,
-            limits: Limits {
-                max_field_section_size: config.max_field_section_size,
-                max_response_body: config.max_response_body,
-            },
-            requests: Vec::new(alloc),
-            client: None,
-            server: None,
-            answers: Vec::new(alloc),
+            ids: Ids::of(config.local_id_len, config.first_id_len),
+            config: conn_config(config),
+            client: Client::new(alloc),
+            server: Server::new(alloc, limits_of(config)),
+            client_end: None,
+            server_end: None,
+            is_over: false,
         })
     }
 
-    /// Takes copies of the requests, of which this stage carries the first. It is called once, before the first turn.
+    /// Takes copies of the requests. It is called once, before the first turn. Want of memory leaves the pair without requests.
     pub fn ask(&mut self, requests: &[Message]) -> Result<(), Memory>
-        requires once { self.old.requests ≡ [] }
+        requires once { (self.old.client ≡ record { requests = []; next = 0; streams = []; answers = [] }) × (self.old.client_end ≡ None) }
         requires askable { AreAskable requests.now }
-        ensures requests { IfOk result (λ _. self.new.requests ≡ requests.now) }
-        ensures ids { self.new.id_length ≡ self.old.id_length }
-        ensures limits { self.new.limits ≡ self.old.limits }
+        ensures requests { IfOk result (λ _. self.new.client.requests ≡ requests.now) }
+        ensures none { held self.new.client.answers ≡ 0 }
+        ensures rest { self.new ≡ record self.old { client = self.new.client } }
         ensures running { (events : List Event) (entries : List PlainEntry) → Running self.old events entries → Running self.new events entries }
     {
-        let mut copies = Vec::with_capacity(self.alloc, requests.len())?;
-        for request in requests {
-            copies.push(request.try_clone(self.alloc)?)?;
-        }
-        self.requests = copies;
-        Ok(())
+        self.client.ask(self.alloc, requests)
     }
 
     /// How many answers are held.
     pub fn answers(&self) -> usize
-        ensures { result ≡ length self.now.answers }
+        ensures { result ≡ held self.now.client.answers }
     {
-        self.answers.len()
+        self.client.held()
     }
 
-    /// Makes one turn, and says whether an answer is held for each request: the link begins a round, each end takes
-    /// what came for it, the client asks, the server serves, the client takes its answer, and each end sends. It isn't
-    /// called again after an `Err`.
+    /// Makes one turn, and says whether an answer is held for each request: the link begins a round; each end takes what came for
+    /// it; what is due by now is done; the client asks and takes answers, and the server serves, as far as they go; each end
+    /// sends. It isn't called again after an `Err`. The errors: `Link` where the link failed, `TimedOut` where an end heard nothing for its
+    /// idle time, `Protocol` where an end lost its connection otherwise, `Memory`.
     pub fn turn<V: Service, L: Link>(
         &mut self,
         service: &mut V,
         link: &mut L,
     ) -> Result<bool, ExchangeError>
+        requires going { self.old.is_over ≡ false }
+        ensures going { IfOk result (λ _. self.new.is_over ≡ false) }
         ensures goes_on { GoesOn self.old (L.events link.old) (V.served service.old) self.new (L.events link.new) (V.served service.new) }
-        ensures requests { self.new.requests ≡ self.old.requests }
-        ensures limits { self.new.limits ≡ self.old.limits }
-        ensures few { length self.old.answers ≤ length self.old.requests → length self.new.answers ≤ length self.new.requests }
-        ensures done { IfOk result (λ done. IsTrue done ↔ length self.new.answers ≡ length self.new.requests) }
+        ensures clock { RunsByTheClock self.old self.new (L.moments link.old) (L.moments link.new) result }
+        ensures requests { self.new.client.requests ≡ self.old.client.requests }
+        ensures settings { (self.new.config ≡ self.old.config) × (self.new.id_length ≡ self.old.id_length) × (self.new.server.limits ≡ self.old.server.limits) }
+        ensures done { IfOk result (λ done. IsTrue done ↔ held self.new.client.answers ≡ length self.new.client.requests) }
         ensures turned { IfOk result (λ _. Adds IsWholeTurn (L.events link.old) (L.events link.new)) }
         ensures round { IfOk result (λ _. (moment : ℕ) × (L.moments link.new ≡ L.moments link.old ++ moment ∷ [])) }
-        ensures records { Records (V.served service.old) (V.served service.new) result }
-        ensures answered { GrewByAnswers (V.may_answer self.old.limits) (V.served service.old) (V.served service.new) }
+        ensures answered { GrewByAnswers (V.may_answer self.old.server.limits) (V.served service.old) (V.served service.new) }
         ensures cause { CountsFaults (L.faults link.old) (L.faults link.new) (has_link_failed result) }
+        ensures lost { IfProtocol result (λ e. IsProtocolLoss e self.new) }
         ensures plan { L.plan link.new ≡ L.plan link.old }
         ensures errors { IfErr result IsTurnError }
     {
+        self.is_over = true;
         self.advance(service, link)?;
-        Ok(self.answers.len() == self.requests.len())
+        self.is_over = false;
+        Ok(self.client.held() == self.client.requests().len())
     }
 
-    /// The answers, in the order of the requests.
-    pub fn into_answers(self) -> Vec<Message>
-        ensures { result.items ≡ self.answers }
+    /// The answers, in the order of the requests, where all are held.
+    pub fn into_answers(self) -> Result<Vec<Message>, Memory>
+        ensures { IfOk result (λ all. held self.client.answers ≡ length self.client.requests → map Some all.items ≡ self.client.answers) }
     {
-        self.answers
+        self.client.into_answers(self.alloc)
+    }
+
+    // No more answers are held than there are requests.
+    pub(crate) fn is_within(&self)
+        ensures { held self.now.client.answers ≤ length self.now.client.requests }
+    {
+        let _client = &self.client;
     }
 
     // Makes the turn.
@@ -178,171 +160,217 @@ impl Pair {
         service: &mut V,
         link: &mut L,
     ) -> Result<(), ExchangeError>
-        ensures step { PairStep self.old self.new (L.events link.old) (L.events link.new) (V.served service.old) (V.served service.new) (λ more fresh. IfOk result (λ _. IsWholeTurn more) × BuiltBy result fresh) }
+        requires over { self.old.is_over ≡ true }
+        requires counted { IsCounted self.old }
+        ensures step { PairStep (is_done result) self.old self.new (L.events link.old) (L.events link.new) (V.served service.old) (V.served service.new) (λ more. IfOk result (λ _. IsWholeTurn more)) }
+        ensures clock { (before moments : List ℕ) → L.moments link.old ≡ before ++ moments → AreTicking self.old moments → TicksOn self.old self.new before moments (L.moments link.new) result }
         ensures round { IfOk result (λ _. (moment : ℕ) × (L.moments link.new ≡ L.moments link.old ++ moment ∷ [])) }
         ensures cause { CountsFaults (L.faults link.old) (L.faults link.new) (has_link_failed result) }
+        ensures lost { IfProtocol result (λ e. IsProtocolLoss e self.new) }
         ensures plan { L.plan link.new ≡ L.plan link.old }
         ensures errors { IfErr result IsTurnError }
-        ensures answered { GrewByAnswers (V.may_answer self.old.limits) (V.served service.old) (V.served service.new) }
-        ensures requests { self.new.requests ≡ self.old.requests }
-        ensures limits { self.new.limits ≡ self.old.limits }
-        ensures few { length self.old.answers ≤ length self.old.requests → length self.new.answers ≤ length self.new.requests }
+        ensures answered { GrewByAnswers (V.may_answer self.old.server.limits) (V.served service.old) (V.served service.new) }
     {
         let now = self.begin(link)?;
         self.receive(now, link)?;
+        self.tick(now)?;
         self.converse(service)?;
         self.transmit(now, link)
     }
 
     // Begins a round, and opens the ends in the first one.
     fn begin<L: Link>(&mut self, link: &mut L) -> Result<Moment, ExchangeError>
-        ensures step { (served : List PlainEntry) → PairStep self.old self.new (L.events link.old) (L.events link.new) served served (λ more fresh. IfOk result (λ now. more ≡ Round now.0 ∷ []) × (fresh ≡ [])) }
+        requires over { self.old.is_over ≡ true }
+        requires counted { IsCounted self.old }
+        ensures step { (served : List PlainEntry) → PairStep (is_done result) self.old self.new (L.events link.old) (L.events link.new) served served (λ more. IfOk result (λ now. more ≡ Round now.0 ∷ [])) }
         ensures open { IfOk result (λ _. IsOpen self.new) }
+        ensures clock { (before moments : List ℕ) → L.moments link.old ≡ before ++ moments → AreTicking self.old moments → BeginsAt self.new before moments (L.moments link.new) result }
         ensures round { IfOk result (λ now. L.moments link.new ≡ L.moments link.old ++ now.0 ∷ []) }
         ensures cause { CountsFaults (L.faults link.old) (L.faults link.new) (has_link_failed result) }
         ensures plan { L.plan link.new ≡ L.plan link.old }
         ensures errors { IfErr result IsLinkError }
-        ensures requests { self.new.requests ≡ self.old.requests }
-        ensures limits { self.new.limits ≡ self.old.limits }
-        ensures answers { self.new.answers ≡ self.old.answers }
     {
         let now = link.next_round(self.alloc)?;
-        self.open_client()?;
-        self.open_server()?;
+        self.open_client(now)?;
+        self.open_server(now)?;
         Ok(now)
     }
 
-    fn open_client(&mut self) -> Result<(), Memory>
+    fn open_client(&mut self, now: Moment) -> Result<(), Memory>
+        requires over { self.old.is_over ≡ true }
+        requires counted { IsCounted self.old }
         ensures still { IsStill self.old self.new }
-        ensures open { IfOk result (λ _. is_some self.new.client ≡ true) }
-        ensures requests { self.new.requests ≡ self.old.requests }
-        ensures limits { self.new.limits ≡ self.old.limits }
-        ensures answers { self.new.answers ≡ self.old.answers }
+        ensures open { IfOk result (λ _. is_some self.new.client_end ≡ true) }
+        ensures ticking { KeepsTicking now.0 self.old self.new }
     {
-        if self.client.is_some() {
+        if self.client_end.is_some() {
             return Ok(());
         }
-        let name = server_name(&self.requests);
-        let client = open_end(Side::Client, &self.ids, self.alloc, name)?;
-        self.client = Some(client);
+        let name = server_name(self.client.requests());
+        let end = open_end(self.alloc, Side::Client, &self.ids, self.config, name, now)?;
+        self.client_end = Some(end);
         Ok(())
     }
 
-    fn open_server(&mut self) -> Result<(), Memory>
+    fn open_server(&mut self, now: Moment) -> Result<(), Memory>
+        requires over { self.old.is_over ≡ true }
+        requires counted { IsCounted self.old }
         ensures still { IsStill self.old self.new }
-        ensures client { self.new.client ≡ self.old.client }
-        ensures open { IfOk result (λ _. is_some self.new.server ≡ true) }
-        ensures requests { self.new.requests ≡ self.old.requests }
-        ensures limits { self.new.limits ≡ self.old.limits }
-        ensures answers { self.new.answers ≡ self.old.answers }
+        ensures client { self.new.client_end ≡ self.old.client_end }
+        ensures open { IfOk result (λ _. is_some self.new.server_end ≡ true) }
+        ensures ticking { KeepsTicking now.0 self.old self.new }
     {
-        if self.server.is_some() {
+        if self.server_end.is_some() {
             return Ok(());
         }
-        let server = open_end(Side::Server, &self.ids, self.alloc, "")?;
-        self.server = Some(server);
+        let end = open_end(self.alloc, Side::Server, &self.ids, self.config, "", now)?;
+        self.server_end = Some(end);
         Ok(())
     }
 
+    // Each end takes what the link has for it.
     fn receive<L: Link>(&mut self, now: Moment, link: &mut L) -> Result<(), ExchangeError>
-        requires { IsOpen self.old }
-        ensures step { (served : List PlainEntry) → PairStep self.old self.new (L.events link.old) (L.events link.new) served served (λ more fresh. IfOk result (λ _. AreIntakes more) × (fresh ≡ [])) }
+        requires open { IsOpen self.old }
+        requires over { self.old.is_over ≡ true }
+        requires counted { IsCounted self.old }
+        ensures step { (served : List PlainEntry) → PairStep (is_done result) self.old self.new (L.events link.old) (L.events link.new) served served (λ more. IfOk result (λ _. AreIntakes more)) }
         ensures open { IfOk result (λ _. IsOpen self.new) }
+        ensures ticking { IfOk result (λ _. KeepsTicking now.0 self.old self.new) }
         ensures moments { L.moments link.new ≡ L.moments link.old }
         ensures cause { CountsFaults (L.faults link.old) (L.faults link.new) (has_link_failed result) }
         ensures plan { L.plan link.new ≡ L.plan link.old }
         ensures errors { IfErr result IsLinkError }
-        ensures requests { self.new.requests ≡ self.old.requests }
-        ensures limits { self.new.limits ≡ self.old.limits }
-        ensures answers { self.new.answers ≡ self.old.answers }
     {
-        receive_at(self.alloc, &mut self.client, Side::Client, now, link)?;
-        receive_at(self.alloc, &mut self.server, Side::Server, now, link)
+        receive_at(self.alloc, &mut self.client_end, Side::Client, now, link)?;
+        receive_at(self.alloc, &mut self.server_end, Side::Server, now, link)
     }
 
+    // Does what is due by now. An end that is lost ends the exchange, the client's first.
+    fn tick(&mut self, now: Moment) -> Result<(), ExchangeError>
+        requires open { IsOpen self.old }
+        requires over { self.old.is_over ≡ true }
+        requires counted { IsCounted self.old }
+        ensures still { IsStill self.old self.new }
+        ensures open { IsOpen self.new }
+        ensures going { IfOk result (λ _. AreNotLost self.new) }
+        ensures ticking { IfOk result (λ _. KeepsTicking now.0 self.old self.new) }
+        ensures timed_out { (moments : List ℕ) → IsLastOf moments now.0 → AreTicking self.old moments → IfTimedOut result (HasPassed self.old.config.idle moments) }
+        ensures lost { IfProtocol result (λ e. IsProtocolLoss e self.new) }
+        ensures cause { has_link_failed result ≡ false }
+        ensures errors { IfErr result IsTurnError }
+    {
+        let client = tick_at(&mut self.client_end, Side::Client, now);
+        let server = tick_at(&mut self.server_end, Side::Server, now);
+        ended_by(client, server)
+    }
+
+    // The client asks and takes answers, and the server serves.
+    fn converse<V: Service>(&mut self, service: &mut V) -> Result<(), Memory>
+        requires open { IsOpen self.old }
+        requires going { AreNotLost self.old }
+        requires over { self.old.is_over ≡ true }
+        requires counted { IsCounted self.old }
+        ensures step { (told : Option (List Event)) → PairStep true self.old self.new told told (V.served service.old) (V.served service.new) (λ more. more ≡ []) }
+        ensures open { IsOpen self.new }
+        ensures ticking { (moments : List ℕ) → AreTicking self.old moments → AreTicking self.new moments }
+        ensures answered { GrewByAnswers (V.may_answer self.old.server.limits) (V.served service.old) (V.served service.new) }
+    {
+        ask_at(self.alloc, &mut self.client, &mut self.client_end)?;
+        serve_at(self.alloc, &mut self.server, &mut self.server_end, service)
+    }
+
+    // Each end sends what it has.
     fn transmit<L: Link>(&mut self, now: Moment, link: &mut L) -> Result<(), ExchangeError>
-        requires { IsOpen self.old }
-        ensures step { (served : List PlainEntry) → PairStep self.old self.new (L.events link.old) (L.events link.new) served served (λ more fresh. IfOk result (λ _. AreOutputs more) × (fresh ≡ [])) }
+        requires open { IsOpen self.old }
+        requires over { self.old.is_over ≡ true }
+        requires counted { IsCounted self.old }
+        ensures step { (served : List PlainEntry) → PairStep (is_done result) self.old self.new (L.events link.old) (L.events link.new) served served (λ more. IfOk result (λ _. AreOutputs more)) }
+        ensures open { IfOk result (λ _. IsOpen self.new) }
+        ensures ticking { IfOk result (λ _. KeepsTicking now.0 self.old self.new) }
         ensures moments { L.moments link.new ≡ L.moments link.old }
         ensures cause { CountsFaults (L.faults link.old) (L.faults link.new) (has_link_failed result) }
         ensures plan { L.plan link.new ≡ L.plan link.old }
         ensures errors { IfErr result IsLinkError }
-        ensures requests { self.new.requests ≡ self.old.requests }
-        ensures limits { self.new.limits ≡ self.old.limits }
-        ensures answers { self.new.answers ≡ self.old.answers }
     {
-        transmit_at(self.alloc, &mut self.client, Side::Client, now, link)?;
-        transmit_at(self.alloc, &mut self.server, Side::Server, now, link)
-    }
-
-    // The client asks, the server serves, and the client takes its answer.
-    fn converse<V: Service>(&mut self, service: &mut V) -> Result<(), ExchangeError>
-        ensures step { (told : Option (List Event)) → PairStep self.old self.new told told (V.served service.old) (V.served service.new) (λ more fresh. (more ≡ []) × BuiltBy result fresh) }
-        ensures open { IsOpen self.old → IsOpen self.new }
-        ensures errors { IfErr result IsServiceError }
-        ensures answered { GrewByAnswers (V.may_answer self.old.limits) (V.served service.old) (V.served service.new) }
-        ensures requests { self.new.requests ≡ self.old.requests }
-        ensures limits { self.new.limits ≡ self.old.limits }
-        ensures few { length self.old.answers ≤ length self.old.requests → length self.new.answers ≤ length self.new.requests }
-    {
-        self.ask_request()?;
-        self.serve_request(service)?;
-        self.take_answer()?;
-        Ok(())
-    }
-
-    fn ask_request(&mut self) -> Result<(), Memory>
-        ensures still { IsStill self.old self.new }
-        ensures open { IsOpen self.old → IsOpen self.new }
-        ensures requests { self.new.requests ≡ self.old.requests }
-        ensures limits { self.new.limits ≡ self.old.limits }
-        ensures answers { self.new.answers ≡ self.old.answers }
-    {
-        ask_at(self.alloc, &mut self.client, &self.requests)
-    }
-
-    fn serve_request<V: Service>(&mut self, service: &mut V) -> Result<(), ExchangeError>
-        ensures step { (told : Option (List Event)) → PairStep self.old self.new told told (V.served service.old) (V.served service.new) (λ more fresh. (more ≡ []) × BuiltBy result fresh) }
-        ensures open { IsOpen self.old → IsOpen self.new }
-        ensures errors { IfErr result IsServiceError }
-        ensures answered { GrewByAnswers (V.may_answer self.old.limits) (V.served service.old) (V.served service.new) }
-        ensures requests { self.new.requests ≡ self.old.requests }
-        ensures limits { self.new.limits ≡ self.old.limits }
-        ensures answers { self.new.answers ≡ self.old.answers }
-    {
-        serve_at(self.alloc, &mut self.server, &self.limits, service)
-    }
-
-    fn take_answer(&mut self) -> Result<(), Memory>
-        ensures still { IsStill self.old self.new }
-        ensures open { IsOpen self.old → IsOpen self.new }
-        ensures requests { self.new.requests ≡ self.old.requests }
-        ensures limits { self.new.limits ≡ self.old.limits }
-        ensures few { length self.old.answers ≤ length self.old.requests → length self.new.answers ≤ length self.new.requests }
-    {
-        if !self.answers.is_empty() {
-            return Ok(());
-        }
-        if self.requests.is_empty() {
-            return Ok(());
-        }
-        let Some(answer) = answer_at(self.alloc, &mut self.client)? else {
-            return Ok(());
-        };
-        self.answers.push(answer)?;
-        Ok(())
+        transmit_at(self.alloc, &mut self.client_end, Side::Client, now, link)?;
+        transmit_at(self.alloc, &mut self.server_end, Side::Server, now, link)
     }
 }
 
-// An id of this length, which begins with the mark and is zero behind it.
-fn marked_id(mark: u8, count: u64) -> ConnectionId
-    requires some { 1 ≤ count }
-    requires short { count ≤ 20 }
-    ensures { length result ≡ count }
+// How a turn ends by what its ends lost, the client's loss first.
+fn ended_by(
+    client: Option<ConnectionError>,
+    server: Option<ConnectionError>,
+) -> Result<(), ExchangeError>
+    ensures { result ≡ ended_by client server }
 {
-    let mut bytes = [0; ConnectionId::MAX_LEN];
-    bytes[0] = mark;
-    ConnectionId::new(&bytes[..count as usize]).unwrap()
+    if let Some(loss) = client {
+        return Err(ExchangeError::from(loss));
+    }
+    match server {
+        Some(loss) => Err(ExchangeError::from(loss)),
+        None => Ok(()),
+    }
+}
+
+// A client goes on at its end.
+fn ask_at(alloc: Global, client: &mut Client, slot: &mut Option<End>) -> Result<(), Memory>
+    requires open { is_some slot.old ≡ true }
+    requires side { IsOnSide TheClient slot.old }
+    ensures { ClientPolled client.old client.new slot.old slot.new }
+{
+    let Some(end) = slot else {
+        return Ok(());
+    };
+    client.poll(alloc, end)
+}
+
+// A server goes on at its end.
+fn serve_at<V: Service>(
+    alloc: Global,
+    server: &mut Server,
+    slot: &mut Option<End>,
+    service: &mut V,
+) -> Result<(), Memory>
+    requires open { is_some slot.old ≡ true }
+    requires side { IsOnSide TheServer slot.old }
+    requires going { IsNotLost slot.old }
+    ensures polled { ServerPolled server.old server.new slot.old slot.new (V.served service.old) (V.served service.new) }
+    ensures answered { GrewByAnswers (V.may_answer server.old.limits) (V.served service.old) (V.served service.new) }
+{
+    let Some(end) = slot else {
+        return Ok(());
+    };
+    end.is_owed();
+    server.poll(alloc, end, service)
+}
+
+// What both ends begin with.
+fn conn_config(config: &Config) -> ConnConfig
+    ensures { result ≡ conn_config config.now }
+{
+    ConnConfig {
+        limits: StreamLimits {
+            receive_window: config.receive_window,
+            stream_window: config.stream_window,
+            send_window: config.send_window,
+            max_bidi: config.max_bidi,
+            max_uni: config.max_uni,
+        },
+        idle: config.idle,
+        initial_rtt: config.initial_rtt,
+        initial_window: config.initial_window,
+    }
+}
+
+// What a response may measure.
+fn limits_of(config: &Config) -> Limits
+    ensures { result ≡ limits_of config.now }
+{
+    Limits {
+        max_field_section_size: config.max_field_section_size,
+        max_response_body: config.max_response_body,
+    }
 }
 
 // The host that the first request names, where it can be a server name.
@@ -356,257 +384,4 @@ fn server_name(requests: &[Message]) -> &str
         },
         _ => NO_NAME,
     }
-}
-
-fn open_end(side: Side, ids: &Ids, alloc: Global, name: &str) -> Result<End, Memory>
-    requires name { length name.now ≤ MAX_NAME }
-    requires ids { length ids.now.server ≡ length ids.now.client }
-    ensures end { IfOk result (IsEndOf side (length ids.now.client)) }
-    ensures follows { IfOk result (λ end. Follows end []) }
-{
-    let session = PlainSession::new(ids.key, name.as_bytes())?;
-    let (local, remote) = ids_from(side, ids);
-    Ok(Connection::new(alloc, side, session, local, remote, path_from(side)))
-}
-
-// The id of this side, and that of the other.
-fn ids_from(side: Side, ids: &Ids) -> (ConnectionId, ConnectionId)
-    requires { length ids.now.server ≡ length ids.now.client }
-    ensures { (length result.0 ≡ length ids.now.client) × (length result.1 ≡ length ids.now.client) }
-{
-    match side {
-        Side::Client => (ids.client, ids.server),
-        Side::Server => (ids.server, ids.client),
-    }
-}
-
-// The client is 10.0.0.1 port 1000, the server 10.0.0.2 port 443.
-fn path_from(side: Side) -> FourTuple {
-    let client = SocketAddr::new(IpAddr::V4(Ipv4Addr::new(10, 0, 0, 1)), 1_000);
-    let server = SocketAddr::new(IpAddr::V4(Ipv4Addr::new(10, 0, 0, 2)), 443);
-    let (local, remote) = match side {
-        Side::Client => (client, server),
-        Side::Server => (server, client),
-    };
-    FourTuple {
-        remote,
-        local_ip: Some(local.ip()),
-    }
-}
-
-fn receive_at<L: Link>(
-    alloc: Global,
-    slot: &mut Option<End>,
-    side: Side,
-    now: Moment,
-    link: &mut L,
-) -> Result<(), ExchangeError>
-    requires { is_some slot.old ≡ true }
-    ensures step { EndStep side slot.old slot.new (L.events link.old) (L.events link.new) (λ more. IfOk result (λ _. IsIntake side more)) }
-    ensures open { is_some slot.new ≡ true }
-    ensures moments { L.moments link.new ≡ L.moments link.old }
-    ensures cause { CountsFaults (L.faults link.old) (L.faults link.new) (has_link_failed result) }
-    ensures plan { L.plan link.new ≡ L.plan link.old }
-    ensures errors { IfErr result IsLinkError }
-{
-    let Some(end) = slot else {
-        return Ok(());
-    };
-    take_datagrams(alloc, end, side, now, link)
-}
-
-fn transmit_at<L: Link>(
-    alloc: Global,
-    slot: &mut Option<End>,
-    side: Side,
-    now: Moment,
-    link: &mut L,
-) -> Result<(), ExchangeError>
-    requires { is_some slot.old ≡ true }
-    ensures step { EndStep side slot.old slot.new (L.events link.old) (L.events link.new) (λ more. IfOk result (λ _. IsOutput side more)) }
-    ensures open { is_some slot.new ≡ true }
-    ensures moments { L.moments link.new ≡ L.moments link.old }
-    ensures cause { CountsFaults (L.faults link.old) (L.faults link.new) (has_link_failed result) }
-    ensures plan { L.plan link.new ≡ L.plan link.old }
-    ensures errors { IfErr result IsLinkError }
-{
-    let Some(end) = slot else {
-        return Ok(());
-    };
-    send_datagrams(alloc, end, side, now, link)
-}
-
-// Hands an end each datagram that the link has ready for it.
-fn take_datagrams<L: Link>(
-    alloc: Global,
-    end: &mut End,
-    side: Side,
-    now: Moment,
-    link: &mut L,
-) -> Result<(), ExchangeError>
-    ensures step { EndStep side (Some end.old) (Some end.new) (L.events link.old) (L.events link.new) (λ more. IfOk result (λ _. IsIntake side more)) }
-    ensures moments { L.moments link.new ≡ L.moments link.old }
-    ensures cause { CountsFaults (L.faults link.old) (L.faults link.new) (has_link_failed result) }
-    ensures plan { L.plan link.new ≡ L.plan link.old }
-    ensures errors { IfErr result IsLinkError }
-{
-    let mut buf = [0; MAX_DATAGRAM];
-    for _datagram in 0..TAKEN_A_TURN {
-        let Some(len) = link.take(alloc, side, &mut buf)? else {
-            return Ok(());
-        };
-        hand_in(alloc, end, side, now, &buf[..len])?;
-    }
-    Ok(())
-}
-
-fn hand_in(
-    alloc: Global,
-    end: &mut End,
-    side: Side,
-    now: Moment,
-    datagram: &[u8],
-) -> Result<(), Memory>
-    ensures same_end { IsSameEnd end.old end.new }
-    ensures follows { (t : List Act) → Follows end.old t → Follows end.new t ⊎ Follows end.new (t ++ HandedIn datagram.now ∷ []) }
-{
-    let payload = Bytes::copy_from_slice(alloc, datagram).map_err(|_| Memory)?;
-    end.handle_event(ConnectionEvent::Datagram {
-        now,
-        remote: path_from(side).remote,
-        payload,
-    })
-}
-
-// Hands the link each datagram that an end has to send.
-fn send_datagrams<L: Link>(
-    alloc: Global,
-    end: &mut End,
-    side: Side,
-    now: Moment,
-    link: &mut L,
-) -> Result<(), ExchangeError>
-    ensures step { EndStep side (Some end.old) (Some end.new) (L.events link.old) (L.events link.new) (λ more. IfOk result (λ _. IsOutput side more)) }
-    ensures moments { L.moments link.new ≡ L.moments link.old }
-    ensures cause { CountsFaults (L.faults link.old) (L.faults link.new) (has_link_failed result) }
-    ensures plan { L.plan link.new ≡ L.plan link.old }
-    ensures errors { IfErr result IsLinkError }
-{
-    let mut datagram = Vec::new(alloc);
-    for _datagram in 0..SENT_A_TURN {
-        let found = has_next(end, now, &mut datagram)?;
-        if !found {
-            return Ok(());
-        }
-        link.send(alloc, side, &datagram)?;
-    }
-    Ok(())
-}
-
-// Whether an end has a datagram to send. Then the buffer has that alone.
-fn has_next(end: &mut End, now: Moment, datagram: &mut Vec<u8>) -> Result<bool, Memory>
-    ensures same_end { IsSameEnd end.old end.new }
-    ensures follows { (t : List Act) → Follows end.old t → Follows end.new (t ++ polled_acts datagram.new.items result) }
-{
-    datagram.clear();
-    let transmit = end.poll_transmit(now, datagram)?;
-    Ok(transmit.is_some())
-}
-
-// Writes a message on an end's stream, once.
-fn write_stream(alloc: Global, end: &mut End, message: &Message) -> Result<(), Memory>
-    requires { IsCarried message.now }
-    ensures { MayWrite end.old message.now end.new }
-{
-    if end.has_written() {
-        return Ok(());
-    }
-    let bytes = write_message(alloc, message)?;
-    end.send_plain(bytes)
-}
-
-// A client writes the first request.
-fn ask_at(alloc: Global, slot: &mut Option<End>, requests: &[Message]) -> Result<(), Memory>
-    requires { AreAskable requests.now }
-    ensures step { (answers : List PlainMessage) → ClientStep requests.now answers answers slot.old slot.new }
-    ensures open { is_some slot.new ≡ is_some slot.old }
-{
-    let Some(client) = slot else {
-        return Ok(());
-    };
-    let Some(request) = requests.first() else {
-        return Ok(());
-    };
-    write_stream(alloc, client, request)
-}
-
-// A server reads a request, has it served, and writes the response.
-fn serve_at<V: Service>(
-    alloc: Global,
-    slot: &mut Option<End>,
-    limits: &Limits,
-    service: &mut V,
-) -> Result<(), ExchangeError>
-    ensures step { ServerStep slot.old slot.new (V.served service.old) (V.served service.new) (BuiltBy result) }
-    ensures open { is_some slot.new ≡ is_some slot.old }
-    ensures answered { GrewByAnswers (V.may_answer limits.now) (V.served service.old) (V.served service.new) }
-    ensures errors { IfErr result IsServiceError }
-{
-    let Some(server) = slot else {
-        return Ok(());
-    };
-    let Some(bytes) = server.take_plain() else {
-        return Ok(());
-    };
-    serve_bytes(alloc, server, bytes.as_slice(), limits, service)
-}
-
-// A server has the request served that these bytes spell, where they do, and writes the response.
-fn serve_bytes<V: Service>(
-    alloc: Global,
-    server: &mut End,
-    bytes: &[u8],
-    limits: &Limits,
-    service: &mut V,
-) -> Result<(), ExchangeError>
-    ensures serves { Serves server.old bytes.now (V.served service.old) result server.new (V.served service.new) }
-    ensures answered { GrewByAnswers (V.may_answer limits.now) (V.served service.old) (V.served service.new) }
-    ensures errors { IfErr result IsServiceError }
-{
-    let Some(request) = read_request(alloc, bytes)? else {
-        return Ok(());
-    };
-    if !is_servable(&request, limits) {
-        return Ok(());
-    }
-    let response = service.serve(alloc, STREAM, &request, limits)?;
-    respond(alloc, server, &response)
-}
-
-// A server writes a response, where this stage carries it.
-fn respond(alloc: Global, server: &mut End, response: &Message) -> Result<(), ExchangeError>
-    requires { IsAnswerHead response.now.head }
-    ensures writes { MayWrite server.old response.now server.new }
-    ensures built { (stream : ℕ) (request : PlainMessage) → BuiltBy result (record { stream = stream; request = request; response = response.now } ∷ []) }
-    ensures errors { IfErr result IsServiceError }
-{
-    if !is_answer_built(response) {
-        return Err(ExchangeError::Unbuilt);
-    }
-    write_stream(alloc, server, response)?;
-    Ok(())
-}
-
-// A client reads an answer, where one came.
-fn answer_at(alloc: Global, slot: &mut Option<End>) -> Result<Option<Message>, Memory>
-    ensures step { (requests : List PlainMessage) → ClientStep requests [] (answers_of result) slot.old slot.new }
-    ensures open { is_some slot.new ≡ is_some slot.old }
-{
-    let Some(client) = slot else {
-        return Ok(None);
-    };
-    let Some(bytes) = client.take_plain() else {
-        return Ok(None);
-    };
-    read_response(alloc, bytes.as_slice())
 }

@@ -6,7 +6,7 @@ ghost use Rattle.qh_spec.specs.Echoed.{HasMaps};
 ghost use Rattle.qh_spec.specs.Script.{Script as PlainScript, IsScript, IsRefusedAt, rounds_of};
 ghost use Rattle.qh_spec.specs.Words.{Exchange, IsCommand};
 ghost use Rattle.qh_exchange.specs.Endings.{EndsAnswered, EndsFailed, IsRunAs};
-ghost use Rattle.qh_exchange.specs.Program.{AreLookedAt, Ends, HasEnded, IsAnswered, IsLastLine, ScriptEnds, TextEnds, entries_told, refused_line};
+ghost use Rattle.qh_exchange.specs.Program.{AreLookedAt, Ends, HasEnded, IsAnswered, IsLastLine, ScriptEnds, TextEnds, refused_line};
 
 use crate::input::read_text;
 use crate::output::write_text;
@@ -238,28 +238,13 @@ fn failure(alloc: Global, error: ExchangeError, service: &Echo) -> Result<Ending
     ensures { IfOk result (λ e. EndsFailed service.now error e.status e.text.items) }
 {
     let mut text = Vec::new(alloc);
-    put_told(alloc, &mut text, &error, service)?;
+    put_entries(alloc, &mut text, service.served())?;
     let last = last_line(alloc, error)?;
     text.extend_from_slice(&last.text)?;
     Ok(Ending {
         status: last.status,
         text,
     })
-}
-
-// Appends the entries of the record, but none where something isn't built.
-fn put_told(
-    alloc: Global,
-    out: &mut Vec<u8>,
-    error: &ExchangeError,
-    service: &Echo,
-) -> Result<(), Memory>
-    ensures { IfOk result (λ _. out.new.items ≡ out.old.items ++ entries_told error.now service.now) }
-{
-    match error {
-        ExchangeError::Unbuilt => Ok(()),
-        _ => put_entries(alloc, out, service.served()),
-    }
 }
 
 // The status of an error, and its line.
@@ -275,7 +260,6 @@ fn last_line(alloc: Global, error: ExchangeError) -> Result<Ending, Memory>
         ExchangeError::Link => line(alloc, 7, "link\n"),
         ExchangeError::Protocol(_) => line(alloc, 8, "protocol\n"),
         ExchangeError::Memory => line(alloc, 9, "memory\n"),
-        ExchangeError::Unbuilt => line(alloc, 12, "unbuilt\n"),
     }
 }
 

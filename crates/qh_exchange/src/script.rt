@@ -5,29 +5,7 @@ ghost use Rattle.qh_exchange.specs.Unbuilt.{IsUnbuiltAt, is_unbuilt_word, first_
 use qh_script::cut_line;
 
 // The first words of the lines that aren't built yet.
-const UNBUILT_WORDS: [&str; 21] = [
-    "section",
-    "response",
-    "rounds",
-    "step",
-    "field",
-    "trailer",
-    "body",
-    "fill",
-    "requestbody",
-    "cap",
-    "bidi",
-    "window",
-    "idle",
-    "rtt",
-    "drop",
-    "twice",
-    "late",
-    "fail",
-    "retry",
-    "forge",
-    "grease",
-];
+const UNBUILT_WORDS: [&str; 3] = ["retry", "forge", "grease"];
 
 /// The number, counted from 1, of the first line that isn't built yet.
 pub fn unbuilt_line(text: &[u8]) -> Option<usize>

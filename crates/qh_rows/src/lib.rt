@@ -3,6 +3,8 @@
 
 pub mod rough;
 #[cfg(test)]
+mod rows;
+#[cfg(test)]
 mod sections;
 #[cfg(test)]
 mod tests;

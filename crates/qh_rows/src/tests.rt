@@ -20,7 +20,7 @@ fn get(alloc: Global, target: &str) -> Result<Message, Fail> {
 }
 
 // What a side was given on a link.
-fn given_to(alloc: Global, side: Side, events: &[Event]) -> Result<Vec<Bytes>, Fail> {
+pub(crate) fn given_to(alloc: Global, side: Side, events: &[Event]) -> Result<Vec<Bytes>, Fail> {
     let mut datagrams = Vec::new(alloc);
     for event in events {
         if let Event::Given {

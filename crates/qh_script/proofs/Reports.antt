@@ -1,16 +1,14 @@
 -- What reports are written from: names that a sort has put in order, and pieces that follow one another.
-use Rattle.std.proofs.Common.{◌≡◌, ◌⊎◌, inl, inr, append_assoc, append-nil, ℕ, ◌+◌, ◌<◌, ◌≤◌, List, [], ◌∷◌, ◌++◌, map, length, get_or, take, drop, refl, sym, ap, ◌∙◌, subst, arith, flat_map}
-use Rattle.std.specs.Prelude.{OnErr, IfOk, Result, Ok, Err}
+use Rattle.std.proofs.Common.{◌≡◌, append_assoc, ℕ, ◌+◌, ◌<◌, ◌≤◌, List, [], ◌∷◌, ◌++◌, map, length, get_or, take, drop, refl, sym, ap, ◌∙◌, subst, arith, flat_map}
+use Rattle.std.specs.Prelude.{OnErr, Result, Ok, Err}
 use Rattle.std.specs.Cmp.Lexicographic.{slice_cmp}
 use Rattle.std.specs.Ordering.{nat_cmp, is_lt}
 use Rattle.std.specs.List.Sorted.{IsPermutation, IsSortedBy}
 use Rattle.std.proofs.lemmas.List.{get_or-map, length-map, take_all, take_at, take-append-drop}
 use Rattle.std.proofs.lemmas.Result.{on_err_weaker}
 use Rattle.std.proofs.lemmas.List.Sorted.{IsPermutation-map}
-use Rattle.qh_spec.specs.Message.{PlainMessage}
-use Rattle.qh_spec.specs.Record.{PlainEntry}
-use Rattle.qh_spec.specs.Report.{blocks, comes_before, in_byte_order}
-use Rattle.qh_script.specs.Report.{HasGrown, HaveMaps}
+use Rattle.qh_spec.specs.Report.{comes_before, in_byte_order}
+use Rattle.qh_script.specs.Report.{HasGrown}
 use Rattle.qh_spec.proofs.ReportLaws.{before_is, sorted_is}
 
 sorted_names : {X : Type 0} (f : X → List ℕ) (xs : List X) → IsSortedBy (λ a b. is_lt (slice_cmp nat_cmp (f a) (f b))) xs → IsSortedBy comes_before (map f xs)
@@ -39,32 +37,6 @@ pub pieces_all : {X Y : Type 0} (f : X → Y) (g : Y → List ℕ) (old out : Li
     → out ≡ old ++ flat_map (λ x. g (f x)) (take i xs) → map f xs ≡ ys → out ≡ old ++ flat_map g ys
 pieces_all f g old out xs i ys l e m =
     e ∙ ap (λ z. old ++ flat_map (λ x. g (f x)) z) (take_all i xs l) ∙ ap (λ z. old ++ z) (sym (flat_map-map f g xs)) ∙ ap (λ z. old ++ flat_map g z) m
-
-blocks_none : (entries : List PlainEntry) → blocks entries [] ≡ []
-blocks_none [] = refl
-blocks_none (e ∷ entries) = refl
-
-pub blocks_end : (entries : List PlainEntry) (answers : List PlainMessage) → (entries ≡ []) ⊎ (answers ≡ []) → blocks entries answers ≡ []
-blocks_end entries answers (inl e) = ap (λ (z : List PlainEntry). blocks z answers) e
-blocks_end entries answers (inr e) = ap (blocks entries) e ∙ blocks_none entries
-
--- what holds anyhow holds of a value
-pub if_ok : {X E : Type 0} (r : Result X E) (P : Type 0) → P → IfOk r (λ (x : X). P)
-if_ok (Ok x) P p = p
-if_ok (Err e) P p = tt
-
-maps_none : (entries : List PlainEntry) → HaveMaps entries []
-maps_none [] = tt
-maps_none (e ∷ entries) = tt
-
-pub maps_end : (entries : List PlainEntry) (answers : List PlainMessage) → (entries ≡ []) ⊎ (answers ≡ []) → HaveMaps entries answers
-maps_end entries answers (inl e) = subst (λ (z : List PlainEntry). HaveMaps z answers) (sym e) tt
-maps_end entries answers (inr e) = subst (HaveMaps entries) (sym e) (maps_none entries)
-
--- once nothing is left of what was to be written, a line ends it
-pub line_ends : (old out all left line : List ℕ) → out ++ left ≡ old ++ all → left ≡ [] → out ++ line ≡ old ++ (all ++ line)
-line_ends old out all left line e n =
-    ap (λ (z : List ℕ). z ++ line) (sym (append-nil out) ∙ ap (λ (z : List ℕ). out ++ z) (sym n) ∙ e) ∙ append_assoc old all line
 
 -- ---- want of memory
 

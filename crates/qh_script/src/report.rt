@@ -1,30 +1,37 @@
-ghost use Rattle.std.specs.Prelude.{◌≡◌, ◌++◌, map, codes, decimal, flat_map, IfOk, OnOk, OnErr};
+ghost use Rattle.std.specs.Prelude.{◌≡◌, ◌++◌, ℕ, map, codes, decimal, flat_map, option_copied, IfOk, IfSome, OnOk, OnErr};
+ghost use Rattle.std.specs.BTreeMap.{get};
+ghost use Rattle.std.specs.Ordering.{nat_cmp};
 ghost use Rattle.http_header.specs.HeaderMap.{keys, IsHeaderMap};
 ghost use Rattle.qh_spec.specs.Echoed.{HasMaps};
-ghost use Rattle.qh_spec.specs.Report.{report, block, entry_block, answer_block, ok_line, newline, head_text, map_lines, name_lines, value_line, body_lines, in_byte_order};
+ghost use Rattle.qh_spec.specs.Report.{block, entry_block, answer_block, ok_line, newline, head_text, map_lines, name_lines, value_line, body_lines, in_byte_order};
 ghost use Rattle.qh_spec.specs.TokenScript.{token_line};
 ghost use Rattle.qh_service.specs.Message.{head_of};
-ghost use Rattle.qh_script.specs.Report.{HasGrown, HaveMaps};
+ghost use Rattle.qh_script.specs.Report.{HasGrown, HaveMaps, entry_blocks, entry_on, report_by};
 
 use http_header::{HeaderMap, HeaderName};
 use qh_base::Memory;
 use qh_service::{Entry, Head, Message};
 use std::alloc::Global;
+use std::collections::BTreeMap;
 
-/// Appends the report of an exchange: for each answer the block of its entry, which stands at the same place of the record,
-/// and the block of the answer; then `ok N`. Want of memory, here and below, may leave a part behind what stood there.
+/// Appends the report of an exchange: for each answer the block of the first entry on its stream, which is `4*i` for the `i`-th
+/// answer, wherever that stands in the record, and the block of the answer; then `ok N`. Where a stream has no entry, its answer
+/// stands alone. Want of memory, here and below, may leave a part behind what stood there.
 pub fn put_report(
     alloc: Global,
     out: &mut Vec<u8>,
     entries: &[Entry],
     answers: &[Message],
 ) -> Result<(), Memory>
-    ensures ok { IfOk result (λ _. out.new.items ≡ out.old.items ++ report entries.now answers.now) }
+    ensures ok { IfOk result (λ _. out.new.items ≡ out.old.items ++ report_by entries.now answers.now) }
     ensures maps { IfOk result (λ _. HaveMaps entries.now answers.now) }
     ensures err { OnErr result (HasGrown out.old.items out.new.items) }
 {
-    for (entry, answer) in entries.iter().zip(answers) {
-        put_exchange(alloc, out, entry, answer)?;
+    let firsts = first_entries(alloc, entries)?;
+    let mut stream = 0;
+    for answer in answers {
+        put_exchange(alloc, out, firsts.get(&stream).copied(), stream, answer)?;
+        stream += 4;
     }
     put_ok_line(alloc, out, answers.len() as u64)
 }
@@ -78,19 +85,46 @@ pub fn put_token_line(out: &mut Vec<u8>, counts: bool) -> Result<(), Memory>
     put_text(out, if counts { "ok\n" } else { "reused\n" })
 }
 
-// The block of an entry, and that of the answer to it.
+// The first entry of each stream.
+fn first_entries(alloc: Global, entries: &[Entry]) -> Result<BTreeMap<u64, &Entry>, Memory>
+    ensures { IfOk result (λ firsts. (stream : ℕ) → option_copied (get nat_cmp firsts stream) ≡ entry_on stream entries.now) }
+{
+    let mut firsts = BTreeMap::new(alloc);
+    let mut left = entries.len();
+    while left > 0 {
+        left -= 1;
+        let entry = &entries[left];
+        firsts.insert(entry.stream, entry)?;
+    }
+    Ok(firsts)
+}
+
+// The block of an entry, where there is one, and that of the answer on its stream.
 fn put_exchange(
     alloc: Global,
     out: &mut Vec<u8>,
-    entry: &Entry,
+    entry: Option<&Entry>,
+    stream: u64,
     answer: &Message,
 ) -> Result<(), Memory>
-    ensures ok { OnOk result (out.new.items ≡ out.old.items ++ (entry_block entry.now ++ answer_block entry.now.stream answer.now)) }
-    ensures maps { IfOk result (λ _. HasMaps entry.now.request × HasMaps answer.now) }
+    ensures ok { OnOk result (out.new.items ≡ out.old.items ++ (entry_blocks (option_copied entry.entry) ++ answer_block stream answer.now)) }
+    ensures maps { IfOk result (λ _. IfSome (option_copied entry.entry) (λ e. HasMaps e.request) × HasMaps answer.now) }
     ensures err { OnErr result (HasGrown out.old.items out.new.items) }
 {
-    put_entry(alloc, out, entry)?;
-    put_block(alloc, out, "answer", entry.stream, answer)
+    put_entry_of(alloc, out, entry)?;
+    put_block(alloc, out, "answer", stream, answer)
+}
+
+// The block of an entry, where there is one.
+fn put_entry_of(alloc: Global, out: &mut Vec<u8>, entry: Option<&Entry>) -> Result<(), Memory>
+    ensures ok { OnOk result (out.new.items ≡ out.old.items ++ entry_blocks (option_copied entry.entry)) }
+    ensures maps { IfOk result (λ _. IfSome (option_copied entry.entry) (λ e. HasMaps e.request)) }
+    ensures err { OnErr result (HasGrown out.old.items out.new.items) }
+{
+    match entry {
+        Some(entry) => put_entry(alloc, out, entry),
+        None => Ok(()),
+    }
 }
 
 // The block of an entry.

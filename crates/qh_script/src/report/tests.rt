@@ -33,9 +33,13 @@ fn entry(alloc: Global, stream: u64, request: Message) -> Option<Entry> {
     })
 }
 
-fn get(alloc: Global) -> Option<Entry> {
+fn get_on(alloc: Global, stream: u64) -> Option<Entry> {
     let uri = Uri::from_static("https://a.test/").ok()?;
-    entry(alloc, 0, request(alloc, Method::GET, uri)?)
+    entry(alloc, stream, request(alloc, Method::GET, uri)?)
+}
+
+fn get(alloc: Global) -> Option<Entry> {
+    get_on(alloc, 0)
 }
 
 // Two trailers, not in byte order.
@@ -47,7 +51,7 @@ fn trailers(alloc: Global) -> Option<HeaderMap> {
 }
 
 // Two values of a field, a field that comes before it in byte order, a body, and two trailers.
-fn post(alloc: Global) -> Option<Entry> {
+fn post_on(alloc: Global, stream: u64) -> Option<Entry> {
     let uri = Uri::from_static("https://a.test?q").ok()?;
     let mut message = request(alloc, Method::POST, uri)?;
     append(alloc, message.fields_mut(), b"x-b", b"2")?;
@@ -55,7 +59,7 @@ fn post(alloc: Global) -> Option<Entry> {
     append(alloc, message.fields_mut(), b"x", b"3")?;
     message.set_body(b"body").ok()?;
     message.set_trailers(Some(trailers(alloc)?));
-    entry(alloc, 16, message)
+    entry(alloc, stream, message)
 }
 
 // The report of one exchange, and behind it that of none.
@@ -68,8 +72,21 @@ fn two_reports(alloc: Global) -> Option<Vec<u8>> {
     Some(out)
 }
 
+// The report of three exchanges, of which the last has no entry, where the record isn't in order and has a stream twice.
+fn turned_report(alloc: Global) -> Option<Vec<u8>> {
+    let entries = [get_on(alloc, 4)?, get_on(alloc, 0)?, post_on(alloc, 4)?];
+    let answers = [
+        response(alloc, b"a")?,
+        response(alloc, b"b")?,
+        response(alloc, b"c")?,
+    ];
+    let mut out = Vec::new(alloc);
+    put_report(alloc, &mut out, &entries, &answers).ok()?;
+    Some(out)
+}
+
 fn one_entry(alloc: Global) -> Option<Vec<u8>> {
-    let entries = [post(alloc)?];
+    let entries = [post_on(alloc, 16)?];
     let mut out = Vec::new(alloc);
     put_entries(alloc, &mut out, &entries).ok()?;
     put_ok_line(alloc, &mut out, 12).ok()?;
@@ -100,6 +117,13 @@ fn reports(rt: HostRuntime) {
     let wanted =
         b"entry 0 GET https://a.test/\nbody 0\n\nanswer 0 200\nbody 20\nGET https://a.test/\n\nok 1\nok 0\n";
     assert!(rt; is_text(two_reports(rt.alloc()), wanted));
+}
+
+#[test]
+fn turned(rt: HostRuntime) {
+    let wanted =
+        b"entry 0 GET https://a.test/\nbody 0\n\nanswer 0 200\nbody 1\na\nentry 4 GET https://a.test/\nbody 0\n\nanswer 4 200\nbody 1\nb\nanswer 8 200\nbody 1\nc\nok 3\n";
+    assert!(rt; is_text(turned_report(rt.alloc()), wanted));
 }
 
 #[test]

@@ -2,7 +2,7 @@ use Rattle.std.proofs.Common.{◌≡◌, ◌∙◌, sym, subst, ℕ, List, ◌++
 use Rattle.std.specs.Prelude.{codes, decimal}
 use Rattle.qh_spec.specs.Report.{newline}
 use Rattle.qh_exchange.specs.declared.error.ExchangeError.TheVariants.{Invalid}
-use Rattle.qh_exchange.specs.Program.{IsLastLine, invalid, timed_out, out_of_rounds, link, protocol, memory_wanting, not_built}
+use Rattle.qh_exchange.specs.Program.{IsLastLine, invalid, timed_out, out_of_rounds, link, protocol, memory_wanting}
 use Rattle.qh_exchange.proofs.Endings.{line_of_error}
 use Rattle.qh_exchange.proofs.program.last_line.Goals as goal
 
@@ -26,6 +26,3 @@ returns-in-Protocol c = line_of_error _ _ _ _ _ c.in-Protocol.is (protocol c.in-
 
 pub returns-in-Memory : goal.returns-in-Memory
 returns-in-Memory c = line_of_error _ _ _ _ _ c.in-Memory.is memory_wanting c.line-in-Memory.ensures
-
-pub returns-in-Unbuilt : goal.returns-in-Unbuilt
-returns-in-Unbuilt c = line_of_error _ _ _ _ _ c.in-Unbuilt.is not_built c.line-in-Unbuilt.ensures

@@ -9,13 +9,13 @@ returns c = λ s as_.
     (record {
       answered = x.answered_once;
       once = x.never_twice;
-      empty = x.empty;
-      unbuilt_list = x.unbuilt_list;
-      records = x.records;
+      within = x.within_announced;
+      invalid = x.invalid;
+      not_valid = x.not_valid;
       answers = x.answers;
-      built = x.built;
       cause = x.cause;
+      timed_out = x.timed_out;
+      lost = x.lost;
       out_of_rounds = x.out_of_rounds;
-      errors = x.errors;
     })
     x.plan c.events-events.ensures.scheduled c.requires.maps c.conclude.ensures.answered c.conclude.ensures.failed

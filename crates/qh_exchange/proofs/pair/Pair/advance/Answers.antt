@@ -1,51 +1,226 @@
-use Rattle.std.proofs.Common.{◌≡◌, refl, sym, ◌∙◌, ap, subst, ◌++◌, ◌∷◌, [], List, Err, append-nil}
+use Rattle.std.proofs.Common.{◌≡◌, refl, sym, ◌∙◌, ap, subst, ◌++◌, ◌∷◌, [], List, Some}
 use Rattle.std.proofs.lemmas.Result.{err_from_is_err_and, IfOk-weaker, IfErr-weaker}
-use Rattle.qh_spec.specs.Record.{PlainEntry}
 use Rattle.qh_spec.specs.declared.link.Event.{Event}
 use Rattle.qh_spec.specs.declared.link.Event.TheVariants.{Round}
 use Rattle.qh_spec.specs.Turns.{IsWholeTurn}
 use Rattle.qh_exchange.specs.Steps.{AreIntakes, AreOutputs, IsLinkError}
-use Rattle.qh_exchange.specs.Turn.{AreSmall, BuiltBy, IsTurnError}
-use Rattle.qh_exchange.proofs.Pairs.{step_trans, step_kind, both_nothing, built_nothing, built_end, whole_turn, turn_error}
+use Rattle.qh_exchange.specs.Turn.{IsTurnError}
+use Rattle.qh_exchange.proofs.ClockSteps.{is_turn_error, link_no_protocol}
+use Rattle.qh_exchange.proofs.PairSteps.{step_trans, step_kind, step_fails, step_rests}
+use Rattle.qh_exchange.proofs.Turns.{ticks_link, ticks_lost, ticks_last, ok_always, no_protocol, counts_after, never_failed, grew_none, grew_same, whole_turn}
 use Rattle.qh_exchange.proofs.pair.Pair.advance.Goals as goal
+
+-- what each step asks
+
+pub receive-requires-clause-open : goal.receive-requires-clause-open
+receive-requires-clause-open g c = c.in_ok-now.ensures.open
+
+pub receive-requires-clause-over : goal.receive-requires-clause-over
+receive-requires-clause-over g c = (c.in_ok-now.ensures.step []).same.over ∙ c.requires.over
+
+pub receive-requires-clause-counted : goal.receive-requires-clause-counted
+receive-requires-clause-counted g c = (c.in_ok-now.ensures.step []).counted refl
+
+pub tick-requires-clause-open : goal.tick-requires-clause-open
+tick-requires-clause-open g c = c.in_ok-receive.ensures.open
+
+pub tick-requires-clause-over : goal.tick-requires-clause-over
+tick-requires-clause-over g c = (c.in_ok-receive.ensures.step []).same.over ∙ (c.in_ok-now.ensures.step []).same.over ∙ c.requires.over
+
+pub tick-requires-clause-counted : goal.tick-requires-clause-counted
+tick-requires-clause-counted g c = (c.in_ok-receive.ensures.step []).counted refl
+
+pub converse-requires-clause-open : goal.converse-requires-clause-open
+converse-requires-clause-open g c = c.tick.ensures.open
+
+pub converse-requires-clause-going : goal.converse-requires-clause-going
+converse-requires-clause-going g c = c.in_ok-tick.ensures.going
+
+pub converse-requires-clause-over : goal.converse-requires-clause-over
+converse-requires-clause-over g c =
+    c.tick.ensures.still.same.over ∙ (c.in_ok-receive.ensures.step []).same.over ∙ (c.in_ok-now.ensures.step []).same.over ∙ c.requires.over
+
+pub converse-requires-clause-counted : goal.converse-requires-clause-counted
+converse-requires-clause-counted g c = c.tick.ensures.still.counted
+
+pub transmit-requires-clause-open : goal.transmit-requires-clause-open
+transmit-requires-clause-open g c = c.converse.ensures.open
+
+pub transmit-requires-clause-over : goal.transmit-requires-clause-over
+transmit-requires-clause-over g c =
+    (c.converse.ensures.step (Some [])).same.over ∙ c.tick.ensures.still.same.over ∙ (c.in_ok-receive.ensures.step []).same.over ∙ (c.in_ok-now.ensures.step []).same.over ∙ c.requires.over
+
+pub transmit-requires-clause-counted : goal.transmit-requires-clause-counted
+transmit-requires-clause-counted g c = (c.converse.ensures.step (Some [])).counted refl
+
+-- where the round didn't begin
 
 pub returns-in_err-now-clause-step : goal.returns-in_err-now-clause-step
 returns-in_err-now-clause-step g c =
     let p = err_from_is_err_and c.from_residual.result c.from_residual.ensures.1 in
+    rw p.1 (step_kind _ _ _ _ _ _ _ _ _ (c.in_err-now.ensures.step _) (λ x k. tt))
+
+pub returns-in_err-now-clause-clock : goal.returns-in_err-now-clause-clock
+returns-in_err-now-clause-clock g c =
+    let p = err_from_is_err_and c.from_residual.result c.from_residual.ensures.1 in
     rw (p.1, p.2)
-    (step_kind _ _ _ _ _ _ _ _ (c.begin.ensures.step _) (λ x f k. (tt, built_nothing (Unit {0}) _ f c.in_err-now.ensures.errors k.1)))
+    (λ before moments is t. let b = c.in_err-now.ensures.clock before moments is t in ticks_link _ _ _ _ _ _ b.more _ c.in_err-now.ensures.errors b.are)
+
+pub returns-in_err-now-clause-cause : goal.returns-in_err-now-clause-cause
+returns-in_err-now-clause-cause g c =
+    let p = err_from_is_err_and c.from_residual.result c.from_residual.ensures.1 in rw (p.1, p.2) c.in_err-now.ensures.cause
+
+pub returns-in_err-now-clause-lost : goal.returns-in_err-now-clause-lost
+returns-in_err-now-clause-lost g c =
+    let p = err_from_is_err_and c.from_residual.result c.from_residual.ensures.1 in rw (p.1, p.2) (link_no_protocol (Unit {0}) _ _ c.in_err-now.ensures.errors)
+
+pub returns-in_err-now-clause-errors : goal.returns-in_err-now-clause-errors
+returns-in_err-now-clause-errors g c =
+    let p = err_from_is_err_and c.from_residual.result c.from_residual.ensures.1 in rw (p.1, p.2) (is_turn_error _ c.in_err-now.ensures.errors)
+
+pub returns-in_err-now-clause-answered : goal.returns-in_err-now-clause-answered
+returns-in_err-now-clause-answered g c = grew_none _ _
+
+-- where a datagram wasn't taken
 
 pub returns-in_err-receive-clause-step : goal.returns-in_err-receive-clause-step
 returns-in_err-receive-clause-step g c =
     let p = err_from_is_err_and c.from_residual-in_err-receive.result c.from_residual-in_err-receive.ensures.1 in
+    rw p.1 (step_trans _ _ _ _ _ _ _ _ _ _ _ _ _ (c.in_ok-now.ensures.step _) (c.in_err-receive.ensures.step _) (λ x y k m. tt))
+
+pub returns-in_err-receive-clause-clock : goal.returns-in_err-receive-clause-clock
+returns-in_err-receive-clause-clock g c =
+    let p = err_from_is_err_and c.from_residual-in_err-receive.result c.from_residual-in_err-receive.ensures.1 in
     rw (p.1, p.2)
-    (step_trans _ _ _ _ _ _ _ _ _ _ _ _ (c.begin.ensures.step _) (c.receive.ensures.step _)
-    (λ x y f h k m. (tt, built_nothing (Unit {0}) _ (f ++ h) c.in_err-receive.ensures.errors (both_nothing f h k.1 m.1))))
+    (λ before moments is t.
+    let b = c.in_ok-now.ensures.clock before moments is t in ticks_link _ _ _ _ _ _ b.more _ c.in_err-receive.ensures.errors (c.receive.ensures.moments ∙ b.are))
+
+pub returns-in_err-receive-clause-cause : goal.returns-in_err-receive-clause-cause
+returns-in_err-receive-clause-cause g c =
+    let p = err_from_is_err_and c.from_residual-in_err-receive.result c.from_residual-in_err-receive.ensures.1 in
+    rw (p.1, p.2) (counts_after _ _ _ _ c.in_ok-now.ensures.cause.stays c.in_err-receive.ensures.cause)
+
+pub returns-in_err-receive-clause-lost : goal.returns-in_err-receive-clause-lost
+returns-in_err-receive-clause-lost g c =
+    let p = err_from_is_err_and c.from_residual-in_err-receive.result c.from_residual-in_err-receive.ensures.1 in
+    rw (p.1, p.2) (link_no_protocol (Unit {0}) _ _ c.in_err-receive.ensures.errors)
+
+pub returns-in_err-receive-clause-errors : goal.returns-in_err-receive-clause-errors
+returns-in_err-receive-clause-errors g c =
+    let p = err_from_is_err_and c.from_residual-in_err-receive.result c.from_residual-in_err-receive.ensures.1 in
+    rw (p.1, p.2) (is_turn_error _ c.in_err-receive.ensures.errors)
+
+pub returns-in_err-receive-clause-answered : goal.returns-in_err-receive-clause-answered
+returns-in_err-receive-clause-answered g c = grew_none _ _
+
+-- where an end was lost
+
+pub returns-in_err-tick-clause-step : goal.returns-in_err-tick-clause-step
+returns-in_err-tick-clause-step g c =
+    let p = err_from_is_err_and c.from_residual-in_err-tick.result c.from_residual-in_err-tick.ensures.1 in
+    rw p.1
+    (step_fails _ _ _ _ _ _ (λ (more : List Event). Unit {0}) _
+    (step_rests _ _ _ _ _ _ _ (λ (more : List Event). Unit {0})
+    (step_trans _ _ _ _ _ _ _ _ _ _ _ _ (λ (more : List Event). Unit {0}) (c.in_ok-now.ensures.step _) (c.in_ok-receive.ensures.step _) (λ x y k m. tt)) c.tick.ensures.still)
+    (λ x k. tt))
+
+pub returns-in_err-tick-clause-clock : goal.returns-in_err-tick-clause-clock
+returns-in_err-tick-clause-clock g c =
+    let p = err_from_is_err_and c.from_residual-in_err-tick.result c.from_residual-in_err-tick.ensures.1 in
+    rw (p.1, p.2)
+    (λ before moments is t.
+    let b = c.in_ok-now.ensures.clock before moments is t in
+    let last = b.begun.0 in
+    let taken = c.in_ok-receive.ensures.ticking _ last b.begun.1 in
+    ticks_lost _ _ _ _ _ _ b.more _ (c.receive.ensures.moments ∙ b.are) ((c.in_ok-receive.ensures.step []).same.config ∙ (c.in_ok-now.ensures.step []).same.config)
+    (c.in_err-tick.ensures.timed_out _ last taken))
+
+pub returns-in_err-tick-clause-cause : goal.returns-in_err-tick-clause-cause
+returns-in_err-tick-clause-cause g c =
+    let p = err_from_is_err_and c.from_residual-in_err-tick.result c.from_residual-in_err-tick.ensures.1 in
+    rw (p.1, p.2) (counts_after _ _ _ _ c.in_ok-now.ensures.cause.stays (never_failed _ _ _ c.in_err-tick.ensures.cause c.in_ok-receive.ensures.cause.stays))
+
+pub returns-in_err-tick-clause-lost : goal.returns-in_err-tick-clause-lost
+returns-in_err-tick-clause-lost g c =
+    let p = err_from_is_err_and c.from_residual-in_err-tick.result c.from_residual-in_err-tick.ensures.1 in rw (p.1, p.2) c.in_err-tick.ensures.lost
+
+pub returns-in_err-tick-clause-errors : goal.returns-in_err-tick-clause-errors
+returns-in_err-tick-clause-errors g c =
+    let p = err_from_is_err_and c.from_residual-in_err-tick.result c.from_residual-in_err-tick.ensures.1 in rw (p.1, p.2) c.in_err-tick.ensures.errors
+
+pub returns-in_err-tick-clause-answered : goal.returns-in_err-tick-clause-answered
+returns-in_err-tick-clause-answered g c = grew_none _ _
+
+-- where there was no memory to ask or serve
 
 pub returns-in_err-converse-clause-step : goal.returns-in_err-converse-clause-step
 returns-in_err-converse-clause-step g c =
     let p = err_from_is_err_and c.from_residual-in_err-converse.result c.from_residual-in_err-converse.ensures.1 in
-    let e = c.in_err-converse.field-0.0 in
-    rw (p.1, p.2)
-    (step_trans _ _ _ _ _ _ _ _ _ (λ more fresh. fresh ≡ []) _ _
-    (step_trans _ _ _ _ _ _ _ _ _ _ _ (λ more fresh. fresh ≡ []) (c.begin.ensures.step _) (c.receive.ensures.step _) (λ x y f h k m. both_nothing f h k.1 m.1))
-    (c.in_err-converse.ensures.step _)
-    (λ x y f h k m. (tt, subst (λ (z : List PlainEntry). BuiltBy {T = Unit {0}} (Err e) (z ++ h)) (sym k) m.1)))
+    rw p.1
+    (step_fails _ _ _ _ _ _ (λ (more : List Event). Unit {0}) _
+    (step_trans _ _ _ _ _ _ _ _ _ _ (λ (more : List Event). Unit {0}) _ (λ (more : List Event). Unit {0})
+    (step_rests _ _ _ _ _ _ _ (λ (more : List Event). Unit {0})
+    (step_trans _ _ _ _ _ _ _ _ _ _ _ _ (λ (more : List Event). Unit {0}) (c.in_ok-now.ensures.step _) (c.in_ok-receive.ensures.step _) (λ x y k m. tt)) c.tick.ensures.still)
+    (c.converse.ensures.step _) (λ x y k m. tt))
+    (λ x k. tt))
+
+pub returns-in_err-converse-clause-clock : goal.returns-in_err-converse-clause-clock
+returns-in_err-converse-clause-clock g c =
+    let p = err_from_is_err_and c.from_residual-in_err-converse.result c.from_residual-in_err-converse.ensures.1 in
+    rw (p.1, p.2) (λ before moments is t. let b = c.in_ok-now.ensures.clock before moments is t in ticks_link _ _ _ _ _ _ b.more _ tt (c.receive.ensures.moments ∙ b.are))
+
+pub returns-in_err-converse-clause-cause : goal.returns-in_err-converse-clause-cause
+returns-in_err-converse-clause-cause g c =
+    let p = err_from_is_err_and c.from_residual-in_err-converse.result c.from_residual-in_err-converse.ensures.1 in
+    rw (p.1, p.2) (counts_after _ _ _ _ c.in_ok-now.ensures.cause.stays (never_failed _ _ _ refl c.in_ok-receive.ensures.cause.stays))
+
+pub returns-in_err-converse-clause-lost : goal.returns-in_err-converse-clause-lost
+returns-in_err-converse-clause-lost g c =
+    let p = err_from_is_err_and c.from_residual-in_err-converse.result c.from_residual-in_err-converse.ensures.1 in rw (p.1, p.2) tt
+
+pub returns-in_err-converse-clause-errors : goal.returns-in_err-converse-clause-errors
+returns-in_err-converse-clause-errors g c =
+    let p = err_from_is_err_and c.from_residual-in_err-converse.result c.from_residual-in_err-converse.ensures.1 in rw (p.1, p.2) tt
+
+pub returns-in_err-converse-clause-answered : goal.returns-in_err-converse-clause-answered
+returns-in_err-converse-clause-answered g c =
+    grew_same g.V.Service.may_answer _ _ _ _ (c.tick.ensures.still.same.limits ∙ (c.in_ok-receive.ensures.step []).same.limits ∙ (c.in_ok-now.ensures.step []).same.limits) c.converse.ensures.answered
+
+-- where the ends sent
 
 pub returns-clause-step : goal.returns-clause-step
 returns-clause-step g c =
-    step_trans _ _ _ _ _ _ _ _ _ _ _ _
-    (step_trans _ _ _ _ _ _ _ _ _ _ _ (λ more fresh. (b1 b2 : List Event) × (more ≡ (b1 ++ b2) ++ []) × (b1 ≡ Round c.in_ok-now.now.0 ∷ []) × AreIntakes b2 × AreSmall fresh)
-    (step_trans _ _ _ _ _ _ _ _ _ _ _ (λ more fresh. (b1 b2 : List Event) × (more ≡ b1 ++ b2) × (b1 ≡ Round c.in_ok-now.now.0 ∷ []) × AreIntakes b2 × (fresh ≡ []))
-    (c.in_ok-now.ensures.step _) (c.in_ok-receive.ensures.step _) (λ x y f h k m. (x, y, refl, k.0, m.0, both_nothing f h k.1 m.1)))
-    (c.in_ok-converse.ensures.step _)
-    (λ x y f h k m. (k.0, k.1, ap (λ (z : List Event). z ++ y) k.2 ∙ ap (λ (z : List Event). (k.0 ++ k.1) ++ z) m.0, k.3, k.4, subst (λ (z : List PlainEntry). AreSmall (z ++ h)) (sym k.5) m.1)))
+    step_trans _ _ _ _ _ _ _ _ _ _ _ _ _
+    (step_trans _ _ _ _ _ _ _ _ _ _ _ _ (λ (more : List Event). (b1 b2 : List Event) × (more ≡ (b1 ++ b2) ++ []) × (b1 ≡ Round c.in_ok-now.now.0 ∷ []) × AreIntakes b2)
+    (step_rests _ _ _ _ _ _ _ _
+    (step_trans _ _ _ _ _ _ _ _ _ _ _ _ (λ (more : List Event). (b1 b2 : List Event) × (more ≡ b1 ++ b2) × (b1 ≡ Round c.in_ok-now.now.0 ∷ []) × AreIntakes b2)
+    (c.in_ok-now.ensures.step _) (c.in_ok-receive.ensures.step _) (λ x y k m. (x, y, refl, k, m)))
+    c.tick.ensures.still)
+    (c.converse.ensures.step _)
+    (λ x y k m. (k.0, k.1, ap (λ (z : List Event). z ++ y) k.2 ∙ ap (λ (z : List Event). (k.0 ++ k.1) ++ z) m, k.3, k.4)))
     (c.transmit.ensures.step _)
-    (λ x y f h k m. (
-      IfOk-weaker c.transmit.result (λ z. AreOutputs y) (λ z. IsWholeTurn (x ++ y))
-          (λ z out. rw k.2 (whole_turn c.in_ok-now.now.0 k.0 k.1 [] y k.3 k.4 refl out)) m.0,
-      built_end c.transmit.result (f ++ h) (subst (λ (z : List PlainEntry). AreSmall (f ++ z)) (sym m.1) (rw append-nil k.5)) c.transmit.ensures.errors,
-    ))
+    (λ x y k m. IfOk-weaker c.transmit.result (λ z. AreOutputs y) (λ z. IsWholeTurn (x ++ y)) (λ z out. rw k.2 (whole_turn c.in_ok-now.now.0 k.0 k.1 [] y k.3 k.4 refl out)) m)
+
+pub returns-clause-clock : goal.returns-clause-clock
+returns-clause-clock g c = λ before moments is t.
+    let b = c.in_ok-now.ensures.clock before moments is t in
+    let last = b.begun.0 in
+    let taken = c.in_ok-receive.ensures.ticking _ last b.begun.1 in
+    let ticked = c.in_ok-tick.ensures.ticking _ last taken in
+    ticks_last _ _ _ _ _ _ _ b.more c.transmit.result (c.transmit.ensures.moments ∙ c.receive.ensures.moments ∙ b.are) c.transmit.ensures.errors c.transmit.ensures.ticking last (c.converse.ensures.ticking _ ticked)
+
+pub returns-clause-round : goal.returns-clause-round
+returns-clause-round g c = ok_always c.transmit.result _ (c.in_ok-now.now.0, c.transmit.ensures.moments ∙ c.receive.ensures.moments ∙ c.in_ok-now.ensures.round)
+
+pub returns-clause-cause : goal.returns-clause-cause
+returns-clause-cause g c = counts_after _ _ _ _ c.in_ok-now.ensures.cause.stays (counts_after _ _ _ _ c.in_ok-receive.ensures.cause.stays c.transmit.ensures.cause)
+
+pub returns-clause-lost : goal.returns-clause-lost
+returns-clause-lost g c = no_protocol c.transmit.result _ c.transmit.ensures.errors
 
 pub returns-clause-errors : goal.returns-clause-errors
-returns-clause-errors g c = IfErr-weaker c.transmit.result IsLinkError IsTurnError turn_error c.transmit.ensures.errors
+returns-clause-errors g c = IfErr-weaker c.transmit.result IsLinkError IsTurnError is_turn_error c.transmit.ensures.errors
+
+pub returns-clause-answered : goal.returns-clause-answered
+returns-clause-answered g c =
+    grew_same g.V.Service.may_answer _ _ _ _ (c.tick.ensures.still.same.limits ∙ (c.in_ok-receive.ensures.step []).same.limits ∙ (c.in_ok-now.ensures.step []).same.limits) c.converse.ensures.answered

@@ -1,16 +1,15 @@
-use Rattle.std.proofs.Common.{Bool}
+use Rattle.std.proofs.Common.{Bool, refl, sym, ◌∙◌, ap}
 use Rattle.std.proofs.lemmas.Result.{err_from_is_err_and}
 use Rattle.qh_spec.specs.Turns.{IsWholeTurn}
-use Rattle.qh_exchange.proofs.Pairs.{goes_on, adds, records, built_again}
+use Rattle.qh_base.specs.declared.connection_error.ConnectionError.{ConnectionError}
+use Rattle.qh_exchange.specs.Pair.{PairState}
+use Rattle.qh_exchange.specs.Turn.{IsProtocolLoss}
+use Rattle.qh_exchange.proofs.ClockSteps.{both_ticking}
+use Rattle.qh_exchange.proofs.Turns.{turning, turned_as, counted_over, goes_well_as, goes_ill, clocked_well_as, clocked_ill, adds, protocol_again}
 use Rattle.qh_exchange.proofs.pair.Pair.turn.Goals as goal
 
 pub returns-in_err-advance-clause-goes_on : goal.returns-in_err-advance-clause-goes_on
-returns-in_err-advance-clause-goes_on g c = goes_on _ _ _ _ _ _ _ c.advance.ensures.step
-
-pub returns-in_err-advance-clause-records : goal.returns-in_err-advance-clause-records
-returns-in_err-advance-clause-records g c =
-    let p = err_from_is_err_and c.from_residual.result c.from_residual.ensures.1 in
-    rw (p.1, p.2) (records _ _ _ _ _ _ _ _ c.in_err-advance.ensures.step (λ x f k. built_again (Unit {0}) Bool c.in_err-advance.field-0.0 f k.1))
+returns-in_err-advance-clause-goes_on g c = rw (← c.self.view_is) (goes_ill _ _ _ _ _ _ _ (ap (λ (z : PairState). z.is_over) c.self.view_is ∙ c.requires.going) c.in_err-advance.ensures.step)
 
 pub returns-in_err-advance-clause-cause : goal.returns-in_err-advance-clause-cause
 returns-in_err-advance-clause-cause g c =
@@ -20,11 +19,25 @@ pub returns-in_err-advance-clause-errors : goal.returns-in_err-advance-clause-er
 returns-in_err-advance-clause-errors g c =
     let p = err_from_is_err_and c.from_residual.result c.from_residual.ensures.1 in rw (p.1, p.2) c.in_err-advance.ensures.errors
 
-pub returns-clause-goes_on : goal.returns-clause-goes_on
-returns-clause-goes_on g c = goes_on _ _ _ _ _ _ _ c.advance.ensures.step
+pub returns-in_err-advance-clause-lost : goal.returns-in_err-advance-clause-lost
+returns-in_err-advance-clause-lost g c =
+    let p = err_from_is_err_and c.from_residual.result c.from_residual.ensures.1 in rw (p.1, p.2) (protocol_again (Unit {0}) Bool c.in_err-advance.field-0.0 (λ (e : ConnectionError). IsProtocolLoss e c.advance.new.self) c.in_err-advance.ensures.lost)
 
 pub returns-clause-turned : goal.returns-clause-turned
-returns-clause-turned g c = adds _ _ _ _ _ _ _ IsWholeTurn c.in_ok-advance.ensures.step (λ x f k. k.0)
+returns-clause-turned g c = adds _ _ _ _ _ _ _ _ IsWholeTurn c.in_ok-advance.ensures.step (λ x k. k)
 
-pub returns-clause-records : goal.returns-clause-records
-returns-clause-records g c = records _ _ _ _ _ _ _ _ c.in_ok-advance.ensures.step (λ x f k. k.1)
+pub returns-in_err-advance-clause-clock : goal.returns-in_err-advance-clause-clock
+returns-in_err-advance-clause-clock g c =
+    let p = err_from_is_err_and c.from_residual.result c.from_residual.ensures.1 in
+    rw (p.1, p.2, ← c.self.view_is)
+    (λ before moments is t. clocked_ill _ _ _ _ _ _ (c.in_err-advance.ensures.clock before moments is (both_ticking _ _ moments t)))
+
+pub returns-clause-goes_on : goal.returns-clause-goes_on
+returns-clause-goes_on g c =
+    rw (← c.self.view_is)
+    (goes_well_as _ _ _ _ _ _ _ _ c.self-2.view_is (ap (λ (z : PairState). z.is_over) c.self.view_is ∙ c.requires.going) c.in_ok-advance.ensures.step)
+
+pub returns-clause-clock : goal.returns-clause-clock
+returns-clause-clock g c =
+    rw (← c.self.view_is)
+    (λ before moments is t. clocked_well_as _ _ _ _ _ _ _ _ c.self-2.view_is (c.in_ok-advance.ensures.clock before moments is (both_ticking _ _ moments t)))

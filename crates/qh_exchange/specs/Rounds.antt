@@ -1,0 +1,50 @@
+-- What the rounds of an exchange leave of its pair.
+use Rattle.std.specs.Prelude.{◌≡◌, ◌≢◌, ◌<◌, ℕ, false, List, [], ◌++◌, Option, Result, IfErr, IfOk, length}
+use Rattle.qh_connection.specs.declared.config.ConnConfig.{ConnConfig}
+use Rattle.qh_roles.specs.Client.{held}
+use Rattle.qh_service.specs.declared.service.Limits.{Limits}
+use Rattle.qh_spec.specs.declared.link.Event.{Event}
+use Rattle.qh_spec.specs.Message.{PlainMessage}
+use Rattle.qh_spec.specs.Record.{PlainEntry}
+use Rattle.qh_spec.specs.Turns.{AreWholeTurns}
+use Rattle.qh_exchange.specs.Clock.{IsClocked}
+use Rattle.qh_exchange.specs.Exchange.{IfOutOfRounds, IfProtocol, IfTimedOut}
+use Rattle.qh_exchange.specs.Pair.{PairState, Running, GoesOn}
+use Rattle.qh_exchange.specs.Turn.{Adds, IsProtocolLoss, WasIdle}
+use Rattle.qh_exchange.specs.declared.error.ExchangeError.{ExchangeError}
+use Rattle.qh_exchange.specs.declared.error.ExchangeError.TheVariants.{Invalid}
+
+-- a pair before its first turn, with requests of which none is answered
+pub record IsAsked (id_length : ℕ) (config : ConnConfig) (limits : Limits) (requests : List PlainMessage) (p : PairState) : Type 0 where
+  pub running : Running p [] []
+  pub clocked : IsClocked p []
+  pub ids : p.id_length ≡ id_length
+  pub config_is : p.config ≡ config
+  pub limits_are : p.server.limits ≡ limits
+  pub asked : p.client.requests ≡ requests
+  pub lacks : held p.client.answers ≢ length p.client.requests
+  pub going : p.is_over ≡ false
+
+-- exactly so many rounds were made, each a whole turn where the events are told, and an answer is missing
+pub record IsRunOut (rounds : ℕ) (p : PairState) (told_before told_after : Option (List Event)) (moments_before moments_after : List ℕ) : Type 0 where
+  pub turns : Adds (AreWholeTurns rounds) told_before told_after
+  pub moments : List ℕ
+  pub moments_are : moments_after ≡ moments_before ++ moments
+  pub rounds_are : length moments ≡ rounds
+  pub fewer : held p.client.answers < length p.client.requests
+
+-- the errors that rounds may end by
+abbrev pub IsRoundsError : ExchangeError → Type 0
+IsRoundsError (Invalid index) = ⊥
+IsRoundsError _ = Unit {0}
+
+-- rounds were made, and ended in this way
+pub record RoundsMade (rounds : ℕ) (old new : PairState) (told_before told_after : Option (List Event)) (moments_before moments_after : List ℕ) (served_before served_after : List PlainEntry)
+    (result : Result (Unit {0}) ExchangeError) : Type 0 where
+  pub goes : GoesOn old told_before served_before new told_after served_after
+  pub requests : new.client.requests ≡ old.client.requests
+  pub all : IfOk result (λ _. held new.client.answers ≡ length new.client.requests)
+  pub out : IfOutOfRounds result (IsRunOut rounds new told_before told_after moments_before moments_after)
+  pub timed_out : IfTimedOut result (WasIdle old.config.idle moments_before moments_after)
+  pub lost : IfProtocol result (λ e. IsProtocolLoss e new)
+  pub errors : IfErr result IsRoundsError

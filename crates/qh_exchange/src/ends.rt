@@ -1,0 +1,288 @@
+ghost use Rattle.std.specs.Prelude.{◌≡◌, ◌≤◌, ◌<◌, ◌++◌, ◌∷◌, [], ℕ, List, Option, Some, None, true, length, is_some, IfOk, IfErr, IfSome, MatchOption};
+ghost use Rattle.qh_base.specs.declared.connection_error.ConnectionError.TheVariants.{TimedOut};
+ghost use Rattle.qh_base.specs.declared.time.Span.{Span as ASpan};
+ghost use Rattle.qh_connection.specs.Follows.{Follows};
+ghost use Rattle.qh_connection.specs.Inner.{IsSameEnd};
+ghost use Rattle.qh_exchange.specs.Clock.{HasPassed, IsEndClocked};
+ghost use Rattle.qh_exchange.specs.EndCalls.{IsHandedIn, IsPolledOut, IsTicked, polled_acts};
+ghost use Rattle.qh_exchange.specs.Steps.{EndStep, EndTicked, IsEndUndisturbed, IsLinkError, IsNewEnd, is_done};
+ghost use Rattle.qh_exchange.specs.Turn.{IsLostWith, IsNotLost, has_link_failed};
+ghost use Rattle.qh_spec.specs.Fault.{CountsFaults};
+ghost use Rattle.qh_spec.specs.Transcript.{Act};
+ghost use Rattle.qh_spec.specs.Turns.{IsIntake, IsOutput};
+
+use crate::{ExchangeError, Link, MAX_DATAGRAM};
+use bytes::Bytes;
+use qh_base::{ConnectionError, ConnectionId, FourTuple, Memory, Moment, Side};
+use qh_connection::{ConnConfig, Connection, ConnectionEvent, PlainSession};
+use std::alloc::Global;
+use std::net::{IpAddr, Ipv4Addr, SocketAddr};
+
+// What the ids of the client, those of the server, and the one that their tags are made of begin with.
+const CLIENT_MARK: u8 = 0xc0;
+
+const SERVER_MARK: u8 = 0x50;
+
+const KEY_MARK: u8 = 0xd0;
+
+/// The longest server name.
+pub(crate) const MAX_NAME: usize = 255;
+
+// How many datagrams an end takes in a turn, and how many it sends.
+const TAKEN_A_TURN: u32 = 65_536;
+
+const SENT_A_TURN: u32 = 4_096;
+
+/// An end of the connection of a pair.
+pub(crate) type End = Connection<PlainSession>;
+
+/// The connection ids of the two ends, and the one that their tags are made of.
+#[derive(Clone, Copy)]
+pub(crate) struct Ids {
+    pub(crate) client: ConnectionId,
+    pub(crate) server: ConnectionId,
+    pub(crate) key: ConnectionId,
+}
+
+impl Ids {
+    /// Ids of these lengths.
+    pub(crate) fn of(local_id_len: u64, first_id_len: u64) -> Ids
+        requires local { (1 ≤ local_id_len) × (local_id_len ≤ 20) }
+        requires first { (1 ≤ first_id_len) × (first_id_len ≤ 20) }
+        ensures { (length result.client ≡ local_id_len) × (length result.server ≡ local_id_len) }
+    {
+        Ids {
+            client: marked_id(CLIENT_MARK, local_id_len),
+            server: marked_id(SERVER_MARK, local_id_len),
+            key: marked_id(KEY_MARK, first_id_len),
+        }
+    }
+}
+
+// An id of this length, which begins with the mark and is zero behind it.
+fn marked_id(mark: u8, count: u64) -> ConnectionId
+    requires some { 1 ≤ count }
+    requires short { count ≤ 20 }
+    ensures { length result ≡ count }
+{
+    let mut bytes = [0; ConnectionId::MAX_LEN];
+    bytes[0] = mark;
+    ConnectionId::new(&bytes[..count as usize]).unwrap()
+}
+
+/// This side's end, which opens now.
+pub(crate) fn open_end(
+    alloc: Global,
+    side: Side,
+    ids: &Ids,
+    config: ConnConfig,
+    name: &str,
+    now: Moment,
+) -> Result<End, Memory>
+    requires name { length name.now ≤ MAX_NAME }
+    requires ids { length ids.now.server ≡ length ids.now.client }
+    ensures end { IfOk result (IsNewEnd side (length ids.now.client) config now) }
+{
+    let session = PlainSession::new(ids.key, name.as_bytes())?;
+    let (local, remote) = ids_from(side, ids);
+    Ok(Connection::new(
+        alloc,
+        config,
+        side,
+        session,
+        local,
+        remote,
+        path_from(side),
+        now,
+    ))
+}
+
+// The id of this side, and that of the other.
+fn ids_from(side: Side, ids: &Ids) -> (ConnectionId, ConnectionId)
+    requires { length ids.now.server ≡ length ids.now.client }
+    ensures { (length result.0 ≡ length ids.now.client) × (length result.1 ≡ length ids.now.client) }
+{
+    match side {
+        Side::Client => (ids.client, ids.server),
+        Side::Server => (ids.server, ids.client),
+    }
+}
+
+// The client is 10.0.0.1 port 1000, the server 10.0.0.2 port 443.
+fn path_from(side: Side) -> FourTuple {
+    let client = SocketAddr::new(IpAddr::V4(Ipv4Addr::new(10, 0, 0, 1)), 1_000);
+    let server = SocketAddr::new(IpAddr::V4(Ipv4Addr::new(10, 0, 0, 2)), 443);
+    let (local, remote) = match side {
+        Side::Client => (client, server),
+        Side::Server => (server, client),
+    };
+    FourTuple {
+        remote,
+        local_ip: Some(local.ip()),
+    }
+}
+
+/// Hands an end each datagram that the link has ready for it.
+pub(crate) fn receive_at<L: Link>(
+    alloc: Global,
+    slot: &mut Option<End>,
+    side: Side,
+    now: Moment,
+    link: &mut L,
+) -> Result<(), ExchangeError>
+    requires { is_some slot.old ≡ true }
+    ensures step { EndStep (is_done result) now side slot.old slot.new (L.events link.old) (L.events link.new) (λ more. IfOk result (λ _. IsIntake side more)) }
+    ensures open { is_some slot.new ≡ true }
+    ensures moments { L.moments link.new ≡ L.moments link.old }
+    ensures cause { CountsFaults (L.faults link.old) (L.faults link.new) (has_link_failed result) }
+    ensures plan { L.plan link.new ≡ L.plan link.old }
+    ensures errors { IfErr result IsLinkError }
+{
+    let Some(end) = slot else {
+        return Ok(());
+    };
+    take_datagrams(alloc, end, side, now, link)
+}
+
+/// Hands the link each datagram that an end has to send.
+pub(crate) fn transmit_at<L: Link>(
+    alloc: Global,
+    slot: &mut Option<End>,
+    side: Side,
+    now: Moment,
+    link: &mut L,
+) -> Result<(), ExchangeError>
+    requires { is_some slot.old ≡ true }
+    ensures step { EndStep (is_done result) now side slot.old slot.new (L.events link.old) (L.events link.new) (λ more. IfOk result (λ _. IsOutput side more)) }
+    ensures open { is_some slot.new ≡ true }
+    ensures moments { L.moments link.new ≡ L.moments link.old }
+    ensures cause { CountsFaults (L.faults link.old) (L.faults link.new) (has_link_failed result) }
+    ensures plan { L.plan link.new ≡ L.plan link.old }
+    ensures errors { IfErr result IsLinkError }
+{
+    let Some(end) = slot else {
+        return Ok(());
+    };
+    send_datagrams(alloc, end, side, now, link)
+}
+
+/// Does what is due for an end by now, and says why it is lost, where it is. Its events are told to nobody.
+pub(crate) fn tick_at(slot: &mut Option<End>, side: Side, now: Moment) -> Option<ConnectionError>
+    ensures ticked { EndTicked side slot.old slot.new }
+    ensures lost { MatchOption result (IsNotLost slot.new) (λ e. IsLostWith e slot.new) }
+    ensures clocked { (idle : Option ASpan) (moments : List ℕ) → IsEndClocked idle moments slot.old → result ≡ None → IsEndClocked idle moments slot.new }
+    ensures timed_out { (idle : Option ASpan) (moments front : List ℕ) → IsEndClocked idle moments slot.old → moments ≡ front ++ now.0 ∷ []
+        → result ≡ Some TimedOut → HasPassed idle moments }
+{
+    let _ = side;
+    let Some(end) = slot else {
+        return None;
+    };
+    run_timers(end, now);
+    drop_events(end);
+    end.close_reason()
+}
+
+// Does what is due by now. Nothing is due at the last moment that can be told: a time that ends later is said to end then, so
+// that nobody knows whether it passed. Links stay far below it.
+fn run_timers(end: &mut End, now: Moment)
+    ensures { IsTicked now.0 end.old end.new }
+{
+    if now.0 == u64::MAX {
+        return;
+    }
+    // It does nothing. Its contract says that an end which is open isn't lost, so that want of memory stays the reason.
+    end.is_owed();
+    end.handle_timeout(now);
+}
+
+// Takes all events, which nobody waits for.
+fn drop_events(end: &mut End)
+    ensures { IsPolledOut end.old end.new }
+{
+    for _event in 0..u64::MAX {
+        if end.poll().is_none() {
+            break;
+        }
+    }
+}
+
+// Hands an end each datagram that the link has ready for it.
+fn take_datagrams<L: Link>(
+    alloc: Global,
+    end: &mut End,
+    side: Side,
+    now: Moment,
+    link: &mut L,
+) -> Result<(), ExchangeError>
+    ensures step { EndStep (is_done result) now side (Some end.old) (Some end.new) (L.events link.old) (L.events link.new) (λ more. IfOk result (λ _. IsIntake side more)) }
+    ensures moments { L.moments link.new ≡ L.moments link.old }
+    ensures cause { CountsFaults (L.faults link.old) (L.faults link.new) (has_link_failed result) }
+    ensures plan { L.plan link.new ≡ L.plan link.old }
+    ensures errors { IfErr result IsLinkError }
+{
+    let mut buf = [0; MAX_DATAGRAM];
+    for _datagram in 0..TAKEN_A_TURN {
+        let Some(len) = link.take(alloc, side, &mut buf)? else {
+            return Ok(());
+        };
+        hand_in(alloc, end, side, now, &buf[..len])?;
+    }
+    Ok(())
+}
+
+// Hands in one datagram.
+fn hand_in(
+    alloc: Global,
+    end: &mut End,
+    side: Side,
+    now: Moment,
+    datagram: &[u8],
+) -> Result<(), Memory>
+    ensures same_end { IsSameEnd end.old end.new }
+    ensures undisturbed { IsEndUndisturbed (is_done result) now (Some end.old) (Some end.new) }
+    ensures follows { (t : List Act) → Follows end.old t → IsHandedIn (is_done result) datagram.now end.new t }
+{
+    let payload = Bytes::copy_from_slice(alloc, datagram).map_err(|_| Memory)?;
+    end.handle_event(ConnectionEvent::Datagram {
+        now,
+        remote: path_from(side).remote,
+        payload,
+    })
+}
+
+// Hands the link each datagram that an end has to send.
+fn send_datagrams<L: Link>(
+    alloc: Global,
+    end: &mut End,
+    side: Side,
+    now: Moment,
+    link: &mut L,
+) -> Result<(), ExchangeError>
+    ensures step { EndStep (is_done result) now side (Some end.old) (Some end.new) (L.events link.old) (L.events link.new) (λ more. IfOk result (λ _. IsOutput side more)) }
+    ensures moments { L.moments link.new ≡ L.moments link.old }
+    ensures cause { CountsFaults (L.faults link.old) (L.faults link.new) (has_link_failed result) }
+    ensures plan { L.plan link.new ≡ L.plan link.old }
+    ensures errors { IfErr result IsLinkError }
+{
+    let mut datagram = Vec::new(alloc);
+    for _datagram in 0..SENT_A_TURN {
+        let found = has_next(end, now, &mut datagram)?;
+        if !found {
+            return Ok(());
+        }
+        link.send(alloc, side, &datagram)?;
+    }
+    Ok(())
+}
+
+// Whether an end has a datagram to send. Then the buffer has that alone.
+fn has_next(end: &mut End, now: Moment, datagram: &mut Vec<u8>) -> Result<bool, Memory>
+    ensures same_end { IsSameEnd end.old end.new }
+    ensures undisturbed { IsEndUndisturbed (is_done result) now (Some end.old) (Some end.new) }
+    ensures follows { (t : List Act) → Follows end.old t → Follows end.new (t ++ polled_acts datagram.new.items result) }
+{
+    datagram.clear();
+    let transmit = end.poll_transmit(now, datagram)?;
+    Ok(transmit.is_some())
+}

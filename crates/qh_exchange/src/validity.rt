@@ -1,0 +1,32 @@
+ghost use Rattle.std.specs.Prelude.{◌≡◌, None, IfErr, IfOk, IfSome};
+ghost use Rattle.qh_spec.specs.Validity.{IsFaultIndex, IsValidList};
+ghost use Rattle.qh_exchange.specs.Exchange.{IfInvalid, IsListError};
+
+use crate::{Config, ExchangeError, Message};
+use qh_base::Memory;
+use qh_plain::requests;
+
+/// Whether a list may be asked: `Invalid` names the first request that may not be, or that is one too many.
+pub fn valid(config: &Config, requests: &[Message]) -> Result<(), ExchangeError>
+    ensures ok { IfOk result (λ _. IsValidList config.now.max_requests config.now.max_field_section_size config.now.max_request_body requests.now) }
+    ensures invalid { IfInvalid result (λ index. IsFaultIndex config.now.max_requests config.now.max_field_section_size config.now.max_request_body requests.now index) }
+    ensures errors { IfErr result IsListError }
+{
+    match fault_index(config, requests)? {
+        Some(index) => Err(ExchangeError::Invalid { index }),
+        None => Ok(()),
+    }
+}
+
+// The index of the first request that may not be asked, or that is one too many: None exactly where the list is valid.
+fn fault_index(config: &Config, requests: &[Message]) -> Result<Option<usize>, Memory>
+    ensures some { IfOk result (λ found. IfSome found (IsFaultIndex config.now.max_requests config.now.max_field_section_size config.now.max_request_body requests.now)) }
+    ensures none { IfOk result (λ found. (found ≡ None) → IsValidList config.now.max_requests config.now.max_field_section_size config.now.max_request_body requests.now) }
+{
+    requests::fault_index(
+        config.max_requests,
+        config.max_field_section_size,
+        config.max_request_body,
+        requests,
+    )
+}
