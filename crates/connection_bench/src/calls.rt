@@ -1,7 +1,7 @@
 //! The calls of a connection, without their contracts.
 use qh_base::{Dir, Memory, Moment, StreamId, Transmit};
 use qh_buffers::Chunk;
-use qh_connection::{Connection, ConnectionEvent, EndpointEvent, Event, PlainSession, TakeFault};
+use qh_conn::{Connection, ConnectionEvent, EndpointEvent, Event, PlainSession, TakeFault};
 use qh_streams::WriteFault;
 
 pub(crate) type End = Connection<PlainSession>;

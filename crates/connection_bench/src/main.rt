@@ -10,7 +10,7 @@ use calls::{
     poll_transmit, sent,
 };
 use qh_base::{ConnectionId, FourTuple, Memory, Moment, Side, Span, StreamId};
-use qh_connection::{ConnConfig, Connection, ConnectionEvent, PlainSession};
+use qh_conn::{ConnConfig, Connection, ConnectionEvent, PlainSession};
 use qh_streams::StreamLimits;
 use std::alloc::Global;
 use std::env;

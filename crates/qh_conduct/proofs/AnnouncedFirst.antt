@@ -2,8 +2,8 @@
 use Rattle.std.proofs.Common.{◌≡◌, ℕ, ◌≤◌, ◌^◌, Bool, true, List, [], Option, Some, None, is_some, refl, sym, ap, subst, inl, inr}
 use Rattle.qh_buffers.specs.Ranges.{PlainRange, has}
 use Rattle.qh_conduct.specs.Announced.{Announced, AreLive, HasAnnounced}
-use Rattle.qh_connection.specs.Inner.{HasNoHalf, IsFailedBy, IsNewSpace}
-use Rattle.qh_connection.specs.declared.inner.Inner.{Inner}
+use Rattle.qh_conn.specs.Inner.{HasNoHalf, IsFailedBy, IsNewSpace}
+use Rattle.qh_conn.specs.declared.inner.Inner.{Inner}
 use Rattle.qh_half.specs.Recv.{PlainRecv}
 use Rattle.qh_half.specs.Send.{PlainSend}
 use Rattle.qh_halves.specs.RecvHalves.{recv_half_in}

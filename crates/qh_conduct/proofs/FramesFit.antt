@@ -5,14 +5,14 @@ use Rattle.std.proofs.lemmas.Bool.{cases_lt, eqb-true}
 use Rattle.std.proofs.lemmas.Option.{same_Some}
 use Rattle.qh_conduct.specs.Announced.{IsKeptFrame}
 use Rattle.qh_conduct.specs.Announced.IsKeptFrame.{ping, response, ack, stream, reset, stop, max_data, max_stream_data, max_streams, close}
-use Rattle.qh_connection.specs.Config.{peer_of}
-use Rattle.qh_connection.specs.Follows.{Following, Follows, HasComing, HasFrame, HasSomething, IsWithinLimits}
-use Rattle.qh_connection.specs.Inner.{AreOf}
-use Rattle.qh_connection.specs.Sending.{close_frame}
-use Rattle.qh_connection.specs.declared.config.ConnConfig.{ConnConfig}
-use Rattle.qh_connection.specs.declared.inner.Inner.{Inner}
-use Rattle.qh_connection.specs.declared.state.Close.{Close}
-use Rattle.qh_connection.specs.declared.state.Close.TheVariants.{Application, Connection}
+use Rattle.qh_conn.specs.Config.{peer_of}
+use Rattle.qh_conn.specs.Follows.{Following, Follows, HasComing, HasFrame, HasSomething, IsWithinLimits}
+use Rattle.qh_conn.specs.Inner.{AreOf}
+use Rattle.qh_conn.specs.Sending.{close_frame}
+use Rattle.qh_conn.specs.declared.config.ConnConfig.{ConnConfig}
+use Rattle.qh_conn.specs.declared.inner.Inner.{Inner}
+use Rattle.qh_conn.specs.declared.state.Close.{Close}
+use Rattle.qh_conn.specs.declared.state.Close.TheVariants.{Application, Connection}
 use Rattle.qh_frame.specs.AckWritten.{AreApart, AreBelow, ack_frame, gaps}
 use Rattle.qh_frame.specs.Plain.{frame, by_dir, plain_of}
 use Rattle.qh_frame.specs.Range.{IsInRange}

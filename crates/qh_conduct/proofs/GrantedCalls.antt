@@ -13,29 +13,29 @@ use Rattle.qh_conduct.proofs.StreamsReceive.{call_go, limit_at_first}
 use Rattle.qh_conduct.specs.Announced.{IsOver}
 use Rattle.qh_conduct.specs.Calls.{IsCall}
 use Rattle.qh_conduct.specs.Granted.{AreGranted, AreGrantedBy, HasGranted, first_count_in}
-use Rattle.qh_connection.proofs.Ends.{ended_with, goes_on_space}
-use Rattle.qh_connection.specs.Config.{bounded, peer_of}
-use Rattle.qh_connection.specs.Event.{IsDrainedTold, IsPolledEvent}
-use Rattle.qh_connection.specs.Event.IsDrainedTold.{drained as drain_told, none as no_drain_told}
-use Rattle.qh_connection.specs.Event.IsPolledEvent.{stream, lost, none as nothing}
-use Rattle.qh_connection.specs.Inner.{IsFailedBy, IsNewSpace, is_open, with_streams}
-use Rattle.qh_connection.specs.Receiving.{GoesOnWith, IsClosedWith, IsDatagramTaken, IsEventTaken, IsPacketHandled, IsPacketTaken, received}
-use Rattle.qh_connection.specs.Receiving.IsDatagramTaken.{dropped, handled, told_again, closed_too, draining, drained}
-use Rattle.qh_connection.specs.Receiving.IsPacketHandled.{repeated, empty, faulty, taken}
-use Rattle.qh_connection.specs.Sending.{AreFramesMade, IsDatagramMade, NothingIsSent}
-use Rattle.qh_connection.specs.Sending.AreFramesMade.{packet as packet_made, close as close_made}
-use Rattle.qh_connection.specs.Sending.NothingIsSent.{quiet as quiet_none, exhausted, told, draining as draining_told, drained as drained_told}
-use Rattle.qh_connection.specs.Timers.{IsTimedOut, restarted}
-use Rattle.qh_connection.specs.Timers.IsTimedOut.{idle, recovery, closed, draining as draining_over, waits, drained as drained_still}
-use Rattle.qh_connection.specs.declared.config.ConnConfig.{ConnConfig}
-use Rattle.qh_connection.specs.declared.event.ConnectionEvent.{ConnectionEvent}
-use Rattle.qh_connection.specs.declared.event.ConnectionEvent.TheVariants.{Datagram, Close}
-use Rattle.qh_connection.specs.declared.event.EndpointEvent.{EndpointEvent}
-use Rattle.qh_connection.specs.declared.event.Event.{Event}
-use Rattle.qh_connection.specs.declared.inner.Inner.{Inner}
-use Rattle.qh_connection.specs.declared.state.Close.{Close as CloseReason}
-use Rattle.qh_connection.specs.declared.state.State.{State}
-use Rattle.qh_connection.specs.declared.state.State.TheVariants.{Closed, Draining, Drained}
+use Rattle.qh_conn.proofs.Ends.{ended_with, goes_on_space}
+use Rattle.qh_conn.specs.Config.{bounded, peer_of}
+use Rattle.qh_conn.specs.Event.{IsDrainedTold, IsPolledEvent}
+use Rattle.qh_conn.specs.Event.IsDrainedTold.{drained as drain_told, none as no_drain_told}
+use Rattle.qh_conn.specs.Event.IsPolledEvent.{stream, lost, none as nothing}
+use Rattle.qh_conn.specs.Inner.{IsFailedBy, IsNewSpace, is_open, with_streams}
+use Rattle.qh_conn.specs.Receiving.{GoesOnWith, IsClosedWith, IsDatagramTaken, IsEventTaken, IsPacketHandled, IsPacketTaken, received}
+use Rattle.qh_conn.specs.Receiving.IsDatagramTaken.{dropped, handled, told_again, closed_too, draining, drained}
+use Rattle.qh_conn.specs.Receiving.IsPacketHandled.{repeated, empty, faulty, taken}
+use Rattle.qh_conn.specs.Sending.{AreFramesMade, IsDatagramMade, NothingIsSent}
+use Rattle.qh_conn.specs.Sending.AreFramesMade.{packet as packet_made, close as close_made}
+use Rattle.qh_conn.specs.Sending.NothingIsSent.{quiet as quiet_none, exhausted, told, draining as draining_told, drained as drained_told}
+use Rattle.qh_conn.specs.Timers.{IsTimedOut, restarted}
+use Rattle.qh_conn.specs.Timers.IsTimedOut.{idle, recovery, closed, draining as draining_over, waits, drained as drained_still}
+use Rattle.qh_conn.specs.declared.config.ConnConfig.{ConnConfig}
+use Rattle.qh_conn.specs.declared.event.ConnectionEvent.{ConnectionEvent}
+use Rattle.qh_conn.specs.declared.event.ConnectionEvent.TheVariants.{Datagram, Close}
+use Rattle.qh_conn.specs.declared.event.EndpointEvent.{EndpointEvent}
+use Rattle.qh_conn.specs.declared.event.Event.{Event}
+use Rattle.qh_conn.specs.declared.inner.Inner.{Inner}
+use Rattle.qh_conn.specs.declared.state.Close.{Close as CloseReason}
+use Rattle.qh_conn.specs.declared.state.State.{State}
+use Rattle.qh_conn.specs.declared.state.State.TheVariants.{Closed, Draining, Drained}
 use Rattle.qh_half.specs.Recv.{PlainRecv}
 use Rattle.qh_halves.specs.Counts.{has_recv, is_bi, is_own}
 use Rattle.qh_halves.specs.RecvHalves.{recv_half_in}

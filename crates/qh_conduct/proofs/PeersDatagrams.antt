@@ -25,17 +25,17 @@ use Rattle.qh_conduct.specs.Filled.{AreFilled}
 use Rattle.qh_conduct.specs.Peers.{AreLinked, ArePeers, HasNoBareFault}
 use Rattle.qh_conduct.specs.Reached.{AreNamed, HasReached, Reached, IsLostForMemory}
 use Rattle.qh_conduct.specs.Sized.{AreRight, HasSized}
-use Rattle.qh_connection.proofs.Ends.{goes_on_space}
-use Rattle.qh_connection.specs.Follows.{Following, Follows, HasFrame}
-use Rattle.qh_connection.specs.Inner.{is_open}
-use Rattle.qh_connection.specs.Receiving.{AreFramesTaken, GoesOnWith, IsDatagramTaken, IsEventTaken, IsFaulted, IsOpenedBy, IsPacketHandled, is_close, received}
-use Rattle.qh_connection.specs.Receiving.AreFramesTaken.{none as none_taken, more as more_taken, closed as closed_taken, refused as refused_taken}
-use Rattle.qh_connection.specs.Receiving.IsDatagramTaken.{dropped, handled, told_again, closed_too, draining as in_draining, drained as in_drained}
-use Rattle.qh_connection.specs.Receiving.IsPacketHandled.{repeated, empty, faulty, taken as in_taken}
-use Rattle.qh_connection.specs.declared.config.ConnConfig.{ConnConfig}
-use Rattle.qh_connection.specs.declared.event.ConnectionEvent.TheVariants.{Datagram}
-use Rattle.qh_connection.specs.declared.inner.Inner.{Inner}
-use Rattle.qh_connection.specs.declared.state.State.{State}
+use Rattle.qh_conn.proofs.Ends.{goes_on_space}
+use Rattle.qh_conn.specs.Follows.{Following, Follows, HasFrame}
+use Rattle.qh_conn.specs.Inner.{is_open}
+use Rattle.qh_conn.specs.Receiving.{AreFramesTaken, GoesOnWith, IsDatagramTaken, IsEventTaken, IsFaulted, IsOpenedBy, IsPacketHandled, is_close, received}
+use Rattle.qh_conn.specs.Receiving.AreFramesTaken.{none as none_taken, more as more_taken, closed as closed_taken, refused as refused_taken}
+use Rattle.qh_conn.specs.Receiving.IsDatagramTaken.{dropped, handled, told_again, closed_too, draining as in_draining, drained as in_drained}
+use Rattle.qh_conn.specs.Receiving.IsPacketHandled.{repeated, empty, faulty, taken as in_taken}
+use Rattle.qh_conn.specs.declared.config.ConnConfig.{ConnConfig}
+use Rattle.qh_conn.specs.declared.event.ConnectionEvent.TheVariants.{Datagram}
+use Rattle.qh_conn.specs.declared.inner.Inner.{Inner}
+use Rattle.qh_conn.specs.declared.state.State.{State}
 use Rattle.qh_frame.specs.Plain.{plain_of}
 use Rattle.qh_frame.specs.Range.{IsInRange}
 use Rattle.qh_frame.specs.WrittenForm.{stream_form, written_form}

@@ -8,10 +8,10 @@ use Rattle.qh_conduct.proofs.PeersKept.{Says, plain_is, says_coming}
 use Rattle.qh_conduct.specs.Announced.{Announced}
 use Rattle.qh_conduct.specs.Granted.{AreGranted}
 use Rattle.qh_conduct.specs.Peers.{ArePeers}
-use Rattle.qh_connection.specs.Config.{bounded, peer_of}
-use Rattle.qh_connection.specs.Follows.{Following, HasComing, HasFrame}
-use Rattle.qh_connection.specs.declared.config.ConnConfig.{ConnConfig}
-use Rattle.qh_connection.specs.declared.inner.Inner.{Inner}
+use Rattle.qh_conn.specs.Config.{bounded, peer_of}
+use Rattle.qh_conn.specs.Follows.{Following, HasComing, HasFrame}
+use Rattle.qh_conn.specs.declared.config.ConnConfig.{ConnConfig}
+use Rattle.qh_conn.specs.declared.inner.Inner.{Inner}
 use Rattle.qh_frame.specs.Plain.{frame}
 use Rattle.qh_half.specs.Recv.{PlainRecv, new_recv}
 use Rattle.qh_halves.specs.Counts.{has_recv, is_bi, is_own}

@@ -1,7 +1,7 @@
 -- Each STREAM frame that was handed out has a byte, or the end (RFC 9000, section 19.8).
 use Rattle.std.specs.Prelude.{◌≡◌, ℕ, List, length, Some}
-use Rattle.qh_connection.specs.Follows.{HasSomething}
-use Rattle.qh_connection.specs.declared.inner.Inner.{Inner}
+use Rattle.qh_conn.specs.Follows.{HasSomething}
+use Rattle.qh_conn.specs.declared.inner.Inner.{Inner}
 use Rattle.qh_half.specs.Send.{PlainSend, IsSentAsTaken}
 use Rattle.qh_halves.specs.SendHalves.{send_at}
 use Rattle.qh_spec.specs.Carried.{HasRun}

@@ -2,9 +2,9 @@
 use Rattle.std.specs.Prelude.{◌≡◌, ℕ, ◌<◌, ◌≤◌, ◌^◌, Bool, true, false, List, [], ◌∷◌, length, Option, Some}
 use Rattle.qh_base.specs.declared.transport_error.TransportError.{TransportError}
 use Rattle.qh_conduct.specs.Reached.{CameIn, EndsAt, Reaches}
-use Rattle.qh_connection.specs.Follows.{HasFrame}
-use Rattle.qh_connection.specs.Receiving.{IsOpenedBy}
-use Rattle.qh_connection.specs.declared.inner.Inner.{Inner}
+use Rattle.qh_conn.specs.Follows.{HasFrame}
+use Rattle.qh_conn.specs.Receiving.{IsOpenedBy}
+use Rattle.qh_conn.specs.declared.inner.Inner.{Inner}
 use Rattle.qh_frame.specs.Plain.{plain_of}
 use Rattle.qh_frame.specs.WrittenForm.{written_form}
 use Rattle.qh_frame.specs.declared.frame.Frame.{Frame}

@@ -1,6 +1,6 @@
 //! How a connection behaves to its peer, by the datagrams that went both ways: what it knows came, what it sends keeps what it
 //! announced, which is never below its first limits, and each final size that it says is right; and over a link that gives each end
-//! only what the other handed out no end refuses what comes. Laws alone, over the contracts of `qh_connection`.
+//! only what the other handed out no end refuses what comes. Laws alone, over the contracts of `qh_conn`.
 #![tactic(auto)]
 
 pub mod announced;

@@ -5,11 +5,11 @@ use Rattle.std.proofs.lemmas.List.{map-append}
 use Rattle.qh_base.specs.declared.connection_error.ConnectionError.TheVariants as lost
 use Rattle.qh_base.specs.declared.time.Moment.{Moment}
 use Rattle.qh_base.specs.declared.time.Span.{Span}
-use Rattle.qh_connection.specs.Follows.{Follows}
-use Rattle.qh_connection.specs.Inner.{HaveSameCounts, IsSameEnd}
-use Rattle.qh_connection.specs.Timers.{IsUndisturbed, RunsOn}
-use Rattle.qh_connection.specs.declared.config.ConnConfig.{ConnConfig}
-use Rattle.qh_connection.specs.declared.idle.IdleTimer.{IdleTimer}
+use Rattle.qh_conn.specs.Follows.{Follows}
+use Rattle.qh_conn.specs.Inner.{HaveSameCounts, IsSameEnd}
+use Rattle.qh_conn.specs.Timers.{IsUndisturbed, RunsOn}
+use Rattle.qh_conn.specs.declared.config.ConnConfig.{ConnConfig}
+use Rattle.qh_conn.specs.declared.idle.IdleTimer.{IdleTimer}
 use Rattle.qh_link.specs.Link.{fault_events, is_failed}
 use Rattle.qh_link.specs.declared.link.LinkFault.{LinkFault}
 use Rattle.qh_link.specs.declared.link.LinkFault.TheVariants.{Failed, Memory}

@@ -3,10 +3,10 @@ use Rattle.std.proofs.Common.{◌≡◌, ◌⊎◌, inl, inr, ◌*◌, ◌≤◌
 use Rattle.std.specs.Prelude.{◌||◌, is_some, length, not}
 use Rattle.qh_base.specs.declared.connection_error.ConnectionError.TheVariants as lost
 use Rattle.qh_base.specs.declared.time.Moment.{Moment}
-use Rattle.qh_connection.specs.Follows.{Follows}
-use Rattle.qh_connection.specs.Inner.{with_streams}
-use Rattle.qh_connection.specs.Timers.{IsUndisturbed}
-use Rattle.qh_connection.specs.declared.config.ConnConfig.{ConnConfig}
+use Rattle.qh_conn.specs.Follows.{Follows}
+use Rattle.qh_conn.specs.Inner.{with_streams}
+use Rattle.qh_conn.specs.Timers.{IsUndisturbed}
+use Rattle.qh_conn.specs.declared.config.ConnConfig.{ConnConfig}
 use Rattle.qh_roles.specs.Client.{PlainClient, Asking, Asks, IsAskedIn, held}
 use Rattle.qh_roles.specs.Server.{PlainServer, HasAccepted, IsHandledIn, Responds, ServerStep, Serving}
 use Rattle.qh_roles.specs.Streams.{Acted, AreCalls, IsFresh, IsReading, IsUnread, IsUntouched, IsWriting, Outgoing, Incoming}

@@ -1,8 +1,8 @@
 -- What an end sent kept within the limits that it was given before.
 use Rattle.std.proofs.Common.{◌≡◌, ◌⊎◌, inl, inr, ℕ, Bool, true, false, List, [], ◌∷◌, ◌++◌, length, Option, Some, None, refl, sym, ◌∙◌, ap, subst, append_assoc}
 use Rattle.std.specs.Prelude.{not}
-use Rattle.qh_connection.specs.Follows.{Follows, IsWithinLimits}
-use Rattle.qh_connection.specs.declared.config.ConnConfig.{ConnConfig}
+use Rattle.qh_conn.specs.Follows.{Follows, IsWithinLimits}
+use Rattle.qh_conn.specs.declared.config.ConnConfig.{ConnConfig}
 use Rattle.qh_spec.specs.declared.link.Event.{Event}
 use Rattle.qh_spec.specs.declared.link.Event.TheVariants.{Sent}
 use Rattle.qh_spec.specs.declared.sides.Side.{Side}

@@ -3,8 +3,8 @@ use Rattle.std.specs.Prelude.{◌≡◌, ◌⊎◌, ℕ, ◌+◌, ◌≤◌, Boo
 use Rattle.qh_base.specs.declared.connection_error.ConnectionError.TheVariants as lost
 use Rattle.qh_base.specs.declared.memory.Memory.{Memory as OutOfMemory}
 use Rattle.qh_base.specs.declared.time.Span.{Span}
-use Rattle.qh_connection.specs.Follows.{Follows}
-use Rattle.qh_connection.specs.Inner.{HaveSameCounts, IsSameEnd}
+use Rattle.qh_conn.specs.Follows.{Follows}
+use Rattle.qh_conn.specs.Inner.{HaveSameCounts, IsSameEnd}
 use Rattle.qh_spec.specs.declared.link.Event.{Event}
 use Rattle.qh_spec.specs.declared.link.Event.TheVariants.{Sent, Given}
 use Rattle.qh_spec.specs.declared.sides.Side.{Side}

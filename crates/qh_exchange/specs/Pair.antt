@@ -1,9 +1,9 @@
 -- How a pair stands to what happened on its link, and what its service recorded, since it was opened. No object stores
 -- these lists.
 use Rattle.std.specs.Prelude.{◌≡◌, ◌⊎◌, ℕ, ◌*◌, Bool, true, false, not, List, [], ◌∷◌, ◌++◌, Option, Some, None, length, filter, map, slice_get, MatchBool}
-use Rattle.qh_connection.specs.Follows.{Follows, IsWithinLimits}
-use Rattle.qh_connection.specs.declared.config.ConnConfig.{ConnConfig}
-use Rattle.qh_connection.specs.declared.inner.Inner.{Inner}
+use Rattle.qh_conn.specs.Follows.{Follows, IsWithinLimits}
+use Rattle.qh_conn.specs.declared.config.ConnConfig.{ConnConfig}
+use Rattle.qh_conn.specs.declared.inner.Inner.{Inner}
 use Rattle.qh_packet.specs.Session.{PlainKeys}
 use Rattle.qh_roles.specs.Client.{PlainClient, Asking, HasOpened}
 use Rattle.qh_roles.specs.Server.{PlainServer, Serving, HasAccepted}

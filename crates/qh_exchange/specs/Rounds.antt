@@ -1,6 +1,6 @@
 -- What the rounds of an exchange leave of its pair.
 use Rattle.std.specs.Prelude.{◌≡◌, ◌≢◌, ◌<◌, ℕ, false, List, [], ◌++◌, Option, Result, IfErr, IfOk, length}
-use Rattle.qh_connection.specs.declared.config.ConnConfig.{ConnConfig}
+use Rattle.qh_conn.specs.declared.config.ConnConfig.{ConnConfig}
 use Rattle.qh_roles.specs.Client.{held}
 use Rattle.qh_service.specs.declared.service.Limits.{Limits}
 use Rattle.qh_spec.specs.declared.link.Event.{Event}

@@ -4,10 +4,10 @@ use Rattle.qh_base.specs.declared.connection_error.ConnectionError.{ConnectionEr
 use Rattle.qh_base.specs.declared.connection_error.ConnectionError.TheVariants as lost
 use Rattle.qh_base.specs.declared.time.Moment.{Moment}
 use Rattle.qh_base.specs.declared.time.Span.{Span}
-use Rattle.qh_connection.specs.Follows.{Follows}
-use Rattle.qh_connection.specs.Inner.{HaveSameCounts, with_streams}
-use Rattle.qh_connection.specs.Timers.{IsUndisturbed}
-use Rattle.qh_connection.specs.declared.config.ConnConfig.{ConnConfig}
+use Rattle.qh_conn.specs.Follows.{Follows}
+use Rattle.qh_conn.specs.Inner.{HaveSameCounts, with_streams}
+use Rattle.qh_conn.specs.Timers.{IsUndisturbed}
+use Rattle.qh_conn.specs.declared.config.ConnConfig.{ConnConfig}
 use Rattle.qh_roles.specs.Client.{PlainClient, Asking, HasOpened}
 use Rattle.qh_roles.specs.Server.{PlainServer, HasAccepted, ServerStep}
 use Rattle.qh_roles.specs.Streams.{Acted, IsFresh}

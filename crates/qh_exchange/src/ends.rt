@@ -1,8 +1,8 @@
 ghost use Rattle.std.specs.Prelude.{◌≡◌, ◌≤◌, ◌<◌, ◌++◌, ◌∷◌, [], ℕ, List, Option, Some, None, true, length, is_some, IfOk, IfErr, IfSome, MatchOption};
 ghost use Rattle.qh_base.specs.declared.connection_error.ConnectionError.TheVariants.{TimedOut};
 ghost use Rattle.qh_base.specs.declared.time.Span.{Span as ASpan};
-ghost use Rattle.qh_connection.specs.Follows.{Follows};
-ghost use Rattle.qh_connection.specs.Inner.{IsSameEnd};
+ghost use Rattle.qh_conn.specs.Follows.{Follows};
+ghost use Rattle.qh_conn.specs.Inner.{IsSameEnd};
 ghost use Rattle.qh_exchange.specs.Clock.{HasPassed, IsEndClocked};
 ghost use Rattle.qh_exchange.specs.EndCalls.{IsHandedIn, IsPolledOut, IsTicked, polled_acts};
 ghost use Rattle.qh_exchange.specs.Steps.{EndStep, EndTicked, IsEndUndisturbed, IsLinkError, IsNewEnd, is_done};
@@ -14,7 +14,7 @@ ghost use Rattle.qh_spec.specs.Turns.{IsIntake, IsOutput};
 use crate::{ExchangeError, Link, MAX_DATAGRAM};
 use bytes::Bytes;
 use qh_base::{ConnectionError, ConnectionId, FourTuple, Memory, Moment, Side};
-use qh_connection::{ConnConfig, Connection, ConnectionEvent, PlainSession};
+use qh_conn::{ConnConfig, Connection, ConnectionEvent, PlainSession};
 use std::alloc::Global;
 use std::net::{IpAddr, Ipv4Addr, SocketAddr};
 

@@ -20,7 +20,7 @@ ghost use Rattle.qh_spec.specs.Turns.{IsWholeTurn};
 use crate::ends::{End, Ids, MAX_NAME, open_end, receive_at, tick_at, transmit_at};
 use crate::{Config, ExchangeError, Head, Link, Message, Service};
 use qh_base::{ConnectionError, Memory, Moment, Side};
-use qh_connection::{ConnConfig, PlainSession, lawful};
+use qh_conn::{ConnConfig, PlainSession, lawful};
 use qh_roles::{Client, Server};
 use qh_service::Limits;
 use qh_streams::StreamLimits;

@@ -6,18 +6,18 @@ use Rattle.std.specs.Prelude.{IfErr, IfOk, IfSome, OnErr, OnOk, Result, Ok, Err}
 use Rattle.qh_base.specs.declared.memory.Memory.{Memory as OutOfMemory}
 use Rattle.qh_base.specs.declared.stream_id.StreamId.{StreamId}
 use Rattle.qh_buffers.specs.declared.assembler.Chunk.{Chunk}
-use Rattle.qh_connection.specs.Event.{IsDrainedTold, IsPolledEvent}
-use Rattle.qh_connection.specs.Event.IsDrainedTold.{drained as drained_told, none as none_told}
-use Rattle.qh_connection.specs.Event.IsPolledEvent.{stream as stream_told, lost as lost_told, none as nothing_told}
-use Rattle.qh_connection.specs.Follows.{write_acts, write_chunks_acts, finish_acts, reset_by_acts, stop_acts, take_acts, received_reset_acts}
-use Rattle.qh_connection.specs.Inner.{is_open, with_streams}
-use Rattle.qh_connection.specs.Streams.{IsRead, IsReadFault, IsWriteRefused}
-use Rattle.qh_connection.specs.Streams.IsWriteRefused.{closed as closed_to_writes, wanting, refused as refused_write}
-use Rattle.qh_connection.specs.declared.event.EndpointEvent.{EndpointEvent}
-use Rattle.qh_connection.specs.declared.event.Event.{Event}
-use Rattle.qh_connection.specs.declared.fault.TakeFault.{TakeFault}
-use Rattle.qh_connection.specs.declared.fault.TakeFault.TheVariants.{Readable, Read}
-use Rattle.qh_connection.specs.declared.inner.Inner.{Inner}
+use Rattle.qh_conn.specs.Event.{IsDrainedTold, IsPolledEvent}
+use Rattle.qh_conn.specs.Event.IsDrainedTold.{drained as drained_told, none as none_told}
+use Rattle.qh_conn.specs.Event.IsPolledEvent.{stream as stream_told, lost as lost_told, none as nothing_told}
+use Rattle.qh_conn.specs.Follows.{write_acts, write_chunks_acts, finish_acts, reset_by_acts, stop_acts, take_acts, received_reset_acts}
+use Rattle.qh_conn.specs.Inner.{is_open, with_streams}
+use Rattle.qh_conn.specs.Streams.{IsRead, IsReadFault, IsWriteRefused}
+use Rattle.qh_conn.specs.Streams.IsWriteRefused.{closed as closed_to_writes, wanting, refused as refused_write}
+use Rattle.qh_conn.specs.declared.event.EndpointEvent.{EndpointEvent}
+use Rattle.qh_conn.specs.declared.event.Event.{Event}
+use Rattle.qh_conn.specs.declared.fault.TakeFault.{TakeFault}
+use Rattle.qh_conn.specs.declared.fault.TakeFault.TheVariants.{Readable, Read}
+use Rattle.qh_conn.specs.declared.inner.Inner.{Inner}
 use Rattle.qh_half.specs.declared.fault.ClosedStream.{ClosedStream}
 use Rattle.qh_half.specs.declared.fault.FinishFault.{FinishFault}
 use Rattle.qh_half.specs.declared.fault.ReadFault.{ReadFault}

@@ -9,21 +9,21 @@ use Rattle.qh_base.specs.declared.memory.Memory.{Memory as OutOfMemory}
 use Rattle.qh_base.specs.declared.path.Transmit.{Transmit}
 use Rattle.qh_base.specs.declared.time.Moment.{Moment}
 use Rattle.qh_base.specs.declared.transport_error.TransportError.{TransportError}
-use Rattle.qh_connection.proofs.Ends.{ended_with, goes_on_open}
-use Rattle.qh_connection.specs.Follows.{event_acts, transmit_acts}
-use Rattle.qh_connection.specs.Inner.{IsFailedBy, IsSameEnd, is_open, with_space}
-use Rattle.qh_connection.specs.Receiving.{AreFramesTaken, GoesOnWith, IsAccepted, IsClosedWith, IsDatagramTaken, IsEventTaken, IsFaulted, IsOpenedBy, IsPacketHandled, IsPacketTaken, received}
-use Rattle.qh_connection.specs.Receiving.IsDatagramTaken.{dropped as dropped_datagram, handled as handled_datagram, told_again, closed_too, draining as draining_datagram, drained as drained_datagram}
-use Rattle.qh_connection.specs.Receiving.IsPacketHandled.{repeated, empty, faulty, taken as taken_packet}
-use Rattle.qh_connection.specs.Sending.{AreFramesMade, IsDatagramMade, NothingIsSent, datagram_of, overhead}
-use Rattle.qh_connection.specs.Sending.AreFramesMade.{packet as packet_frames, close as close_frames}
-use Rattle.qh_connection.specs.Sending.NothingIsSent.{quiet as quiet_now, exhausted, told, draining as draining_now, drained as drained_now}
-use Rattle.qh_connection.specs.Timers.{AreLostByAge, IsProbed, IsTimedOut, restarted}
-use Rattle.qh_connection.specs.Timers.IsTimedOut.{idle as idle_out, recovery as recovery_out, closed as closed_out, draining as draining_out, waits as waits_out, drained as drained_out}
-use Rattle.qh_connection.specs.declared.event.ConnectionEvent.{ConnectionEvent}
-use Rattle.qh_connection.specs.declared.event.ConnectionEvent.TheVariants.{Datagram, Close}
-use Rattle.qh_connection.specs.declared.inner.Inner.{Inner}
-use Rattle.qh_connection.specs.declared.state.Close.{Close as CloseReason}
+use Rattle.qh_conn.proofs.Ends.{ended_with, goes_on_open}
+use Rattle.qh_conn.specs.Follows.{event_acts, transmit_acts}
+use Rattle.qh_conn.specs.Inner.{IsFailedBy, IsSameEnd, is_open, with_space}
+use Rattle.qh_conn.specs.Receiving.{AreFramesTaken, GoesOnWith, IsAccepted, IsClosedWith, IsDatagramTaken, IsEventTaken, IsFaulted, IsOpenedBy, IsPacketHandled, IsPacketTaken, received}
+use Rattle.qh_conn.specs.Receiving.IsDatagramTaken.{dropped as dropped_datagram, handled as handled_datagram, told_again, closed_too, draining as draining_datagram, drained as drained_datagram}
+use Rattle.qh_conn.specs.Receiving.IsPacketHandled.{repeated, empty, faulty, taken as taken_packet}
+use Rattle.qh_conn.specs.Sending.{AreFramesMade, IsDatagramMade, NothingIsSent, datagram_of, overhead}
+use Rattle.qh_conn.specs.Sending.AreFramesMade.{packet as packet_frames, close as close_frames}
+use Rattle.qh_conn.specs.Sending.NothingIsSent.{quiet as quiet_now, exhausted, told, draining as draining_now, drained as drained_now}
+use Rattle.qh_conn.specs.Timers.{AreLostByAge, IsProbed, IsTimedOut, restarted}
+use Rattle.qh_conn.specs.Timers.IsTimedOut.{idle as idle_out, recovery as recovery_out, closed as closed_out, draining as draining_out, waits as waits_out, drained as drained_out}
+use Rattle.qh_conn.specs.declared.event.ConnectionEvent.{ConnectionEvent}
+use Rattle.qh_conn.specs.declared.event.ConnectionEvent.TheVariants.{Datagram, Close}
+use Rattle.qh_conn.specs.declared.inner.Inner.{Inner}
+use Rattle.qh_conn.specs.declared.state.Close.{Close as CloseReason}
 use Rattle.qh_frame.specs.declared.frame.Frame.{Frame}
 use Rattle.qh_history.proofs.Carried.{by_left}
 use Rattle.qh_owing.proofs.InPackets.{kept_in, left_sends}

@@ -4,8 +4,8 @@ use Rattle.std.proofs.lemmas.Bool.{both_ways, false≢true, lt-ltb}
 use Rattle.qh_buffers.specs.SendBuffer.{PlainSendBuffer, is_queued, mark_at, taken_to, waits}
 use Rattle.qh_buffers.specs.declared.send_buffer.Mark.{Mark}
 use Rattle.qh_buffers.specs.declared.send_buffer.Mark.TheVariants.{Sent, Queued, Acked}
-use Rattle.qh_connection.specs.Inner.{IsNewSpace, is_open}
-use Rattle.qh_connection.specs.declared.inner.Inner.{Inner}
+use Rattle.qh_conn.specs.Inner.{IsNewSpace, is_open}
+use Rattle.qh_conn.specs.declared.inner.Inner.{Inner}
 use Rattle.qh_half.specs.Send.{PlainSend, is_end_acked, is_end_queued, is_finished, is_reset}
 use Rattle.qh_half.specs.declared.send.SendState.{SendState}
 use Rattle.qh_half.specs.declared.send.SendState.TheVariants.{Ready, DataSent, ResetSent}

@@ -3,8 +3,8 @@
 use Rattle.std.specs.Prelude.{◌≡◌, ◌⊎◌, ℕ, ◌+◌, ◌^◌, ◌<◌, ◌≤◌, Bool, true, false, List, [], length, Option, Some, None}
 use Rattle.qh_buffers.specs.SendBuffer.{taken_to, mark_at, is_queued}
 use Rattle.qh_buffers.specs.declared.send_buffer.Mark.TheVariants.{Acked, Sent}
-use Rattle.qh_connection.specs.Inner.{is_open}
-use Rattle.qh_connection.specs.declared.inner.Inner.{Inner}
+use Rattle.qh_conn.specs.Inner.{is_open}
+use Rattle.qh_conn.specs.declared.inner.Inner.{Inner}
 use Rattle.qh_half.specs.Send.{PlainSend, IsSentAsTaken, is_reset, is_finished, is_end_acked, is_end_queued}
 use Rattle.qh_half.specs.declared.send.Outgoing.{Outgoing}
 use Rattle.qh_half.specs.declared.send.SendState.TheVariants.{DataSent, ResetSent}

@@ -3,8 +3,8 @@ use Rattle.std.proofs.Common.{ℕ, List, [], ◌++◌, drop, Result, Ok, Err, re
 use Rattle.std.proofs.lemmas.Bool.{false≢true}
 use Rattle.std.proofs.lemmas.List.{take-append-drop}
 use Rattle.qh_base.specs.declared.memory.Memory.{Memory as OutOfMemory}
-use Rattle.qh_connection.specs.Follows.{Follows}
-use Rattle.qh_connection.specs.declared.inner.Inner.{Inner}
+use Rattle.qh_conn.specs.Follows.{Follows}
+use Rattle.qh_conn.specs.declared.inner.Inner.{Inner}
 use Rattle.qh_roles.proofs.Acts.{calls_append, none_calls, same_written, same_finished, same_pieces, same_read, same_ended}
 use Rattle.qh_roles.specs.Streams.{Outgoing, Incoming, Acted, IsUntouched, IsUnread, IsWriting, HasWritten, IsWrittenTo, HasRead}
 use Rattle.qh_roles.specs.declared.outgoing.WriteState.{WriteState}

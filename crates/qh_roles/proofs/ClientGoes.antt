@@ -7,9 +7,9 @@ use Rattle.std.proofs.lemmas.Option.{slice_get-get_or}
 use Rattle.qh_base.specs.declared.connection_error.ConnectionError.TheVariants.{Memory}
 use Rattle.qh_base.specs.declared.memory.Memory.{Memory as OutOfMemory}
 use Rattle.qh_base.specs.declared.stream_id.StreamId.{StreamId}
-use Rattle.qh_connection.specs.Follows.{Follows}
-use Rattle.qh_connection.specs.Inner.{is_open, with_streams}
-use Rattle.qh_connection.specs.declared.inner.Inner.{Inner}
+use Rattle.qh_conn.specs.Follows.{Follows}
+use Rattle.qh_conn.specs.Inner.{is_open, with_streams}
+use Rattle.qh_conn.specs.declared.inner.Inner.{Inner}
 use Rattle.qh_halves.specs.Counts.{is_bi}
 use Rattle.qh_roles.proofs.Acts.{fresh_append, calls_append, none_calls, fresh_writing}
 use Rattle.qh_roles.proofs.ClientLaws.{asks_kept, answer_kept, asked_kept, advances_as}

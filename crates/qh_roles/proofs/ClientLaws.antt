@@ -3,8 +3,8 @@ use Rattle.std.proofs.Common.{◌≡◌, ℕ, ◌*◌, true, false, List, [], �
 use Rattle.std.proofs.lemmas.Bool.{both_ways}
 use Rattle.std.proofs.lemmas.List.{take-append-drop}
 use Rattle.qh_base.specs.declared.memory.Memory.{Memory as OutOfMemory}
-use Rattle.qh_connection.specs.Follows.{Follows}
-use Rattle.qh_connection.specs.declared.inner.Inner.{Inner}
+use Rattle.qh_conn.specs.Follows.{Follows}
+use Rattle.qh_conn.specs.declared.inner.Inner.{Inner}
 use Rattle.qh_roles.proofs.Acts.{same_written, same_finished, same_pieces, same_read, same_ended, untouched_append, unread_append, on_append, none_on, writing_kept, reading_kept}
 use Rattle.qh_roles.specs.Client.{Asks, IsAskedIn, SpellsAsked}
 use Rattle.qh_roles.specs.ClientSteps.{Advances, AsksOn, IsAdvanced, IsSent}

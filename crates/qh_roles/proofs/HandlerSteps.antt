@@ -3,8 +3,8 @@ use Rattle.std.proofs.Common.{◌≡◌, ℕ, List, [], ◌++◌, take, drop, Re
 use Rattle.std.proofs.lemmas.List.{take-append-drop}
 use Rattle.std.proofs.lemmas.Bool.{false≢true}
 use Rattle.qh_base.specs.declared.memory.Memory.{Memory as OutOfMemory}
-use Rattle.qh_connection.specs.Follows.{Follows}
-use Rattle.qh_connection.specs.declared.inner.Inner.{Inner}
+use Rattle.qh_conn.specs.Follows.{Follows}
+use Rattle.qh_conn.specs.declared.inner.Inner.{Inner}
 use Rattle.qh_roles.proofs.Acts.{none_on, none_fresh, on_append, unread_append, untouched_append, read_kept, written_to_kept}
 use Rattle.qh_roles.specs.Handling.{IsAnswering, IsServed, IsFreshOn, IsQuiet, Handles, HandlerStep, state_of}
 use Rattle.qh_roles.specs.Server.{IsHandledIn, SpellsResponse, Responds}

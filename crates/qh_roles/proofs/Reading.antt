@@ -3,9 +3,9 @@ use Rattle.std.proofs.Common.{◌≡◌, ℕ, ◌==◌, Bool, true, false, ◌&&
 use Rattle.std.specs.Prelude.{if◌then◌else◌}
 use Rattle.std.proofs.lemmas.Bool.{cases_Bool, eq-eqb}
 use Rattle.qh_buffers.specs.declared.assembler.Chunk.{Chunk}
-use Rattle.qh_connection.specs.Streams.{IsRead, IsReadFault}
-use Rattle.qh_connection.specs.declared.fault.TakeFault.{TakeFault}
-use Rattle.qh_connection.specs.declared.fault.TakeFault.TheVariants.{Readable, Read}
+use Rattle.qh_conn.specs.Streams.{IsRead, IsReadFault}
+use Rattle.qh_conn.specs.declared.fault.TakeFault.{TakeFault}
+use Rattle.qh_conn.specs.declared.fault.TakeFault.TheVariants.{Readable, Read}
 use Rattle.qh_half.specs.Recv.{PlainRecv, IsReadAnswer, is_closed, is_done, readable_fault, with_order}
 use Rattle.qh_half.specs.Recv.IsReadAnswer.{blocked, reset}
 use Rattle.qh_half.specs.declared.fault.ReadFault.{ReadFault}

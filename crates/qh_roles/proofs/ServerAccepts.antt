@@ -3,9 +3,9 @@ use Rattle.std.proofs.Common.{◌≡◌, ℕ, ◌+◌, ◌*◌, ◌<◌, ◌^◌
 use Rattle.std.proofs.lemmas.List.{map-append}
 use Rattle.std.specs.List.{items_where_true}
 use Rattle.std.specs.Prelude.{map}
-use Rattle.qh_connection.specs.Follows.{Follows}
-use Rattle.qh_connection.specs.Inner.{with_streams}
-use Rattle.qh_connection.specs.declared.inner.Inner.{Inner}
+use Rattle.qh_conn.specs.Follows.{Follows}
+use Rattle.qh_conn.specs.Inner.{with_streams}
+use Rattle.qh_conn.specs.declared.inner.Inner.{Inner}
 use Rattle.qh_halves.specs.Counts.{other_side}
 use Rattle.qh_roles.proofs.Acts.{fresh_reading}
 use Rattle.qh_roles.proofs.ServerEntries.{none_answered}

@@ -5,8 +5,8 @@ use Rattle.std.proofs.Math.Seq.{map-set_same}
 use Rattle.std.proofs.lemmas.Bool.{cases_eq, false≢true}
 use Rattle.std.proofs.lemmas.List.{map-append}
 use Rattle.std.specs.List.{items_where_true}
-use Rattle.qh_connection.specs.Follows.{Follows}
-use Rattle.qh_connection.specs.declared.inner.Inner.{Inner}
+use Rattle.qh_conn.specs.Follows.{Follows}
+use Rattle.qh_conn.specs.declared.inner.Inner.{Inner}
 use Rattle.qh_roles.proofs.Acts.{none_calls, calls_append, untouched_append, same_written, same_finished, same_pieces, same_read, same_ended, fresh_append, writing_kept, reading_kept}
 use Rattle.qh_roles.proofs.HandlerLists.{same_default, in_set, in_kept, distinct_kept}
 use Rattle.qh_roles.proofs.HandlerSteps.{spells_left}

@@ -5,8 +5,8 @@ use Rattle.std.proofs.lemmas.Bool.{eq-eqb}
 use Rattle.std.proofs.lemmas.List.{take_all}
 use Rattle.std.proofs.Math.Seq.{take-nil}
 use Rattle.qh_base.specs.declared.memory.Memory.{Memory as OutOfMemory}
-use Rattle.qh_connection.specs.Follows.{Follows, write_acts}
-use Rattle.qh_connection.specs.declared.inner.Inner.{Inner}
+use Rattle.qh_conn.specs.Follows.{Follows, write_acts}
+use Rattle.qh_conn.specs.declared.inner.Inner.{Inner}
 use Rattle.qh_half.specs.declared.fault.WriteFault.{WriteFault}
 use Rattle.qh_roles.proofs.Acts.{same_written, same_finished, on_append, none_on, none_unread, none_untouched, unread_append, untouched_append, same_pieces, same_read, same_ended, wrote_on, finished_on, piece_on, end_on, writing_kept, in_order_append}
 use Rattle.qh_roles.specs.Steps.{Pushes, pushed}

@@ -1,9 +1,9 @@
 -- What the steps of a client do with its streams.
 use Rattle.std.specs.Prelude.{◌≡◌, ◌⊎◌, ℕ, ◌*◌, Bool, true, false, not, List, [], ◌∷◌, ◌++◌, length, Option, Some, None, Result, Ok, Err, IfSome, slice_set}
 use Rattle.qh_base.specs.declared.memory.Memory.{Memory as OutOfMemory}
-use Rattle.qh_connection.specs.Follows.{Follows}
-use Rattle.qh_connection.specs.Inner.{with_streams}
-use Rattle.qh_connection.specs.declared.inner.Inner.{Inner}
+use Rattle.qh_conn.specs.Follows.{Follows}
+use Rattle.qh_conn.specs.Inner.{with_streams}
+use Rattle.qh_conn.specs.declared.inner.Inner.{Inner}
 use Rattle.qh_roles.specs.Client.{PlainClient, Asks, Asking, HasOpened, IsAskedIn}
 use Rattle.qh_roles.specs.Streams.{Acted, AreOn, IsUntouched}
 use Rattle.qh_roles.specs.declared.client.RequestStream.{RequestStream}

@@ -1,9 +1,9 @@
 -- What the parts of a server do: calls on one stream, and entries of that stream.
 use Rattle.std.specs.Prelude.{◌≡◌, ◌⊎◌, ℕ, ◌≤◌, ◌<◌, ◌^◌, true, false, List, ◌++◌, Result, Ok, Err, IfOk}
 use Rattle.qh_base.specs.declared.memory.Memory.{Memory as OutOfMemory}
-use Rattle.qh_connection.specs.Follows.{Follows}
-use Rattle.qh_connection.specs.Inner.{with_streams}
-use Rattle.qh_connection.specs.declared.inner.Inner.{Inner}
+use Rattle.qh_conn.specs.Follows.{Follows}
+use Rattle.qh_conn.specs.Inner.{with_streams}
+use Rattle.qh_conn.specs.declared.inner.Inner.{Inner}
 use Rattle.qh_halves.specs.Counts.{other_side}
 use Rattle.qh_roles.specs.Server.{AreGoing, AreOnStreams, HasHandler, IsOn, IsHandledIn, is_done, SpellsResponse, Responds, HasAccepted, ServerStep, GrewByAnswers}
 use Rattle.qh_roles.specs.Streams.{AreOn, IsFresh, IsOver, IsUntouched, IsUnread, IsStirred, NoneArrived}

@@ -1,8 +1,8 @@
 -- How a server stands to what was done with its end, and to what was served.
 use Rattle.std.specs.Prelude.{◌≡◌, ◌⊎◌, ℕ, ◌*◌, ◌<◌, ◌≤◌, ◌^◌, Bool, true, false, not, List, ◌++◌, map, Some}
 use Rattle.qh_base.specs.declared.connection_error.ConnectionError.TheVariants.{Memory}
-use Rattle.qh_connection.specs.Follows.{Follows}
-use Rattle.qh_connection.specs.declared.inner.Inner.{Inner}
+use Rattle.qh_conn.specs.Follows.{Follows}
+use Rattle.qh_conn.specs.declared.inner.Inner.{Inner}
 use Rattle.qh_halves.specs.Counts.{other_side}
 use Rattle.qh_roles.specs.Streams.{Acted, IsOver, IsUntouched, IsFresh, IsWriting, IsReading}
 use Rattle.qh_roles.specs.declared.server.Handler.{Handler}

@@ -2,11 +2,11 @@
 use Rattle.std.specs.Prelude.{◌≡◌, ◌⊎◌, ℕ, ◌<◌, min, false, List, [], ◌++◌, length, take, Option, Some, None, Result, Ok, Err}
 use Rattle.qh_base.specs.declared.memory.Memory.{Memory as OutOfMemory}
 use Rattle.qh_buffers.specs.declared.assembler.Chunk.{Chunk}
-use Rattle.qh_connection.specs.Follows.{Follows}
-use Rattle.qh_connection.specs.Streams.{IsWriteRefused}
-use Rattle.qh_connection.specs.declared.fault.TakeFault.{TakeFault}
-use Rattle.qh_connection.specs.declared.fault.TakeFault.TheVariants.{Read}
-use Rattle.qh_connection.specs.declared.inner.Inner.{Inner}
+use Rattle.qh_conn.specs.Follows.{Follows}
+use Rattle.qh_conn.specs.Streams.{IsWriteRefused}
+use Rattle.qh_conn.specs.declared.fault.TakeFault.{TakeFault}
+use Rattle.qh_conn.specs.declared.fault.TakeFault.TheVariants.{Read}
+use Rattle.qh_conn.specs.declared.inner.Inner.{Inner}
 use Rattle.qh_half.specs.Send.{PlainSend, credit}
 use Rattle.qh_half.specs.declared.fault.WriteFault.{WriteFault}
 use Rattle.qh_halves.specs.SendHalves.{finish_fault_at, send_at, write_limit}

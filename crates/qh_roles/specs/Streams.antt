@@ -1,9 +1,9 @@
 -- How far the bytes of a message are on a stream, and what the calls of a role add to what was done with an end.
 use Rattle.std.specs.Prelude.{◌≡◌, ◌⊎◌, ℕ, ◌+◌, ◌-◌, ◌^◌, ◌<◌, min, Bool, true, false, List, [], ◌++◌, length, take, Option, Some, None, IsSome, Result, Ok}
 use Rattle.qh_base.specs.declared.memory.Memory.{Memory as OutOfMemory}
-use Rattle.qh_connection.specs.Follows.{Follows}
-use Rattle.qh_connection.specs.Inner.{HaveSameCounts, is_open, with_streams}
-use Rattle.qh_connection.specs.declared.inner.Inner.{Inner}
+use Rattle.qh_conn.specs.Follows.{Follows}
+use Rattle.qh_conn.specs.Inner.{HaveSameCounts, is_open, with_streams}
+use Rattle.qh_conn.specs.declared.inner.Inner.{Inner}
 use Rattle.qh_half.specs.Recv.{PlainRecv, WaitsForMore, is_at_end, reset_code}
 use Rattle.qh_half.specs.Send.{PlainSend, credit}
 use Rattle.qh_half.specs.declared.fault.WriteFault.{WriteFault}

@@ -1,6 +1,6 @@
 ghost use Rattle.std.specs.Prelude.{◌≡◌, [], ℕ, ◌+◌, ◌*◌, ◌<◌, List, Some, None, length, map, filter, replicate, IfOk, OnOk, OnErr, slice_get, slice_set, if◌then◌else◌};
-ghost use Rattle.qh_connection.specs.Follows.{Follows};
-ghost use Rattle.qh_connection.specs.Inner.{with_streams};
+ghost use Rattle.qh_conn.specs.Follows.{Follows};
+ghost use Rattle.qh_conn.specs.Inner.{with_streams};
 ghost use Rattle.qh_roles.specs.Client.{AreAskable, Asking, HasOpened, IsAskedIn, held};
 ghost use Rattle.qh_roles.specs.ClientSteps.{Advances, Goes, IsAdvanced, IsSent, is_left, is_over, with_answer};
 ghost use Rattle.qh_roles.specs.Streams.{Acted, IsReading, IsStirred};
@@ -11,7 +11,7 @@ ghost use Rattle.qh_spec.specs.declared.sides.Side.TheVariants.{Client as TheCli
 use crate::outgoing::give_up;
 use crate::{Incoming, Outgoing, ReadState, WriteState};
 use qh_base::{Code, Dir, Memory, StreamId};
-use qh_connection::Connection;
+use qh_conn::Connection;
 use qh_message::{read_response, write_message};
 use qh_service::Message;
 use std::alloc::Global;

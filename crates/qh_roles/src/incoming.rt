@@ -1,5 +1,5 @@
 ghost use Rattle.std.specs.Prelude.{◌≡◌, ◌<◌, ◌++◌, [], ℕ, List, length, None, Some, Ok, OnOk, IfOk, IfSome};
-ghost use Rattle.qh_connection.specs.Follows.{Follows, take_acts};
+ghost use Rattle.qh_conn.specs.Follows.{Follows, take_acts};
 ghost use Rattle.qh_roles.specs.Steps.{IsTaken, so_far};
 ghost use Rattle.qh_roles.specs.Streams.{GivesNoMore, IsReading, IsStirred, NoneArrived, ReadsOn, WaitsToRead};
 ghost use Rattle.qh_roles.specs.declared.incoming.ReadState.TheVariants as reading;
@@ -7,7 +7,7 @@ ghost use Rattle.qh_spec.specs.Transcript.{Act, read};
 
 use qh_base::{Memory, StreamId};
 use qh_buffers::Chunk;
-use qh_connection::{Connection, TakeFault};
+use qh_conn::{Connection, TakeFault};
 use qh_streams::ReadFault;
 use std::alloc::Global;
 use std::marker::Model;

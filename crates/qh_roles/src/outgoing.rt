@@ -1,5 +1,5 @@
 ghost use Rattle.std.specs.Prelude.{◌≡◌, ◌++◌, ◌-◌, ◌^◌, ℕ, ◌<◌, ◌≤◌, List, length, min, IsSome, Ok, IfOk, OnOk, OnErr};
-ghost use Rattle.qh_connection.specs.Follows.{Follows, finish_acts};
+ghost use Rattle.qh_conn.specs.Follows.{Follows, finish_acts};
 ghost use Rattle.qh_halves.specs.SendHalves.{finish_fault_at};
 ghost use Rattle.qh_roles.specs.Steps.{IsPushed, Pushes, pushed};
 ghost use Rattle.qh_roles.specs.Streams.{AreOn, IsBlocked, IsFresh, IsGivenUp, IsOver, IsStirred, IsWriting, KeepsOver, NoneArrived, TakesNothing, Writes};
@@ -7,7 +7,7 @@ ghost use Rattle.qh_roles.specs.declared.outgoing.WriteState.TheVariants as writ
 ghost use Rattle.qh_spec.specs.Transcript.{Act};
 
 use qh_base::{Code, Memory, StreamId, VarInt};
-use qh_connection::Connection;
+use qh_conn::Connection;
 use qh_streams::{FinishFault, WriteFault};
 use std::marker::Model;
 

@@ -1,6 +1,6 @@
 ghost use Rattle.std.specs.Prelude.{◌≡◌, [], ℕ, ◌≤◌, ◌^◌, ◌↔◌, true, false, filter, List, None, Ok, OnOk, IfOk, IsTrue};
-ghost use Rattle.qh_connection.specs.Follows.{Follows};
-ghost use Rattle.qh_connection.specs.Inner.{is_open, with_streams};
+ghost use Rattle.qh_conn.specs.Follows.{Follows};
+ghost use Rattle.qh_conn.specs.Inner.{is_open, with_streams};
 ghost use Rattle.qh_roles.specs.Handling.{AcceptStep, Accepts, Advances, AreFitting, HandlerStep, HandlersStep, IsQuiet, IsServed, IsSettledIn, Polls, state_of};
 ghost use Rattle.qh_roles.specs.Server.{AreGoing, AreOnStreams, ForgetsNone, GrewByAnswers, HasAccepted, ServerStep, Serving, IsOn, is_done, is_going};
 ghost use Rattle.qh_roles.specs.Streams.{IsStirred, KeepsOver, NoneArrived};
@@ -14,7 +14,7 @@ ghost use Rattle.qh_spec.specs.declared.sides.Side.TheVariants.{Server as TheSer
 use crate::outgoing::give_up;
 use crate::{Incoming, Outgoing, ReadState, WriteState};
 use qh_base::{Code, Dir, Memory, StreamId};
-use qh_connection::Connection;
+use qh_conn::Connection;
 use qh_message::{read_request, writable, write_message};
 use qh_service::{Head, Limits, Message, Service};
 use std::alloc::Global;

@@ -4,7 +4,7 @@ use crate::Server;
 use bytes::Bytes;
 use qh_base::{Code, ConnectionId, Dir, FourTuple, Memory, Moment, Side, Span, StreamId, VarInt};
 use qh_buffers::Chunk;
-use qh_connection::{ConnConfig, Connection, ConnectionEvent, PlainSession, TakeFault};
+use qh_conn::{ConnConfig, Connection, ConnectionEvent, PlainSession, TakeFault};
 use qh_service::{Echo, Limits};
 use qh_streams::{ReadFault, StreamLimits};
 use std::alloc::Global;

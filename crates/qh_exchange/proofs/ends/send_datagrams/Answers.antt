@@ -1,6 +1,6 @@
 use Rattle.std.proofs.Common.{◌≡◌, refl, ◌∙◌, ap, subst, Bool, Ok, ℕ, List, ◌∷◌, [], ◌++◌, append-nil, ◌+◌, arith, rules, true, false}
 use Rattle.std.proofs.lemmas.Result.{err_from_is_err_and}
-use Rattle.qh_connection.specs.Follows.{Follows}
+use Rattle.qh_conn.specs.Follows.{Follows}
 use Rattle.qh_spec.specs.Link.{told}
 use Rattle.qh_spec.specs.Turns.{IsOutput}
 use Rattle.qh_spec.specs.declared.link.Event.TheVariants.{Sent}

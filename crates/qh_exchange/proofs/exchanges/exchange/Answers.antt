@@ -1,6 +1,6 @@
 use Rattle.std.proofs.Common.{◌∙◌, refl, ap, subst, sym, List, length, arith}
 use Rattle.std.proofs.lemmas.Result.{err_from_is_err_and}
-use Rattle.qh_connection.specs.declared.config.ConnConfig.{ConnConfig}
+use Rattle.qh_conn.specs.declared.config.ConnConfig.{ConnConfig}
 use Rattle.qh_spec.specs.Headline.{AnsweredOnce}
 use Rattle.qh_spec.specs.Message.{PlainMessage}
 use Rattle.qh_spec.proofs.HeadlineLaws.{served_nothing}

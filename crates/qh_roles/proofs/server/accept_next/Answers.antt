@@ -1,5 +1,5 @@
 use Rattle.std.proofs.Common.{refl, ap, arith}
-use Rattle.qh_connection.specs.declared.inner.Inner.{Inner}
+use Rattle.qh_conn.specs.declared.inner.Inner.{Inner}
 use Rattle.qh_roles.proofs.ServerAccepts.{left_out, taken_in}
 use Rattle.qh_roles.proofs.ServerCares.{accepts_one}
 use Rattle.qh_roles.proofs.server.accept_next.Goals as goal

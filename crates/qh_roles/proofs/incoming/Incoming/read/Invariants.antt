@@ -1,5 +1,5 @@
 use Rattle.std.proofs.Common.{◌≡◌, List, Ok}
-use Rattle.qh_connection.specs.Follows.{Follows}
+use Rattle.qh_conn.specs.Follows.{Follows}
 use Rattle.qh_roles.specs.Streams.{GivesNoMore, IsReading, IsStirred, NoneArrived, ReadsOn}
 use Rattle.qh_roles.specs.declared.incoming.ReadState.TheVariants as reading
 use Rattle.qh_spec.specs.Transcript.{Act}

@@ -1,0 +1,97 @@
+-- The frames of a packet, taken one after another.
+use Rattle.std.proofs.Common.{◌≡◌, ◌⊎◌, ℕ, List, [], ◌∷◌, ◌++◌, Option, Some, None, length, sym, ap, ◌∙◌, inl, inr, subst, append_assoc, arith}
+use Rattle.std.specs.List.{AllByRecursion}
+use Rattle.qh_base.specs.declared.connection_error.ConnectionError.{ConnectionError}
+use Rattle.qh_base.specs.declared.connection_error.ConnectionError.TheVariants.{TransportError as Fault}
+use Rattle.qh_base.specs.declared.transport_error.TransportError.{TransportError}
+use Rattle.qh_conn.specs.Receiving.{AreFramesTaken}
+use Rattle.qh_conn.specs.Receiving.AreFramesTaken.{none, more, closed, refused}
+use Rattle.qh_frame.specs.FrameAt.{Begins, HasNoFrame}
+use Rattle.qh_frame.specs.Plain.{plain_of}
+use Rattle.qh_frame.specs.Range.{IsInRange}
+use Rattle.qh_frame.specs.declared.frame.Frame.{Frame}
+use Rattle.qh_packet.proofs.Surveys.{frame_takes}
+use Rattle.qh_packet.specs.Frames.{AreSurveyed}
+use Rattle.qh_space.specs.Receiving.{IsFrameTaken, frame_refusal}
+use Rattle.qh_space.specs.Space.{IsSpace}
+use Rattle.qh_space.specs.declared.data_space.DataSpace.{DataSpace}
+use Rattle.qh_spec.proofs.FrameLaws.{quic_frame_agrees}
+use Rattle.qh_spec.specs.QuicFrames.{QuicFrame, AreQuicFrames}
+use Rattle.qh_streams.specs.Streams.{IsRefusal}
+use Rattle.qh_streams.specs.declared.fault.StreamFault.{StreamFault}
+use Rattle.qh_streams.specs.declared.fault.StreamFault.TheVariants.{Transport, Memory as Wanting}
+
+-- the bytes are frames in range
+pub record AreInRange (bytes : List ℕ) : Type 0 where
+  pub frames : List QuicFrame
+  pub are : AreQuicFrames bytes frames
+  pub in_range : AllByRecursion IsInRange frames
+
+-- so they are behind the first of them
+pub range_behind : (bytes rest : List ℕ) (form : QuicFrame) → AreInRange bytes → Begins bytes form rest → AreInRange rest
+range_behind bytes rest form h b = behind h.frames h.are h.in_range where
+  behind : (fs : List QuicFrame) → AreQuicFrames bytes fs → AllByRecursion IsInRange fs → AreInRange rest
+  behind [] are all = absurd (omega (arith, frame_takes bytes rest form b, ap length are))
+  behind (f ∷ fs) are all = record {
+    frames = fs;
+    are = subst (λ (z : List ℕ). AreQuicFrames z fs) (quic_frame_agrees bytes f b.frame are.0 rest are.1 b.is).1 are.2;
+    in_range = all.1;
+  }
+
+-- there is none where none can be read
+pub range_none : (bytes : List ℕ) → AreInRange bytes → HasNoFrame bytes → bytes ≡ []
+range_none bytes h unread = all h.frames h.are h.in_range where
+  all : (fs : List QuicFrame) → AreQuicFrames bytes fs → AllByRecursion IsInRange fs → bytes ≡ []
+  all [] are in_range = are
+  all (f ∷ fs) are in_range = absurd (unread f are.0 are.1 in_range.0)
+
+-- the frames in front of the rest were taken, none of them closed, and the rest are frames too
+pub record AreTakenUpTo (now : ℕ) (bytes rest : List ℕ) (old mid : DataSpace) : Type 0 where
+  pub taken : List Frame
+  pub goes_on : (new : DataSpace) (later : List Frame) (end : Option ConnectionError) → AreFramesTaken now rest mid new later end → AreFramesTaken now bytes old new (taken ++ later) end
+  pub left : AreInRange rest
+  pub space : IsSpace mid
+
+pub taken_none : (now : ℕ) (bytes : List ℕ) (s : DataSpace) (is_eliciting : _) → AreSurveyed bytes is_eliciting → IsSpace s → AreTakenUpTo now bytes bytes s s
+taken_none now bytes s is_eliciting h space = record {
+  taken = [];
+  goes_on = λ new later end t. t;
+  left = record { frames = h.frames; are = h.are; in_range = h.in_range };
+  space = space;
+}
+
+-- one more is taken
+pub taken_more : (now : ℕ) (bytes rest behind : List ℕ) (old mid new : DataSpace) (f : Frame) → AreTakenUpTo now bytes rest old mid → Begins rest (plain_of f) behind
+    → frame_refusal mid f ≡ None → IsFrameTaken now mid new f None → IsSpace new → AreTakenUpTo now bytes behind old new
+taken_more now bytes rest behind old mid new f h b free step space = record {
+  taken = h.taken ++ f ∷ [];
+  goes_on = λ last later end t.
+      subst (λ (fs : List Frame). AreFramesTaken now bytes old last fs end) (sym (append_assoc h.taken (f ∷ []) later))
+      (h.goes_on last (f ∷ later) end (more rest behind f mid new last later end b free step t));
+  left = range_behind rest behind (plain_of f) h.left b;
+  space = space;
+}
+
+-- what was taken in the end
+abbrev pub HasTaken : (now : ℕ) (bytes : List ℕ) (old new : DataSpace) (end : Option ConnectionError) → Type 0
+HasTaken now bytes old new end = (taken : List Frame) × AreFramesTaken now bytes old new taken end
+
+-- all are taken
+pub taken_all : (now : ℕ) (bytes rest : List ℕ) (old new : DataSpace) → AreTakenUpTo now bytes rest old new → HasNoFrame rest → HasTaken now bytes old new None
+taken_all now bytes rest old new h unread =
+    (h.taken ++ [], h.goes_on new [] None (subst (λ (z : List ℕ). AreFramesTaken now z new new [] None) (sym (range_none rest h.left unread)) (none new)))
+
+-- one closes
+pub taken_closed : (now : ℕ) (bytes rest behind : List ℕ) (old mid new : DataSpace) (f : Frame) (e : ConnectionError) → AreTakenUpTo now bytes rest old mid → Begins rest (plain_of f) behind
+    → frame_refusal mid f ≡ None → IsFrameTaken now mid new f (Some e) → HasTaken now bytes old new (Some e)
+taken_closed now bytes rest behind old mid new f e h b free step = (h.taken ++ f ∷ [], h.goes_on new (f ∷ []) (Some e) (closed rest behind f mid new e b free step))
+
+-- one is refused
+pub taken_refused : (now : ℕ) (bytes rest behind : List ℕ) (old mid new : DataSpace) (f : Frame) (fault : StreamFault) (e : TransportError) → AreTakenUpTo now bytes rest old mid
+    → Begins rest (plain_of f) behind → (fault ≡ Wanting) ⊎ IsRefusal fault (frame_refusal mid f) → new ≡ mid → fault ≡ Transport e → HasTaken now bytes old new (Some (Fault e))
+taken_refused now bytes rest behind old mid new f fault e h b (inl wanting) same is = absurd (let both : Wanting ≡ Transport e = sym wanting ∙ is in cc)
+taken_refused now bytes rest behind old mid new f fault e h b (inr r) same is = (
+  h.taken ++ [],
+  subst (λ (s : DataSpace). AreFramesTaken now bytes old s (h.taken ++ []) (Some (Fault e))) (sym same)
+      (h.goes_on mid [] (Some (Fault e)) (refused rest behind f mid e b (subst (λ (x : StreamFault). IsRefusal x (frame_refusal mid f)) is r))),
+)

@@ -1,0 +1,140 @@
+ghost use Rattle.std.specs.Prelude.{◌≡◌, [], None, Some, true, false};
+ghost use Rattle.qh_base.specs.declared.connection_error.ConnectionError.TheVariants.{Memory as OutOfMemory};
+ghost use Rattle.qh_conn.specs.Config.{peer_of, space_config};
+ghost use Rattle.qh_conn.specs.Inner.{IsConnection, IsFailedBy, IsNewSpace, fresh_stats};
+ghost use Rattle.qh_conn.specs.declared.state.State.TheVariants as state;
+ghost use Rattle.qh_recovery.specs.Accepted.{Remembers};
+ghost use Rattle.qh_space.specs.Space.{AreUnused};
+
+mod closing;
+mod events;
+mod receiving;
+mod sending;
+mod timeouts;
+
+use crate::{ConnConfig, ConnectionStats, IdleTimer, State, UdpStats};
+use qh_base::{ConnectionError, ConnectionId, FourTuple, Moment, Side};
+use qh_space::DataSpace;
+use std::alloc::Global;
+
+/// All that a connection keeps. What holds of it together is `IsConnection`.
+#[derive(Drop)]
+pub struct Inner<S> {
+    /// Which end this is.
+    pub side: Side,
+    /// What makes and opens the tags of packets.
+    pub session: S,
+    /// The id in the packets that come.
+    pub local_id: ConnectionId,
+    /// The id in the packets that are sent.
+    pub remote_id: ConnectionId,
+    /// Where packets go.
+    pub addresses: FourTuple,
+    /// What it began with.
+    pub config: ConnConfig,
+    /// The packet number space of application data, with the streams.
+    pub space: DataSpace,
+    /// The idle time.
+    pub idle: IdleTimer,
+    /// How far the connection is.
+    pub state: State,
+    /// Why the connection is lost, where it is.
+    pub error: Option<ConnectionError>,
+    /// Whether the application was told that it is lost.
+    pub is_lost_told: bool,
+    /// Whether the endpoint was told that it is drained.
+    pub is_drained_told: bool,
+    /// The datagrams that were handed out.
+    pub udp_tx: UdpStats,
+    /// The datagrams that were handed in.
+    pub udp_rx: UdpStats,
+}
+
+/// What a connection is made of.
+#[derive(Drop)]
+pub struct Parts<S> {
+    pub side: Side,
+    pub session: S,
+    pub local_id: ConnectionId,
+    pub remote_id: ConnectionId,
+    pub addresses: FourTuple,
+}
+
+impl<S> Inner<S> {
+    // An end before anything came or was written.
+    pub(crate) fn new(alloc: Global, config: ConnConfig, parts: Parts<S>, now: Moment) -> Inner<S>
+        ensures connection { IsConnection result }
+        ensures space { IsNewSpace config parts.side result.space }
+        ensures unused { AreUnused result.space.streams (peer_of config.limits) }
+        ensures received { Remembers [] result.space.dedup }
+        ensures value { result ≡ record {
+          side = parts.side;
+          session = parts.session;
+          local_id = parts.local_id;
+          remote_id = parts.remote_id;
+          addresses = parts.addresses;
+          config = config;
+          space = result.space;
+          idle = record { timeout = config.idle; since = now; has_sent = false };
+          state = state.Established;
+          error = None;
+          is_lost_told = false;
+          is_drained_told = false;
+          udp_tx = fresh_stats;
+          udp_rx = fresh_stats;
+        } }
+    {
+        let none = UdpStats {
+            datagrams: 0,
+            bytes: 0,
+        };
+        Inner {
+            side: parts.side,
+            session: parts.session,
+            local_id: parts.local_id,
+            remote_id: parts.remote_id,
+            addresses: parts.addresses,
+            config,
+            space: DataSpace::new(alloc, parts.side, config.space()),
+            idle: IdleTimer::new(config.idle, now),
+            state: State::Established,
+            error: None,
+            is_lost_told: false,
+            is_drained_told: false,
+            udp_tx: none,
+            udp_rx: none,
+        }
+    }
+
+    // What was done since it was made.
+    pub(crate) fn stats(&self) -> ConnectionStats
+        ensures datagrams { (result.datagrams_sent ≡ self.now.udp_tx.datagrams) × (result.datagrams_received ≡ self.now.udp_rx.datagrams) }
+        ensures bytes { (result.bytes_sent ≡ self.now.udp_tx.bytes) × (result.bytes_received ≡ self.now.udp_rx.bytes) }
+        ensures recovery { (result.packets_lost ≡ self.now.space.packets_lost) × (result.probes ≡ self.now.space.probes_sent) }
+    {
+        ConnectionStats {
+            datagrams_sent: self.udp_tx.datagrams,
+            datagrams_received: self.udp_rx.datagrams,
+            bytes_sent: self.udp_tx.bytes,
+            bytes_received: self.udp_rx.bytes,
+            packets_lost: self.space.packets_lost,
+            probes: self.space.probes_sent,
+        }
+    }
+
+    // Want of memory in the middle of a step: the connection is lost and drained, and all that it held of its streams is
+    // dropped. So many packets were lost before, and so many probes sent.
+    fn fail(&mut self, alloc: Global, stats: ConnectionStats)
+        ensures failed { IsFailedBy self.old self.new }
+        ensures counts { (self.new.space.packets_lost ≡ stats.packets_lost) × (self.new.space.probes_sent ≡ stats.probes) }
+        ensures connection { IsConnection self.new }
+    {
+        self.space = DataSpace {
+            packets_lost: stats.packets_lost,
+            probes_sent: stats.probes,
+            ..DataSpace::new(alloc, self.side, self.config.space())
+        };
+        self.state = State::Drained;
+        self.error = Some(ConnectionError::Memory);
+    }
+}

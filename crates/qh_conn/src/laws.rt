@@ -1,0 +1,50 @@
+ghost use Rattle.std.specs.Prelude.{◌≡◌, ◌⊎◌, ◌++◌, [], ◌∷◌, ℕ, ◌^◌, List, Option, None, Some, length, true, false};
+ghost use Rattle.qh_base.specs.declared.path.Transmit.{Transmit as ATransmit};
+ghost use Rattle.qh_base.specs.declared.time.Moment.{Moment as AMoment};
+ghost use Rattle.qh_conn.specs.Follows.{Follows, IsWithinLimits};
+ghost use Rattle.qh_conn.specs.Inner.{IsNewSpace, is_open};
+ghost use Rattle.qh_conn.specs.Progress.{AreAllAcknowledged, IsHeld, NumberedPacket, Progress, Rises};
+ghost use Rattle.qh_conn.specs.Receiving.{IsPacketTaken};
+ghost use Rattle.qh_conn.specs.Sending.{IsDatagramMade, NothingIsSent};
+ghost use Rattle.qh_conn.specs.Timers.{IsTimedOut};
+ghost use Rattle.qh_conn.specs.declared.inner.Inner.{Inner as AnInner};
+ghost use Rattle.qh_spec.specs.Lawful.{Lawful};
+ghost use Rattle.qh_spec.specs.Lists.{In};
+ghost use Rattle.qh_spec.specs.QuicFrames.{QuicFrame, AreQuicFrames};
+ghost use Rattle.qh_spec.specs.Transcript.{Act, HandedOut};
+ghost use Rattle.qh_spec.specs.declared.sides.Side.{Side as ASide};
+ghost use Rattle.qh_spec.specs.declared.sides.Space.{Space as ASpace};
+ghost use Rattle.qh_streams.specs.Streams.{PlainStreams, AreWritten};
+ghost use Rattle.qh_streams.specs.declared.frames.SentFrame.{SentFrame};
+
+/// Whatever came to a connection, it keeps the laws of an end of a connection: it sends of a stream only what was written there,
+/// and gives to readers only what was carried to it. And each datagram keeps within the limits that the peer had given before.
+pub fn lawful<S>()
+    ensures faithful { (c : AnInner S) (t : List Act) → Follows c t → Lawful c.side (length c.local_id) (length c.remote_id) t }
+    ensures within { (c : AnInner S) (t before after : List Act) (datagram : List ℕ) → Follows c t → t ≡ before ++ HandedOut datagram ∷ after
+        → IsWithinLimits (length c.local_id) (length c.remote_id) c.side c.config before datagram }
+{}
+
+/// What arrival over a link that gives datagrams in time rests on. An open connection stands to the packets that it sent and
+/// accepted so that what is out awaits its acknowledgement, and what came and wants one is acknowledged or about to be. Once
+/// `poll_transmit` was asked, all that came and wants it is acknowledged, and what waits is sent or held by the window, and that
+/// only while something is out that is to be acknowledged. A limit of the connection or of a stream and a count of streams is
+/// announced only where it rose, or where the frame that said it was lost. The limit of a stream is the number of bytes that were
+/// read of it and the window, as far as a frame can bear it, and never falls.
+pub fn progress<S>()
+    ensures fresh { (c : AnInner S) → IsNewSpace c.config c.side c.space → Progress c [] [] }
+    ensures others { (old new : AnInner S) (sent accepted : List NumberedPacket) → new.space.sent ≡ old.space.sent → new.space.next_number ≡ old.space.next_number
+        → new.space.acks ≡ old.space.acks → Progress old sent accepted → Progress new sent accepted }
+    ensures accepted { (now : AMoment) (number : ℕ) (frames : List ℕ) (old new : AnInner S) (fs : List QuicFrame) (sent accepted : List NumberedPacket)
+        → IsPacketTaken now number frames old new → is_open new.state ≡ true → AreQuicFrames frames fs
+        → Progress old sent accepted → Progress new sent (accepted ++ record { number = number; at = now; frames = fs } ∷ []) }
+    ensures made { (sealed : ASide → ASpace → ℕ → List ℕ) (now : AMoment) (old new : AnInner S) (before after : List ℕ) (transmit : ATransmit) (sent accepted : List NumberedPacket)
+        → (made : IsDatagramMade sealed now old new before after transmit) → is_open old.state ≡ true → Progress old sent accepted
+        → (fs : List QuicFrame) × AreQuicFrames made.bytes.frames fs × Progress new (sent ++ record { number = old.space.next_number; at = now; frames = fs } ∷ []) accepted
+        × AreAllAcknowledged (sent ++ record { number = old.space.next_number; at = now; frames = fs } ∷ []) accepted }
+    ensures none { (old new : AnInner S) (sent accepted : List NumberedPacket) → NothingIsSent old new → is_open old.state ≡ true → Progress old sent accepted
+        → Progress new sent accepted × ((old.space.next_number ≡ 2 ^ 62) ⊎ (AreAllAcknowledged sent accepted × IsHeld new)) }
+    ensures timeout { (now : ℕ) (old new : AnInner S) (sent accepted : List NumberedPacket) → IsTimedOut now old new → Progress old sent accepted → Progress new sent accepted }
+    ensures rises { (room : ℕ) (old new : PlainStreams) (frames : List SentFrame) (bytes : List ℕ) → AreWritten room old new frames bytes
+        → (f : SentFrame) → In f frames → Rises old f }
+{}
