@@ -105,6 +105,7 @@ IsHeld v from to = (v.start ≤ from) × (from ≤ to) × (to ≤ taken_to v)
 pub record IsPieceOut (old new : PlainSend) (room from to : ℕ) (fin : Bool) : Type 0 where
   pub not_reset : is_reset old.state ≡ false
   pub bytes_are : IsHandedOut old.buffer new.buffer room from to
+  pub held : IsHeld new.buffer from to
   pub fin_is : fin ≡ (is_finished old.state && (to == taken_to old.buffer))
   pub state_is : new.state ≡ (if fin then with_end_sent old.state else old.state)
   pub rest_is : new ≡ record old { buffer = new.buffer; state = new.state }

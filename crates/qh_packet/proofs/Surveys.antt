@@ -173,8 +173,8 @@ front_begins [] bytes rest h all = subst (λ (z : List ℕ). BeginWithFrames z r
 front_begins (f ∷ fs) bytes rest h all = more bytes h.0 rest f h.1 all.0 (front_begins fs h.0 rest h.2 all.1)
 
 -- the next can't be read
-pub surveyed_fault : (bytes rest : List ℕ) (is_eliciting : Bool) (kind : Option ℕ) → IsSurveyed bytes rest is_eliciting → HasNoFrame rest → BeginsWithType rest kind → IsFaultyFrame bytes kind
-surveyed_fault bytes rest is_eliciting kind h unread begins = record { rest = rest; behind = front_begins h.frames bytes rest h.are h.in_range; none = unread; type_is = begins }
+pub surveyed_fault : (bytes rest : List ℕ) (is_eliciting : Bool) (kind : Option ℕ) → IsSurveyed bytes rest is_eliciting → HasNoFrame rest → (rest ≡ [] → ⊥) → BeginsWithType rest kind → IsFaultyFrame bytes kind
+surveyed_fault bytes rest is_eliciting kind h unread some begins = record { rest = rest; behind = front_begins h.frames bytes rest h.are h.in_range; none = unread; some = some; type_is = begins }
 
 pub is_empty : (xs : List ℕ) → true ≡ (length xs == 0) → xs ≡ []
 is_empty [] e = refl

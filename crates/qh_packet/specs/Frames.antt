@@ -27,4 +27,5 @@ pub record IsFaultyFrame (bytes : List ℕ) (kind : Option ℕ) : Type 0 where
   pub rest : List ℕ
   pub behind : BeginWithFrames bytes rest
   pub none : HasNoFrame rest
+  pub some : rest ≡ [] → ⊥
   pub type_is : BeginsWithType rest kind

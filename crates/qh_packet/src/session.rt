@@ -93,6 +93,16 @@ impl PlainSession {
             knows_name: !server_name.is_empty(),
         })
     }
+
+    /// The id that the tags are made of, of at most 20 bytes.
+    pub fn key_id(&self) -> &ConnectionId
+        ensures value { result.now ≡ self.now.key_id }
+        ensures short { length result.now ≤ 20 }
+    {
+        // Its length is read for the bound alone.
+        let _length = self.key_id.len();
+        &self.key_id
+    }
 }
 
 impl Session for PlainSession {

@@ -16,7 +16,7 @@ loop-rest-preserved c =
 pub returns-in-Err-clause-frame : goal.returns-in-Err-clause-frame
 returns-in-Err-clause-frame c =
     let faulty : IsFaultyFrame c.args.bytes.now c.in-Err.fault.frame =
-    surveyed_fault c.args.bytes.now c.loop-rest.rest.now c.loop-rest.is_ack_eliciting c.in-Err.fault.frame c.loop-rest.invariant c.in-Err.ensures.none c.in-Err.ensures.fault in
+    surveyed_fault c.args.bytes.now c.loop-rest.rest.now c.loop-rest.is_ack_eliciting c.in-Err.fault.frame c.loop-rest.invariant c.in-Err.ensures.none (is_some c.loop-rest.rest.now c.loop-rest-test.ensures) c.in-Err.ensures.fault in
     λ f e.
     let same : c.in-Err.fault ≡ f = cc in
     subst (λ (x : FrameFault). IsFaultyFrame c.args.bytes.now x.frame) same faulty
