@@ -1,7 +1,7 @@
 -- Before the first datagram.
-use Rattle.std.proofs.Common.{◌≡◌, ℕ, ◌≤◌, ◌^◌, Bool, true, List, [], Option, Some, None, is_some, refl, sym, ap, subst, inl, inr}
-use Rattle.qh_buffers.specs.Ranges.{PlainRange, has}
-use Rattle.qh_conduct.specs.Announced.{Announced, AreLive, HasAnnounced}
+use Rattle.std.proofs.Common.{◌≡◌, ℕ, ◌≤◌, ◌^◌, Bool, true, List, [], is_some, ap, subst, inl, inr}
+use Rattle.qh_buffers.specs.Ranges.{has}
+use Rattle.qh_conduct.specs.Announced.{AreLive, HasAnnounced}
 use Rattle.qh_conn.specs.Inner.{HasNoHalf, IsFailedBy, IsNewSpace}
 use Rattle.qh_conn.specs.declared.inner.Inner.{Inner}
 use Rattle.qh_half.specs.Recv.{PlainRecv}

@@ -1,11 +1,11 @@
 -- What it means for whoever takes what was sent.
-use Rattle.std.proofs.Common.{◌≡◌, ◌⊎◌, ℕ, ◌<◌, ◌≤◌, ◌^◌, Bool, true, false, List, [], ◌∷◌, length, Option, Some, refl, sym, ap, subst, ◌∙◌, arith, inl, inr}
+use Rattle.std.proofs.Common.{◌≡◌, ◌⊎◌, ℕ, ◌<◌, true, false, List, [], ◌∷◌, length, Some, refl, ap, subst, arith, inl, inr}
 use Rattle.std.specs.List.{AllByRecursion}
 use Rattle.std.proofs.lemmas.Bool.{both_ways, cases_Bool}
 use Rattle.qh_base.specs.declared.connection_error.ConnectionError.TheVariants.{Memory}
 use Rattle.qh_conduct.proofs.FramesFit.{frame_fits, handed_fits}
 use Rattle.qh_conduct.proofs.FramesSay.{says_ack, says_close, says_count, says_limit, says_reset, says_stop, says_stream, says_stream_limit}
-use Rattle.qh_conduct.specs.Announced.{Announced, HasAnnounced, HasSent, IsKeptDatagram, IsKeptFrame, IsOver, IsReadable, SendsAsAnnounced, packet_of}
+use Rattle.qh_conduct.specs.Announced.{Announced, HasAnnounced, HasSent, IsKeptFrame, IsOver, IsReadable, SendsAsAnnounced, packet_of}
 use Rattle.qh_conn.specs.Follows.{Follows, HasNumber}
 use Rattle.qh_conn.specs.Inner.{is_open}
 use Rattle.qh_conn.specs.Receiving.{is_close}
@@ -15,7 +15,7 @@ use Rattle.qh_spec.specs.Datagram.{Packet}
 use Rattle.qh_spec.specs.Lists.{In}
 use Rattle.qh_spec.specs.QuicFrames.{QuicFrame}
 use Rattle.qh_spec.specs.Transcript.{Act, handed_in, handed_out}
-use Rattle.qh_streams.specs.Streams.{counts_of, is_two_way}
+use Rattle.qh_streams.specs.Streams.{is_two_way}
 
 all_of : (P : QuicFrame → Type 0) (fs : List QuicFrame) → ((f : QuicFrame) → In f fs → P f) → AllByRecursion P fs
 all_of P [] all = tt

@@ -1,16 +1,14 @@
 -- The STREAM frames of a datagram that is made have a byte, or the end.
-use Rattle.std.proofs.Common.{◌≡◌, ◌⊎◌, ℕ, ◌-◌, ◌<◌, ◌≤◌, ◌^◌, ◌==◌, nat_le, nat_lt, Bool, true, false, ◌&&◌, List, [], ◌∷◌, ◌++◌, length, Option, Some, None, if◌then◌else◌, refl, sym, ap, subst, ◌∙◌, inl, inr, arith, append_assoc}
+use Rattle.std.proofs.Common.{◌≡◌, ◌⊎◌, ℕ, ◌-◌, ◌<◌, ◌^◌, ◌==◌, Bool, true, false, List, [], ◌∷◌, ◌++◌, length, Option, Some, None, if◌then◌else◌, refl, sym, ap, subst, ◌∙◌, inl, inr, arith, append_assoc}
 use Rattle.std.specs.Prelude.{MatchBool, Ok, drop}
 use Rattle.std.proofs.Math.Seq.{drop-append_seam}
-use Rattle.std.proofs.lemmas.Bool.{both_ways, eq-eqb, le-ltb}
-use Rattle.std.proofs.lemmas.Bool.Decides.{eqb_tells}
+use Rattle.std.proofs.lemmas.Bool.{both_ways, eq-eqb}
 use Rattle.std.proofs.lemmas.List.{append-nil, append_cancel_left}
 use Rattle.std.proofs.lemmas.Option.{same_Some}
 use Rattle.qh_base.specs.declared.path.Transmit.{Transmit}
 use Rattle.qh_base.specs.declared.time.Moment.{Moment}
-use Rattle.qh_buffers.specs.SendBuffer.{PlainSendBuffer, taken_to}
 use Rattle.qh_conduct.specs.Announced.{MakesTags}
-use Rattle.qh_conduct.specs.Filled.{AreFilled, SendWhatIsTaken}
+use Rattle.qh_conduct.specs.Filled.{AreFilled}
 use Rattle.qh_conn.specs.Follows.{HasSomething, transmit_acts}
 use Rattle.qh_conn.specs.Inner.{IsSameEnd, is_open}
 use Rattle.qh_conn.specs.Sending.{AreFramesMade, ClosesReadBack, IsDatagramMade, close_frame, datagram_of, overhead}
@@ -24,8 +22,7 @@ use Rattle.qh_frame.specs.AckWritten.{ack_frame}
 use Rattle.qh_frame.specs.FrameBytes.{frame_bytes, numbers_bytes}
 use Rattle.qh_frame.specs.Plain.{frame}
 use Rattle.qh_frame.specs.declared.ack.AckRange.{AckRange}
-use Rattle.qh_half.proofs.SendMarks.{handed_out_held}
-use Rattle.qh_half.specs.Send.{PlainSend, IsPieceOut, IsSentAsTaken}
+use Rattle.qh_half.specs.Send.{PlainSend}
 use Rattle.qh_halves.specs.SendHalves.{PlainSendHalves, GivesPiece, IsStep, send_at}
 use Rattle.qh_packet.proofs.Packets.{only_content}
 use Rattle.qh_buffers.specs.Ranges.{PlainRange}
@@ -55,51 +52,6 @@ use Rattle.qh_streams.specs.declared.frames.SentFrame.TheVariants as sent
 use Rattle.qh_half.specs.declared.send.Outgoing.{Outgoing}
 use Rattle.qh_transcript.proofs.SendingFrames.{form_carries}
 
--- ---- a half that hands out
-
-and_none : (a b : Bool) → b ≡ false → (a && b) ≡ false
-and_none true b none = none
-and_none false b none = refl
-
-piece_sent : (h next : PlainSend) (room from to : ℕ) (fin : Bool) → IsSentAsTaken h.buffer → IsPieceOut h next room from to fin → IsSentAsTaken next.buffer
-piece_sent h next room from to fin all p k past =
-    let out = p.bytes_are in
-    let held = handed_out_held h.buffer next.buffer room from to all out in
-    let low = held.2 in
-    let apart : (nat_le from k && nat_lt k to) ≡ false = and_none (nat_le from k) (nat_lt k to) (le-ltb k to (omega (arith, low, past))) in
-    let before : taken_to h.buffer ≤ k = subst (λ (n : ℕ). n ≤ k) (rw (out.start_is, out.bytes_are) refl) past in
-    out.marks k ∙ rw apart (all k before)
-
-same_sent : (h next : PlainSend) → next.buffer ≡ h.buffer → IsSentAsTaken h.buffer → IsSentAsTaken next.buffer
-same_sent h next same all = subst (λ (v : PlainSendBuffer). IsSentAsTaken v) (sym same) all
-
-gives_sent : (room : ℕ) (piece : Outgoing) (h next : PlainSend) → IsSentAsTaken h.buffer → GivesPiece room piece h next → IsSentAsTaken next.buffer
-gives_sent room piece h next all (inl p) = piece_sent h next room piece.offsets.start piece.offsets.end piece.fin all p
-gives_sent room piece h next all (inr p) = same_sent h next (ap (λ (h : PlainSend). h.buffer) p.new_is) all
-
-step_sent : {P : PlainSend → PlainSend → Type 0} (old new : PlainSendHalves) (id n : ℕ) → (s : IsStep P old new id n) → IsSentAsTaken s.next.buffer → ((k : ℕ) (half : PlainSend) → send_at old k ≡ Some half → IsSentAsTaken half.buffer)
-    → (k : ℕ) (half : PlainSend) → send_at new k ≡ Some half → IsSentAsTaken half.buffer
-step_sent old new id n s next all k half is = elim (eqb_tells k id) [
-  | inl here ↦ subst (λ (h : PlainSend). IsSentAsTaken h.buffer) (same_Some s.next half (sym (rw here.0 at (s.is.halves_are k)) ∙ is)) next
-  | inr apart ↦ all k half (sym (rw apart.0 at (s.is.halves_are k)) ∙ is)
-]
-
-same_send : (old new : PlainStreams) → new.send ≡ old.send → SendWhatIsTaken old → SendWhatIsTaken new
-same_send old new same all = subst (λ (h : PlainSendHalves). (id : ℕ) (half : PlainSend) → send_at h id ≡ Some half → IsSentAsTaken half.buffer) (sym same) all
-
-handed_sent : (old mid : PlainStreams) (room : ℕ) (f : SentFrame) → IsHandedOver old mid room f → SendWhatIsTaken old → SendWhatIsTaken mid
-handed_sent old mid room f (stream_handed id piece idle next rest) all =
-    let s = next.step in
-    step_sent old.send mid.send id.0 0 s (gives_sent (room - head_bound) piece s.half s.next (all id.0 s.half s.was) s.step) all
-handed_sent old mid room f (reset_handed id frame_of idle next rest) all =
-    let s = next.step in
-    step_sent old.send mid.send id.0 0 s (same_sent s.half s.next (ap (λ (h : PlainSend). h.buffer) s.step.2) (all id.0 s.half s.was)) all
-handed_sent old mid room f (stop_handed id code step rest) all = same_send old mid (ap (λ (s : PlainStreams). s.send) rest) all
-handed_sent old mid room f (max_stream_data_handed id limit step rest) all = same_send old mid (ap (λ (s : PlainStreams). s.send) rest) all
-handed_sent old mid room f (max_data_handed limit is due rest) all = same_send old mid (ap (λ (s : PlainStreams). s.send) rest) all
-handed_sent old mid room f (max_streams_handed Bi count is due rest) all = same_send old mid (ap (λ (s : PlainStreams). s.send) rest) all
-handed_sent old mid room f (max_streams_handed Uni count is due rest) all = same_send old mid (ap (λ (s : PlainStreams). s.send) rest) all
-
 -- ---- its frames
 
 -- a STREAM frame has something
@@ -112,29 +64,27 @@ no_stream q none run is = let both : ◌≡◌ {A = Option Run} None (Some run) 
 step_next : {P : PlainSend → PlainSend → Type 0} (old new : PlainSendHalves) (id n : ℕ) → (s : IsStep P old new id n) → send_at new id ≡ Some s.next
 step_next old new id n s = s.is.halves_are id ∙ ap (λ (b : Bool). if b then Some s.next else send_at old id) (eq-eqb id id refl)
 
-gives_filled : (room : ℕ) (piece : Outgoing) (h next : PlainSend) → IsSentAsTaken h.buffer → GivesPiece room piece h next → (0 < length (half_bytes (Some next) piece)) ⊎ (piece.fin ≡ true)
-gives_filled room piece h next all (inl p) =
-    let out = p.bytes_are in
-    let held = handed_out_held h.buffer next.buffer room piece.offsets.start piece.offsets.end all out in
-    let long = piece_length (Some next) piece held in
-    let some = out.some in
+gives_filled : (room : ℕ) (piece : Outgoing) (h next : PlainSend) → GivesPiece room piece h next → (0 < length (half_bytes (Some next) piece)) ⊎ (piece.fin ≡ true)
+gives_filled room piece h next (inl p) =
+    let long = piece_length (Some next) piece p.held in
+    let some = p.bytes_are.some in
     inl (omega (arith, long, some))
-gives_filled room piece h next all (inr p) = inr p.fin_is
+gives_filled room piece h next (inr p) = inr p.fin_is
 
-handed_filled : (old mid : PlainStreams) (room : ℕ) (f : SentFrame) → IsHandedOver old mid room f → SendWhatIsTaken old → IsFilled (written_frame mid f)
-handed_filled old mid room f (stream_handed id piece idle next rest) all = λ run is.
+handed_filled : (old mid : PlainStreams) (room : ℕ) (f : SentFrame) → IsHandedOver old mid room f → IsFilled (written_frame mid f)
+handed_filled old mid room f (stream_handed id piece idle next rest) = λ run is.
     let s = next.step in
     let carries = form_carries (piece.offsets.start == 0) piece.fin id.0 piece.offsets.start (half_bytes (send_at mid.send id.0) piece) refl in
     let same : record { id = id.0; offset = piece.offsets.start; payload = half_bytes (send_at mid.send id.0) piece; fin = piece.fin } ≡ run = same_Some _ run (sym carries ∙ is) in
     let half = step_next old.send mid.send id.0 0 s in
-    let something : (0 < length (half_bytes (send_at mid.send id.0) piece)) ⊎ (piece.fin ≡ true) = rw half (gives_filled (room - head_bound) piece s.half s.next (all id.0 s.half s.was) s.step) in
+    let something : (0 < length (half_bytes (send_at mid.send id.0) piece)) ⊎ (piece.fin ≡ true) = rw half (gives_filled (room - head_bound) piece s.half s.next s.step) in
     subst (λ (r : Run). HasSomething r) same something
-handed_filled old mid room f (reset_handed id frame_of idle next rest) all = no_stream (written_frame mid (sent.ResetStream id frame_of)) refl
-handed_filled old mid room f (stop_handed id code step rest) all = no_stream (written_frame mid (sent.StopSending id code)) refl
-handed_filled old mid room f (max_stream_data_handed id limit step rest) all = no_stream (written_frame mid (sent.MaxStreamData id limit)) refl
-handed_filled old mid room f (max_data_handed limit is due rest) all = no_stream (written_frame mid (sent.MaxData limit)) refl
-handed_filled old mid room f (max_streams_handed Bi count is due rest) all = no_stream (written_frame mid (sent.MaxStreams Bi count)) refl
-handed_filled old mid room f (max_streams_handed Uni count is due rest) all = no_stream (written_frame mid (sent.MaxStreams Uni count)) refl
+handed_filled old mid room f (reset_handed id frame_of idle next rest) = no_stream (written_frame mid (sent.ResetStream id frame_of)) refl
+handed_filled old mid room f (stop_handed id code step rest) = no_stream (written_frame mid (sent.StopSending id code)) refl
+handed_filled old mid room f (max_stream_data_handed id limit step rest) = no_stream (written_frame mid (sent.MaxStreamData id limit)) refl
+handed_filled old mid room f (max_data_handed limit is due rest) = no_stream (written_frame mid (sent.MaxData limit)) refl
+handed_filled old mid room f (max_streams_handed Bi count is due rest) = no_stream (written_frame mid (sent.MaxStreams Bi count)) refl
+handed_filled old mid room f (max_streams_handed Uni count is due rest) = no_stream (written_frame mid (sent.MaxStreams Uni count)) refl
 
 ack_filled : (ranges : List AckRange) → IsFilled (ack_frame 0 ranges)
 ack_filled [] = no_stream (ack_frame 0 []) refl
@@ -168,10 +118,10 @@ response_filled : (due : Option (List ℕ)) (more : List ℕ) → ReadsBack due 
 response_filled None more back b = b
 response_filled (Some echoed) more back b = one_filled (frame 27 (Text echoed ∷ [])) more back (no_stream (frame 27 (Text echoed ∷ [])) refl) b
 
-written_filled : (room : ℕ) (old new : PlainStreams) (fs : List SentFrame) (bytes : List ℕ) → AreWritten room old new fs bytes → SendWhatIsTaken old → Filled bytes
-written_filled room old new fs bytes (none_written _ _) all = none_filled
-written_filled room old new fs bytes (more_written _ _ mid _ f gs rest handed fits back others) all =
-    one_filled (written_frame mid f) rest back (handed_filled old mid room f handed all) (written_filled _ mid new gs rest others (handed_sent old mid room f handed all))
+written_filled : (room : ℕ) (old new : PlainStreams) (fs : List SentFrame) (bytes : List ℕ) → AreWritten room old new fs bytes → Filled bytes
+written_filled room old new fs bytes (none_written _ _) = none_filled
+written_filled room old new fs bytes (more_written _ _ mid _ f gs rest handed fits back others) =
+    one_filled (written_frame mid f) rest back (handed_filled old mid room f handed) (written_filled _ mid new gs rest others)
 
 record FilledBehind (mid after : List ℕ) : Type 0 where
   bytes : List ℕ
@@ -179,17 +129,17 @@ record FilledBehind (mid after : List ℕ) : Type 0 where
   filled : Filled bytes
 
 put_filled : (may : Bool) (room : ℕ) (old new : DataSpace) (mid after : List ℕ) (frames : List SentFrame) → MatchBool may (AreElicitingPut room old new mid after frames) ((new ≡ old) × (after ≡ mid))
-    → SendWhatIsTaken old.streams → FilledBehind mid after
-put_filled true room old new mid after frames put all =
+    → FilledBehind mid after
+put_filled true room old new mid after frames put =
     let w = put.streams in
     let pings = bytes_if old.is_ping_due ping_bytes in
     let due = response_bytes old.path_response in
     record {
       bytes = pings ++ (due ++ w.bytes);
       appended = w.out_is ∙ append_assoc mid (pings ++ due) w.bytes ∙ ap (λ (z : List ℕ). mid ++ z) (append_assoc pings due w.bytes);
-      filled = ping_filled old.is_ping_due (due ++ w.bytes) (response_filled old.path_response w.bytes put.reads_back (written_filled _ old.streams w.mid w.frames w.bytes w.written all));
+      filled = ping_filled old.is_ping_due (due ++ w.bytes) (response_filled old.path_response w.bytes put.reads_back (written_filled _ old.streams w.mid w.frames w.bytes w.written));
     }
-put_filled false room old new mid after frames none all = record { bytes = []; appended = none.1 ∙ sym (append-nil mid); filled = none_filled }
+put_filled false room old new mid after frames none = record { bytes = []; appended = none.1 ∙ sym (append-nil mid); filled = none_filled }
 
 acks_filled : (due : Bool) (ranges : List PlainRange) (before mid after : List ℕ) → MatchBool due (IsAckPut ranges before mid) (mid ≡ before) → FilledBehind mid after → FilledBehind before after
 acks_filled true ranges before mid after put b = record {
@@ -199,10 +149,10 @@ acks_filled true ranges before mid after put b = record {
 }
 acks_filled false ranges before mid after same b = record { bytes = b.bytes; appended = b.appended ∙ ap (λ (z : List ℕ). z ++ b.bytes) same; filled = b.filled }
 
-packet_filled : (now around room : ℕ) (old new : DataSpace) (before after : List ℕ) → IsPacketMade now around room old new before after → SendWhatIsTaken old.streams → FilledBehind before after
-packet_filled now around room old new before after made all =
+packet_filled : (now around room : ℕ) (old new : DataSpace) (before after : List ℕ) → IsPacketMade now around room old new before after → FilledBehind before after
+packet_filled now around room old new before after made =
     acks_filled old.acks.is_due old.acks.ranges before made.out_mid after made.ack
-    (put_filled (may_elicit old) (room - (length made.out_mid - length before)) old made.mid made.out_mid after made.packet.frames.items made.eliciting all)
+    (put_filled (may_elicit old) (room - (length made.out_mid - length before)) old made.mid made.out_mid after made.packet.frames.items made.eliciting)
 
 open_reads_back : (state : State) → (is_open state ≡ true) ⊎ ClosesReadBack state → ClosesReadBack state
 open_reads_back state (inl up) = λ reason until is. absurd (both_ways (is_open state) (ap is_open is) up)
@@ -222,11 +172,11 @@ module _ {S : Type 0} where
   frames_sender now old new before frames (packet_made up m e) = record { side = ap (λ (c : Inner S). c.side) e; remote_id = ap (λ (c : Inner S). c.remote_id) e }
   frames_sender now old new before frames (close_made reason until is bytes_are e) = record { side = ap (λ (c : Inner S). c.side) e; remote_id = ap (λ (c : Inner S). c.remote_id) e }
 
-  frames_filled : (now : Moment) (old new : Inner S) (before frames : List ℕ) → AreFramesMade now old new before frames → ClosesReadBack old.state → SendWhatIsTaken old.space.streams → Filled frames
-  frames_filled now old new before frames (packet_made up m e) back all =
-      let b = packet_filled now.0 (overhead old) (1200 - overhead old) old.space new.space before (before ++ frames) m all in
+  frames_filled : (now : Moment) (old new : Inner S) (before frames : List ℕ) → AreFramesMade now old new before frames → ClosesReadBack old.state → Filled frames
+  frames_filled now old new before frames (packet_made up m e) back =
+      let b = packet_filled now.0 (overhead old) (1200 - overhead old) old.space new.space before (before ++ frames) m in
       subst (λ (z : List ℕ). Filled z) (sym (append_cancel_left before frames b.bytes b.appended)) b.filled
-  frames_filled now old new before frames (close_made reason until is bytes_are e) back all =
+  frames_filled now old new before frames (close_made reason until is bytes_are e) back =
       subst (λ (z : List ℕ). Filled z) (append-nil (frame_bytes (close_frame reason)) ∙ sym bytes_are) (one_filled (close_frame reason) [] (back reason until is) (close_filled reason) none_filled)
 
   one_more : (sealed : Side → Space → ℕ → List ℕ) → MakesTags sealed → (old new : Inner S) (frames : List ℕ) (t : List Act) → old.space.next_number < 2 ^ 62 → SameSender old new → Filled frames → AreFilled old t
@@ -254,10 +204,10 @@ module _ {S : Type 0} where
       before run (rw (← same.side, ← same.remote_id, ← out) has)
 
   pub made_filled : (sealed : Side → Space → ℕ → List ℕ) → MakesTags sealed → (now : Moment) (old new : Inner S) (before after : List ℕ) (transmit : Transmit) (t : List Act)
-      → IsDatagramMade sealed now old new before after transmit → (is_open old.state ≡ true) ⊎ ClosesReadBack old.state → SendWhatIsTaken old.space.streams → AreFilled old t
+      → IsDatagramMade sealed now old new before after transmit → (is_open old.state ≡ true) ⊎ ClosesReadBack old.state → AreFilled old t
       → AreFilled new (t ++ transmit_acts before after (Ok (Some transmit)))
-  made_filled sealed tags now old new before after transmit t m back all p =
+  made_filled sealed tags now old new before after transmit t m back p =
       let d = datagram_of sealed old m.bytes.frames in
       let behind : drop (length before) after ≡ d = ap (λ (z : List ℕ). drop (length before) z) m.bytes.after_is ∙ drop-append_seam before d in
       subst (λ (d : List ℕ). AreFilled new (t ++ HandedOut d ∷ [])) (sym behind)
-      (one_more sealed tags old new m.bytes.frames t m.bytes.number (frames_sender now old new _ m.bytes.frames m.bytes.made) (frames_filled now old new _ m.bytes.frames m.bytes.made (open_reads_back old.state back) all) p)
+      (one_more sealed tags old new m.bytes.frames t m.bytes.number (frames_sender now old new _ m.bytes.frames m.bytes.made) (frames_filled now old new _ m.bytes.frames m.bytes.made (open_reads_back old.state back)) p)

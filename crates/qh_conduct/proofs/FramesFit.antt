@@ -1,12 +1,11 @@
 -- The frames that are sent are in range.
-use Rattle.std.proofs.Common.{◌≡◌, ◌⊎◌, ℕ, ◌+◌, ◌-◌, ◌*◌, ◌/◌, ◌<◌, ◌≤◌, ◌^◌, ◌==◌, Bool, true, false, List, [], ◌∷◌, ◌++◌, length, Option, Some, None, if◌then◌else◌, refl, sym, ap, subst, ◌∙◌, arith, inl, inr}
-use Rattle.std.specs.Prelude.{max, min}
+use Rattle.std.proofs.Common.{◌≡◌, ◌⊎◌, ℕ, ◌+◌, ◌-◌, ◌<◌, ◌≤◌, ◌^◌, ◌==◌, Bool, true, false, List, [], ◌∷◌, ◌++◌, length, Some, None, if◌then◌else◌, refl, sym, ap, subst, ◌∙◌, arith, inl, inr}
 use Rattle.std.proofs.lemmas.Bool.{cases_lt, eqb-true}
 use Rattle.std.proofs.lemmas.Option.{same_Some}
 use Rattle.qh_conduct.specs.Announced.{IsKeptFrame}
 use Rattle.qh_conduct.specs.Announced.IsKeptFrame.{ping, response, ack, stream, reset, stop, max_data, max_stream_data, max_streams, close}
 use Rattle.qh_conn.specs.Config.{peer_of}
-use Rattle.qh_conn.specs.Follows.{Following, Follows, HasComing, HasFrame, HasSomething, IsWithinLimits}
+use Rattle.qh_conn.specs.Follows.{Follows, HasSomething, IsWithinLimits}
 use Rattle.qh_conn.specs.Inner.{AreOf}
 use Rattle.qh_conn.specs.Sending.{close_frame}
 use Rattle.qh_conn.specs.declared.config.ConnConfig.{ConnConfig}
@@ -14,7 +13,7 @@ use Rattle.qh_conn.specs.declared.inner.Inner.{Inner}
 use Rattle.qh_conn.specs.declared.state.Close.{Close}
 use Rattle.qh_conn.specs.declared.state.Close.TheVariants.{Application, Connection}
 use Rattle.qh_frame.specs.AckWritten.{AreApart, AreBelow, ack_frame, gaps}
-use Rattle.qh_frame.specs.Plain.{frame, by_dir, plain_of}
+use Rattle.qh_frame.specs.Plain.{plain_of}
 use Rattle.qh_frame.specs.Range.{IsInRange}
 use Rattle.qh_frame.specs.WrittenForm.{stream_form}
 use Rattle.qh_frame.specs.declared.ack.AckRange.{AckRange}
@@ -26,11 +25,10 @@ use Rattle.qh_spec.specs.Acknowledged.{AreRanges}
 use Rattle.qh_spec.specs.Carried.{HasRun}
 use Rattle.qh_spec.specs.Datagram.{Packet, HasPacket, one_rtt, initial, later}
 use Rattle.qh_spec.specs.FrameViews.{stream_of}
-use Rattle.qh_spec.specs.Link.{other}
 use Rattle.qh_spec.specs.Lists.{In}
 use Rattle.qh_spec.specs.QuicFrame.{StreamFrame as Run}
-use Rattle.qh_spec.specs.QuicFrames.{QuicFrame, Part, Number, Fixed, Counted, ShortCounted, Left, Ranges, Value, Num, Text, Nums, AreQuicFrames, AreValues, IsNumber, IsQuicFrame, IsValue}
-use Rattle.qh_spec.specs.Transcript.{Act, HandedIn, HandedOut, Wrote, Finished, Reset, Stopped, ReadBytes, ReadEnd, ReadReset, handed_in, handed_out}
+use Rattle.qh_spec.specs.QuicFrames.{QuicFrame, Part, Number, Fixed, Counted, ShortCounted, Left, Ranges, Value, Num, Text, Nums, AreQuicFrames, AreValues, IsValue}
+use Rattle.qh_spec.specs.Transcript.{Act, HandedIn, HandedOut, Wrote, Finished, Reset, Stopped, ReadBytes, ReadEnd, ReadReset, handed_out}
 use Rattle.qh_spec.specs.Varint.{IsVarint, one, two, four, eight}
 use Rattle.qh_spec.specs.declared.sides.Dir.TheVariants.{Bi, Uni}
 use Rattle.qh_spec.specs.declared.sides.Side.{Side}

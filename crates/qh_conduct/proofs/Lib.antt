@@ -1,6 +1,8 @@
 pub mod AnnouncedCalls
 pub mod AnnouncedFirst
 pub mod AnnouncedMeans
+pub mod BehavingCalls
+pub mod BehavingEnds
 pub mod ConnectionGoesOn
 pub mod DatagramsKept
 pub mod FilledFrames
@@ -8,6 +10,7 @@ pub mod FramesFit
 pub mod FramesKept
 pub mod FramesSay
 pub mod GrantedCalls
+pub mod IdleRestarts
 pub mod PacketsKept
 pub mod PeersDatagrams
 pub mod PeersFrames
@@ -17,6 +20,7 @@ pub mod PeersNames
 pub mod PeersOn
 pub mod PeersRange
 pub mod PeersRuns
+pub mod PermittedCounts
 pub mod ReachConnections
 pub mod ReachFaults
 pub mod ReachFrames

@@ -11,7 +11,7 @@ use Rattle.qh_conduct.proofs.FramesSay.{closing_kind, says_close}
 use Rattle.qh_conduct.proofs.GrantedCalls.{event_granted, means_granted}
 use Rattle.qh_conduct.proofs.PeersFrames.{keeps_form, unrefused}
 use Rattle.qh_conduct.proofs.PeersLimits.{all_small}
-use Rattle.qh_conduct.proofs.PeersRange.{kept_fits, no_type, nothing_left, opened_frames}
+use Rattle.qh_conduct.proofs.PeersRange.{kept_fits, nothing_left, opened_frames}
 use Rattle.qh_conduct.proofs.PeersRuns.{run_reaches}
 use Rattle.qh_conduct.proofs.ReachConnections.{event_law, has_content}
 use Rattle.qh_conduct.proofs.ReachFaults.{content_frame, frame_refused}
@@ -22,7 +22,7 @@ use Rattle.qh_conduct.specs.Announced.{Announced, HasAnnounced, IsKeptDatagram, 
 use Rattle.qh_conduct.specs.Fitting.{HasRefused}
 use Rattle.qh_conduct.specs.Granted.{AreGranted, HasGranted}
 use Rattle.qh_conduct.specs.Filled.{AreFilled}
-use Rattle.qh_conduct.specs.Peers.{AreLinked, ArePeers, HasNoBareFault}
+use Rattle.qh_conduct.specs.Peers.{AreLinked, ArePeers}
 use Rattle.qh_conduct.specs.Reached.{AreNamed, HasReached, Reached, IsLostForMemory}
 use Rattle.qh_conduct.specs.Sized.{AreRight, HasSized}
 use Rattle.qh_conn.proofs.Ends.{goes_on_space}
@@ -248,7 +248,7 @@ module _ {S : Type 0} where
 
   module _ (accepts : Side → Space → ℕ → List ℕ → Bool) (named : AreNamed accepts) (c p new : Inner S) (tc tp : List Act) (peers : ArePeers c p) (linked : AreLinked tc tp) (a : Announced c tc) (b : Announced p tp)
       (rp : Reached p tp) (f : Following p tp) (space_is : p.space ≡ f.space) (filled : AreFilled p tp) (right : AreRight p tp) (up : is_open p.state ≡ true) (d : List ℕ) (there : In d (handed_out tp))
-      (reached : HasReached new (tc ++ HandedIn d ∷ [])) (announced : HasAnnounced new (tc ++ HandedIn d ∷ [])) (grants : (new.error ≡ Some error.Memory → ⊥) → AreGranted new) (bare : HasNoBareFault new) where
+      (reached : HasReached new (tc ++ HandedIn d ∷ [])) (announced : HasAnnounced new (tc ++ HandedIn d ∷ [])) (grants : (new.error ≡ Some error.Memory → ⊥) → AreGranted new) where
     -- none of its frames is refused, as the space is then
     none_refused : (old : Inner S) (e : TransportError) → SameEnds c old → SameEnds old new → new.error ≡ Some (error.TransportError e) → HasRefused (length old.local_id) (other old.side) d new.space e → ⊥
     none_refused old e first same at r =
@@ -293,7 +293,7 @@ module _ {S : Type 0} where
         let k = kept_datagram p tp b f filled right up d there in
         let fits = frame_fits p tp b f filled right up d there (all_small c p tc tp peers a f linked.from) in
         let end = nothing_left bytes at.rest k.frames at.behind (frames_opened old number bytes first o) fits at.none in
-        absurd (bare e (fault_error now e old new faulted) says.code_is (says.frame_is ∙ no_type at.rest kind at.type_is end))
+        absurd (at.some end)
     packet_open now old number bytes first is o (in_taken new_to t) =
         let k = kept_datagram p tp b f filled right up d there in
         let are = frames_opened old number bytes first o in
@@ -318,13 +318,13 @@ module _ {S : Type 0} where
 
   pub stays_open : (accepts : Side → Space → ℕ → List ℕ → Bool) → AreNamed accepts → (c p new : Inner S) (tc tp : List Act) (now : Moment) (remote : SocketAddr) (d : List ℕ) → ArePeers c p → AreLinked tc tp
       → Follows p tp → HasReached c tc → HasReached p tp → HasAnnounced c tc → HasAnnounced p tp → HasGranted c → HasSized p tp → AreFilled p tp → is_open c.state ≡ true → is_open p.state ≡ true → p.error ≡ None
-      → In d (handed_out tp) → IsEventTaken accepts (Datagram now remote d) c new → HasNoBareFault new → is_open new.state ≡ true
-  stays_open accepts named c p new tc tp now remote d peers linked follows reached_c reached_p announced_c announced_p granted sized filled is up none there taken bare =
+      → In d (handed_out tp) → IsEventTaken accepts (Datagram now remote d) c new → is_open new.state ≡ true
+  stays_open accepts named c p new tc tp now remote d peers linked follows reached_c reached_p announced_c announced_p granted sized filled is up none there taken =
       let f = following_of p tp follows in
       let a = announced_of c tc announced_c (over_shut c is) in
       let b = announced_of p tp announced_p (over_shut p up) in
       let rp = reached_of p tp reached_p (lost_shut p up) in
       let old : Inner S = received (Datagram now remote d) c in
       datagram_open accepts named c p new tc tp peers linked a b rp f (space_of p tp f none) filled (means_sized p tp sized) up d there (event_law accepts (Datagram now remote d) c new tc named taken reached_c)
-      (event_stands accepts (takes_tags accepts named) (Datagram now remote d) c new tc taken announced_c) (means_granted new (event_granted accepts (Datagram now remote d) c new taken granted)) bare now old
+      (event_stands accepts (takes_tags accepts named) (Datagram now remote d) c new tc taken announced_c) (means_granted new (event_granted accepts (Datagram now remote d) c new taken granted)) now old
       (record { side = refl; local_id = refl; remote_id = refl; config = refl }) is taken

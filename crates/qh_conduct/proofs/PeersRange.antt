@@ -1,12 +1,12 @@
 -- The frames that an end may send can be read, each with values in range, and no other bytes stand in its packets.
-use Rattle.std.proofs.Common.{◌≡◌, ℕ, ◌+◌, ◌-◌, ◌<◌, ◌≤◌, ◌^◌, ◌==◌, Bool, true, false, List, [], ◌∷◌, length, get_or, Option, Some, None, refl, sym, ap, subst, ◌∙◌, arith, inl, inr}
+use Rattle.std.proofs.Common.{◌≡◌, ℕ, ◌+◌, ◌-◌, ◌<◌, ◌≤◌, ◌^◌, ◌==◌, Bool, true, false, List, [], ◌∷◌, length, get_or, refl, sym, ap, subst, ◌∙◌, arith, inl, inr}
 use Rattle.qh_conduct.specs.Announced.{AreLive, IsKeptFrame}
 use Rattle.qh_conduct.specs.Announced.IsKeptFrame.{ping, response, ack, stream, reset, stop, max_data, max_stream_data, max_streams, close}
 use Rattle.qh_conn.specs.Inner.{is_open}
 use Rattle.qh_conn.specs.declared.inner.Inner.{Inner}
 use Rattle.std.proofs.lemmas.Bool.{both_ways}
 use Rattle.qh_frame.specs.AckWritten.{AreApart, AreBelow, ack_frame, gaps}
-use Rattle.qh_frame.specs.FrameAt.{BeginsWithType, HasNoFrame}
+use Rattle.qh_frame.specs.FrameAt.{HasNoFrame}
 use Rattle.qh_frame.specs.Plain.{by_dir, frame}
 use Rattle.qh_frame.specs.Range.{IsInRange}
 use Rattle.qh_frame.specs.WrittenForm.{stream_form}
@@ -79,12 +79,6 @@ nothing_left bytes rest [] (more_before _ mid _ f is range behind) are fits unre
 nothing_left bytes rest (q ∷ more) (more_before _ mid _ f is range behind) are fits unread =
     let one = quic_frame_agrees bytes f q mid are.0 is are.1 in
     nothing_left mid rest more behind (subst (λ (z : List ℕ). AreQuicFrames z more) (sym one.1) are.2) (λ q is. fits q (inr is)) unread
-
-pub no_type : (rest : List ℕ) (kind : Option ℕ) → BeginsWithType rest kind → rest ≡ [] → kind ≡ None
-no_type rest None begins e = refl
-no_type rest (Some kind) begins e =
-    let number = begins.1 in
-    absurd (no_empty_varint kind (subst (λ (z : List ℕ). IsVarint z kind) (empty_front number.0 begins.0 (sym e ∙ number.1)) number.2))
 
 -- ---- the frames of a datagram are those of the packet that is opened
 

@@ -96,7 +96,7 @@ in_last_act t d = subst (λ (z : List (List ℕ)). In d z) (sym (handed_in-appen
 
 -- ---- the streams, where nothing comes
 
-polled_untouched : (old new : PlainStreams) (o : Option StreamEvent) → IsPolled old new o → IsUntouched old new
+pub polled_untouched : (old new : PlainStreams) (o : Option StreamEvent) → IsPolled old new o → IsUntouched old new
 polled_untouched old new o (writable id front rest some is before may e) = step.parts_untouched old new _ e refl refl refl refl refl
 polled_untouched old new o (queued event rest none is e) = step.parts_untouched old new _ e refl refl refl refl refl
 polled_untouched old new o (none_polled none is e) = step.parts_untouched old new _ e refl refl refl refl refl
@@ -108,7 +108,7 @@ may_block : (is_none : Bool) (s t : PlainStreams) → IsUntouched s t → IsUnto
 may_block true s t u = u
 may_block false s t u = nothing_touched s
 
-blocked_untouched : (s : PlainStreams) (id : ℕ) (e : WriteFault) → IsUntouched s (with_blocked s id e)
+pub blocked_untouched : (s : PlainStreams) (id : ℕ) (e : WriteFault) → IsUntouched s (with_blocked s id e)
 blocked_untouched s id write_fault.Blocked = may_block (write_limit s.send == 0) s _ (step.parts_untouched s _ _ refl refl refl refl refl refl)
 blocked_untouched s id write_fault.Memory = nothing_touched s
 blocked_untouched s id write_fault.ClosedStream = nothing_touched s

@@ -29,3 +29,7 @@ pub data IsCall (old new : PlainStreams) : Type 0 where
   send_window : (bytes : ℕ) → new ≡ record old { send = record old.send { send_window = bytes } } → IsCall old new
   receive_window : (bytes : ℕ) → new ≡ record old { recv = record old.recv { receive_window = bytes } } → IsCall old new
   polls : (e : Option StreamEvent) → IsPolled old new e → IsCall old new
+
+-- the peer permits as many streams of each direction as before, and as many of its own arrived
+abbrev pub ToldTheSame : (old new : PlainStreams) → Type 0
+ToldTheSame old new = (two_way : Bool) → ((counts_of new two_way).max_opened ≡ (counts_of old two_way).max_opened) × ((counts_of new two_way).arrived ≡ (counts_of old two_way).arrived)

@@ -1,8 +1,10 @@
 pub mod Announced
+pub mod Behaves
 pub mod Calls
 pub mod Filled
 pub mod Fitting
 pub mod Granted
 pub mod Peers
 pub mod Reached
+pub mod Restarting
 pub mod Sized

@@ -4,15 +4,21 @@
 #![tactic(auto)]
 
 pub mod announced;
+mod behaving;
 mod filled;
 mod fitting;
 mod granted;
 pub mod peers;
+mod permitting;
 mod reaching;
+mod restarting;
 mod sized;
 
+pub use behaving::behaves;
 pub use filled::fills;
 pub use fitting::{faults, frames_fit};
 pub use granted::grants;
+pub use permitting::permits;
 pub use reaching::reached;
+pub use restarting::{plain_tags, restarts};
 pub use sized::sizes;

@@ -4,7 +4,7 @@ ghost use Rattle.qh_base.specs.declared.time.Moment.{Moment as AMoment};
 ghost use Rattle.qh_conduct.specs.Announced.{HasAnnounced};
 ghost use Rattle.qh_conduct.specs.Granted.{HasGranted};
 ghost use Rattle.qh_conduct.specs.Filled.{AreFilled};
-ghost use Rattle.qh_conduct.specs.Peers.{AreLinked, ArePeers, HasNoBareFault};
+ghost use Rattle.qh_conduct.specs.Peers.{AreLinked, ArePeers};
 ghost use Rattle.qh_conduct.specs.Reached.{AreNamed, HasReached};
 ghost use Rattle.qh_conduct.specs.Sized.{HasSized};
 ghost use Rattle.qh_conn.specs.Follows.{Follows};
@@ -19,15 +19,12 @@ ghost use Rattle.qh_spec.specs.declared.sides.Space.{Space as ASpace};
 
 /// Over a link that gives each end only what the other handed out, no end refuses what comes: an end that is open, and whose peer is,
 /// is open behind each datagram of that peer's (`open`). `tc` and `tp` are what was done with the two; either is the other's peer and
-/// linked to it, and they stay so. Two of the premises aren't shown here without others: that each STREAM frame has a byte or the end
-/// (`AreFilled`: the law `fills` wants that no half sent more than was taken), and that no end finds a frame that can't be read where
-/// no byte of its packet is left (`HasNoBareFault`), of which the contracts below say nothing.
+/// linked to it, and they stay so.
 pub fn peers<S>()
     ensures open { (accepts : ASide → ASpace → ℕ → List ℕ → Bool) → AreNamed accepts → (c p new : AnInner S) (tc tp : List Act) (now : AMoment) (remote : AnAddress) (datagram : List ℕ)
         → ArePeers c p → AreLinked tc tp → Follows p tp → HasReached c tc → HasReached p tp → HasAnnounced c tc → HasAnnounced p tp → HasGranted c → HasSized p tp → AreFilled p tp
         → is_open c.state ≡ true → is_open p.state ≡ true → p.error ≡ None → In datagram (handed_out tp)
-        → IsEventTaken accepts (ADatagram now remote datagram) c new → HasNoBareFault new
-        → is_open new.state ≡ true }
+        → IsEventTaken accepts (ADatagram now remote datagram) c new → is_open new.state ≡ true }
     ensures turned { (c p : AnInner S) → ArePeers c p → ArePeers p c }
     ensures same { (c p d q : AnInner S) → IsSameEnd c d → IsSameEnd p q → ArePeers c p → ArePeers d q }
     ensures back { (tc tp : List Act) → AreLinked tc tp → AreLinked tp tc }
