@@ -1,7 +1,7 @@
 -- What a pair means, by the laws of its two ends and the bridge between them.
-use Rattle.std.proofs.Common.{◌≡◌, ◌⊎◌, inl, inr, ℕ, ◌*◌, Bool, true, false, List, [], ◌∷◌, ◌++◌, length, Option, Some, None, refl, sym, ◌∙◌, ap, subst, append_assoc}
+use Rattle.std.proofs.Common.{◌≡◌, inl, inr, ℕ, ◌*◌, Bool, false, List, length, Option, Some, None, refl, sym, subst}
 use Rattle.std.specs.Prelude.{not, slice_get}
-use Rattle.qh_conn.specs.Follows.{Follows, IsWithinLimits}
+use Rattle.qh_conn.specs.Follows.{Follows}
 use Rattle.qh_conn.specs.declared.config.ConnConfig.{ConnConfig}
 use Rattle.qh_roles.specs.Streams.{IsUntouched}
 use Rattle.qh_spec.specs.declared.link.Event.{Event}
@@ -16,11 +16,11 @@ use Rattle.qh_spec.specs.Lists.{In}
 use Rattle.qh_spec.specs.Message.{PlainHead, Request, Response, PlainMessage, IsRequest, IsResponse}
 use Rattle.qh_spec.specs.Record.{PlainEntry}
 use Rattle.qh_spec.specs.Same.{SameKind}
-use Rattle.qh_spec.specs.Transcript.{Act, HandedOut, finished, handed_in, handed_out}
+use Rattle.qh_spec.specs.Transcript.{Act, finished, handed_in, handed_out}
 use Rattle.qh_spec.specs.Whole.{IsWhole}
 use Rattle.qh_spec.proofs.Bridge.{crossed, bridge}
 use Rattle.qh_spec.proofs.LawfulRows.{nothing_lawful}
-use Rattle.qh_exchange.specs.Pair.{End, EndAt, IsRunning, PairState, Running, Means}
+use Rattle.qh_exchange.specs.Pair.{End, EndAt, IsRunning, PairState, Running, Means, id_length}
 use Rattle.qh_exchange.proofs.Wire.{told_nearly, told_was_given, sent_was_told}
 
 -- what `lawful` of the connection says
@@ -43,7 +43,7 @@ module _ (faithful : IsFaithful) where
   end_lawful w side k config None events t at = subst (λ (z : List Act). Lawful side k k z) (sym at.stands) (nothing_lawful side k k)
   end_lawful w side k config (Some c) events t at =
       let is = at.stands.0 in
-      let law : Lawful c.side (length c.local_id) (length c.remote_id) t = faithful c t at.stands.1 in
+      let law : Lawful c.side (length c.local_id) (length c.remote_id) t = faithful c t at.stands.1.follows in
       subst (λ (s : Side). Lawful s k k t) is.side_is
       (subst (λ (n : ℕ). Lawful c.side n k t) is.local (subst (λ (n : ℕ). Lawful c.side (length c.local_id) n t) is.remote law))
 
@@ -65,9 +65,9 @@ module _ (faithful : IsFaithful) where
       cc
 
   as_asked : (w : Bool) (p : PairState) (events : List Event) (entries : List PlainEntry) → IsHonest events → IsRunning w p events entries → (e : PlainEntry) → In e entries
-      → IsAsAsked p.client.requests e × IsWhole p.id_length (given_to Server events) Client e.stream e.request
+      → IsAsAsked p.client.requests e × IsWhole (id_length p) (given_to Server events) Client e.stream e.request
   as_asked w p events entries honest run e i =
-      let k : ℕ = p.id_length in
+      let k : ℕ = id_length p in
       let c : List Act = run.client.acts in
       let s : List Act = run.server.acts in
       let read = run.server.serving.served e i in
@@ -82,9 +82,9 @@ module _ (faithful : IsFaithful) where
       ]
 
   recorded : (w : Bool) (p : PairState) (events : List Event) (entries : List PlainEntry) → IsHonest events → IsRunning w p events entries
-      → (index : ℕ) (answer : PlainMessage) → slice_get p.client.answers index ≡ Some (Some answer) → IsRecordedAnswer p.id_length events entries index answer
+      → (index : ℕ) (answer : PlainMessage) → slice_get p.client.answers index ≡ Some (Some answer) → IsRecordedAnswer (id_length p) events entries index answer
   recorded w p events entries honest run index answer at =
-      let k : ℕ = p.id_length in
+      let k : ℕ = id_length p in
       let c : List Act = run.client.acts in
       let s : List Act = run.server.acts in
       let read = run.client.asking.answers_are index answer at in
@@ -100,10 +100,12 @@ module _ (faithful : IsFaithful) where
 
   pub means : (p : PairState) (events : List Event) (before entries : List PlainEntry) → IsHonest events → Running p events entries → Means p events before entries
   unfolding Running
-  means p events before entries honest run = record {
-    served = record {
-      grew = record { fresh = entries; longer = refl; once = run.server.serving.once; as_asked = λ e i. (as_asked (not p.is_over) p events entries honest run e i).0 };
-      whole = λ e i. (as_asked (not p.is_over) p events entries honest run e i).1;
-    };
-    answered = recorded (not p.is_over) p events entries honest run;
-  }
+  means p events before entries honest run =
+      let r : IsRunning (not p.is_over) p events entries = run.running in
+      record {
+        served = record {
+          grew = record { fresh = entries; longer = refl; once = r.server.serving.once; as_asked = λ e i. (as_asked (not p.is_over) p events entries honest r e i).0 };
+          whole = λ e i. (as_asked (not p.is_over) p events entries honest r e i).1;
+        };
+        answered = recorded (not p.is_over) p events entries honest r;
+      }

@@ -1,13 +1,12 @@
 -- How the clock of a pair runs on, and how its ends are lost.
-use Rattle.std.proofs.Common.{◌≡◌, ◌≢◌, ◌⊎◌, inl, inr, ◌≤◌, Bool, true, false, List, [], ◌∷◌, ◌++◌, ℕ, Option, Some, None, Ok, Err, refl, sym, ◌∙◌, ap, subst, append_assoc, arith, length}
+use Rattle.std.proofs.Common.{◌≡◌, ◌≢◌, inl, inr, ◌≤◌, Bool, true, false, List, [], ◌∷◌, ◌++◌, ℕ, Option, Some, None, Ok, Err, refl, sym, ◌∙◌, ap, subst}
 use Rattle.std.specs.Prelude.{IfErr, IfOk, MatchOption, Result}
-use Rattle.std.proofs.lemmas.List.{append_cancel_left}
 use Rattle.qh_base.specs.declared.connection_error.ConnectionError.{ConnectionError}
 use Rattle.qh_base.specs.declared.connection_error.ConnectionError.TheVariants as lost
 use Rattle.qh_base.specs.declared.time.Moment.{Moment}
 use Rattle.qh_base.specs.declared.time.Span.{Span}
 use Rattle.qh_conn.specs.Inner.{with_streams}
-use Rattle.qh_conn.specs.Timers.{RunsOn, IsUndisturbed}
+use Rattle.qh_conn.specs.Timers.{IsUndisturbed}
 use Rattle.qh_conn.specs.declared.config.ConnConfig.{ConnConfig}
 use Rattle.qh_conn.specs.declared.idle.IdleTimer.{IdleTimer}
 use Rattle.qh_link.specs.Link.{fault_events, is_failed}
@@ -17,12 +16,12 @@ use Rattle.qh_spec.specs.declared.sides.Side.{Side}
 use Rattle.qh_spec.specs.declared.sides.Side.TheVariants.{Client, Server}
 use Rattle.qh_spec.specs.Fault.{CountsFaults}
 use Rattle.qh_spec.specs.Record.{PlainEntry}
-use Rattle.qh_exchange.specs.Clock.{HasPassed, IsClocked, IsClockedAt, runs, IsEndClocked}
+use Rattle.qh_exchange.specs.Clock.{HasPassed, IsClocked, runs, IsEndClocked}
 use Rattle.qh_exchange.specs.Error.{error_of, error_of_loss}
 use Rattle.qh_exchange.specs.Exchange.{IfProtocol, IfTimedOut}
-use Rattle.qh_exchange.specs.Pair.{End, PairState, told_acts}
-use Rattle.qh_exchange.specs.Steps.{AreNotLost, AreTicking, BeginsAt, ClientPolled, ServerPolled, IsEndTicking, IsEndUndisturbed, IsLastOf, IsLinkError, IsNewEnd, IsTicking, KeepsTicking, ended_by, is_done}
-use Rattle.qh_exchange.specs.Turn.{IsKeptError, IsLostWith, IsNotLost, IsProtocolLoss, IsTurnError, has_link_failed, is_link}
+use Rattle.qh_exchange.specs.Pair.{End, PairState, id_length, told_acts}
+use Rattle.qh_exchange.specs.Steps.{AreNotLost, AreTicking, ClientPolled, ServerPolled, IsEndTicking, IsEndUndisturbed, IsLastOf, IsLinkError, IsNewEnd, IsTicking, KeepsTicking, ended_by, is_done}
+use Rattle.qh_exchange.specs.Turn.{IsLostWith, IsNotLost, IsProtocolLoss, IsTurnError, has_link_failed, is_link}
 use Rattle.qh_exchange.specs.declared.error.ExchangeError.{ExchangeError}
 use Rattle.qh_exchange.specs.declared.error.ExchangeError.TheVariants as error
 
@@ -68,14 +67,6 @@ undisturbed_ticking idle moments now None (Some d) u last t = absurd u
 undisturbed_ticking idle moments now (Some c) None u last t = absurd u
 undisturbed_ticking idle moments now (Some c) (Some d) u last t = undisturbed_idle idle moments now c d u last t
 
-pub client_keeps : (now : Moment) (p : PairState) (d : Option End) → IsEndUndisturbed true now p.client_end d → KeepsTicking now.0 p (record p { client_end = d })
-client_keeps now p d u = λ moments last t.
-    record { client = undisturbed_ticking p.config.idle moments now p.client_end d u last t.client; server = t.server }
-
-pub server_keeps : (now : Moment) (p : PairState) (d : Option End) → IsEndUndisturbed true now p.server_end d → KeepsTicking now.0 p (record p { server_end = d })
-server_keeps now p d u = λ moments last t.
-    record { client = t.client; server = undisturbed_ticking p.config.idle moments now p.server_end d u last t.server }
-
 pub both_keep : {T : Type 0} (now : Moment) (p : PairState) (c d : Option End) (result : Result T ExchangeError) → IsEndUndisturbed true now p.client_end c
     → IsEndUndisturbed (is_done result) now p.server_end d → IfOk result (λ _. KeepsTicking now.0 p (record p { client_end = c; server_end = d }))
 both_keep now p c d (Err e) u v = tt
@@ -83,9 +74,6 @@ both_keep now p c d (Ok x) u v = λ moments last t. record {
   client = undisturbed_ticking p.config.idle moments now p.client_end c u last t.client;
   server = undisturbed_ticking p.config.idle moments now p.server_end d v last t.server;
 }
-
-pub keeps_trans : (now : ℕ) (a b c : PairState) → KeepsTicking now a b → KeepsTicking now b c → KeepsTicking now a c
-keeps_trans now a b c f g = λ moments last t. g moments last (f moments last t)
 
 new_ticking : (side : Side) (id_length : ℕ) (config : ConnConfig) (now : Moment) (c : End) (moments : List ℕ) → IsNewEnd side id_length config now c → IsLastOf moments now.0
     → IsTicking config.idle moments c
@@ -98,13 +86,13 @@ new_ticking side id_length config now c moments new last = record {
   not_timed_out = λ e. let n : c.error ≡ None = new.not_lost in cc;
 }
 
-pub client_opens : (p : PairState) (now : Moment) (c : End) → IsNewEnd Client p.id_length p.config now c → KeepsTicking now.0 p (record p { client_end = Some c })
+pub client_opens : (p : PairState) (now : Moment) (c : End) → IsNewEnd Client (id_length p) p.config now c → KeepsTicking now.0 p (record p { client_end = Some c })
 client_opens p now c new = λ moments last t.
-    record { client = new_ticking Client p.id_length p.config now c moments new last; server = t.server }
+    record { client = new_ticking Client (id_length p) p.config now c moments new last; server = t.server }
 
-pub server_opens : (p : PairState) (now : Moment) (c : End) → IsNewEnd Server p.id_length p.config now c → KeepsTicking now.0 p (record p { server_end = Some c })
+pub server_opens : (p : PairState) (now : Moment) (c : End) → IsNewEnd Server (id_length p) p.config now c → KeepsTicking now.0 p (record p { server_end = Some c })
 server_opens p now c new = λ moments last t.
-    record { client = t.client; server = new_ticking Server p.id_length p.config now c moments new last }
+    record { client = t.client; server = new_ticking Server (id_length p) p.config now c moments new last }
 
 -- a role's calls change streams alone
 polled_ticking : (idle : Option Span) (moments : List ℕ) (c d : End) → d ≡ with_streams c d.space.streams → IsTicking idle moments c → IsTicking idle moments d

@@ -30,7 +30,9 @@ use Rattle.qh_exchange.specs.Exchange.{IfInvalid, IfOutOfRounds, IfProtocol, IfT
 use Rattle.qh_exchange.specs.Pair.{KeepWithin}
 use Rattle.qh_exchange.specs.Program.{AreEchoes, HasRun, ScriptEnds, answered, failed}
 use Rattle.qh_exchange.specs.Settings.{conn_config}
+use Rattle.qh_exchange.specs.Sound.{EndsFairly}
 use Rattle.qh_exchange.specs.Turn.{RanOut, WasIdle, WasLost, has_link_failed}
+use Rattle.qh_exchange.proofs.Fairness.{fair_again}
 use Rattle.qh_exchange.proofs.Reported.{reported}
 
 -- ---- what is known of an exchange
@@ -51,6 +53,7 @@ pub record Exchanged {V : Type 0} (items : V → List PlainMessage) (config : Pl
   pub answers : GrewByAnswers (λ q a. a ≡ echo config.max_response_body q) [] after
   pub cause : CountsFaults 0 new.faults (has_link_failed r)
   pub timed_out : IfTimedOut r (WasIdle (conn_config config).idle [] (moments_of new.events))
+  pub fair : IsHonest new.events → EndsFairly config.local_id_len (conn_config config).idle new.events r
   pub lost : IfProtocol r (WasLost requests (Some []) (Some new.events) [] after)
   pub out_of_rounds : IfOutOfRounds r (RanOut rounds requests (Some []) (Some new.events) [] (moments_of new.events) [] after)
 
@@ -68,6 +71,8 @@ pub record Clauses {V : Type 0} (items : V → List PlainMessage) (config : Plai
   pub answers : GrewByAnswers (λ q a. a ≡ echo config.max_response_body q) before after
   pub cause : CountsFaults old.faults new.faults (has_link_failed r)
   pub timed_out : IfTimedOut r (WasIdle (conn_config config).idle (moments_of old.events) (moments_of new.events))
+  pub fair : (events : List Event) → Some old.events ≡ Some [] → Some new.events ≡ Some events → IsHonest events
+      → EndsFairly config.local_id_len (conn_config config).idle events r
   pub lost : IfProtocol r (WasLost requests (Some old.events) (Some new.events) before after)
   pub out_of_rounds : IfOutOfRounds r (RanOut rounds requests (Some old.events) (Some new.events) (moments_of old.events) (moments_of new.events) before after)
 
@@ -97,6 +102,7 @@ exchanged items config requests rounds old new before after r none never nothing
       answers = subst (λ (z : List PlainEntry). GrewByAnswers (λ q a. a ≡ echo config.max_response_body q) z after) nothing x.answers;
       cause = subst (λ (z : ℕ). CountsFaults z new.faults (has_link_failed r)) never x.cause;
       timed_out = subst (λ (z : List Event). IfTimedOut r (WasIdle (conn_config config).idle (moments_of z) (moments_of new.events))) none x.timed_out;
+      fair = x.fair new.events fresh refl;
       lost = subst (λ (z : List PlainEntry). IfProtocol r (WasLost requests (Some []) (Some new.events) z after)) nothing
           (subst (λ (z : List Event). IfProtocol r (WasLost requests (Some z) (Some new.events) before after)) none x.lost);
       out_of_rounds = subst (λ (z : List PlainEntry). IfOutOfRounds r (RanOut rounds requests (Some []) (Some new.events) [] (moments_of new.events) z after)) nothing
@@ -176,6 +182,7 @@ ends_ok items s new after v w x step schedule scheduled maps ends =
       invalid = tt;
       not_valid = λ n. let a = x.not_valid n in absurd a.0;
       timed_out = tt;
+      fair = λ u. tt;
       lost = tt;
       out_of_rounds = tt;
     } in
@@ -202,6 +209,7 @@ ends_err {V} items s new after x w known step schedule scheduled ends =
       invalid = fault_as V (List PlainMessage) x _ known.invalid;
       not_valid = λ n. let a = known.not_valid n in (invalid_as V (List PlainMessage) x a.0, a.1, a.2);
       timed_out = time_as V (List PlainMessage) x _ known.timed_out;
+      fair = λ u. fair_again V (List PlainMessage) s.config.local_id_len (conn_config s.config).idle new.events x (known.fair (honest u));
       lost = loss_as V (List PlainMessage) x _ known.lost;
       out_of_rounds = rounds_as V (List PlainMessage) x _ known.out_of_rounds;
     } in

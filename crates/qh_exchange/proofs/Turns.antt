@@ -1,5 +1,5 @@
 -- The steps of a turn, one after another.
-use Rattle.std.proofs.Common.{◌≡◌, ◌⊎◌, inl, inr, ◌≤◌, Bool, true, false, List, [], ◌∷◌, ◌++◌, ℕ, Option, Some, Ok, Err, refl, sym, ◌∙◌, ap, subst, append_assoc, append-nil, arith}
+use Rattle.std.proofs.Common.{◌≡◌, inl, inr, ◌≤◌, Bool, true, false, List, [], ◌∷◌, ◌++◌, ℕ, Option, Some, Ok, Err, refl, sym, ◌∙◌, ap, subst, append_assoc, append-nil, arith}
 use Rattle.std.specs.Prelude.{All, IfErr, IfOk, Result, not}
 use Rattle.std.proofs.lemmas.List.Elements.{All-head, All-tail}
 use Rattle.qh_base.specs.declared.connection_error.ConnectionError.{ConnectionError}
@@ -11,18 +11,18 @@ use Rattle.qh_spec.specs.Fault.{CountsFaults, Rose}
 use Rattle.qh_spec.specs.Link.{told}
 use Rattle.qh_spec.specs.Message.{PlainMessage}
 use Rattle.qh_spec.specs.declared.link.Event.{Event}
-use Rattle.qh_spec.specs.declared.link.Event.TheVariants.{Round}
 use Rattle.qh_spec.specs.Record.{PlainEntry}
-use Rattle.qh_spec.specs.Turns.{IsWholeTurn}
-use Rattle.qh_exchange.specs.Clock.{HasPassed, ClocksOn, IsClocked, RunsByTheClock}
+use Rattle.qh_exchange.specs.Clock.{HasPassed, ClocksOn}
 use Rattle.qh_exchange.specs.Exchange.{IfProtocol, IfTimedOut}
 use Rattle.qh_exchange.specs.Pair.{PairState, GoesOn, IsRunning, Running}
-use Rattle.qh_exchange.specs.Steps.{HasRun, IsCounted, AreIntakes, AreOutputs, AreTicking, BeginsAt, IsLastOf, IsLinkError, KeepsTicking, PairStep, TicksOn}
+use Rattle.qh_exchange.specs.Sound.{AreBy, last_of}
+use Rattle.qh_exchange.specs.Steps.{AreTicking, BeginsAt, IsLastOf, IsLinkError, KeepsTicking, PairStep, TicksOn}
 use Rattle.qh_exchange.specs.Turn.{Adds}
 use Rattle.qh_exchange.specs.declared.error.ExchangeError.{ExchangeError}
 use Rattle.qh_exchange.specs.declared.error.ExchangeError.TheVariants as error
 use Rattle.qh_exchange.proofs.ClockSteps.{both_clocked, both_on, link_no_protocol, link_no_timeout}
-use Rattle.qh_exchange.proofs.PairSteps.{runs_over}
+use Rattle.qh_exchange.proofs.Heard.{by_behind, honest_front, last_more}
+use Rattle.qh_exchange.proofs.PairSteps.{runs_over, sound_over, step_at}
 
 -- ---- the moments of a turn
 
@@ -30,9 +30,9 @@ all_middle : (before : List ℕ) (m : ℕ) (ms : List ℕ) (P : ℕ → Type 0) 
 all_middle [] m ms P h = All-head P m ms h
 all_middle (x ∷ xs) m ms P h = all_middle xs m ms P (All-tail P x (xs ++ m ∷ ms) h)
 
-last_of : (old before moments : List ℕ) (now : ℕ) → old ≡ before ++ moments → All (λ (b : ℕ). b ≤ now) old → IsLastOf (moments ++ now ∷ []) now
-last_of old before [] now e h = record { first = now; rest = []; begin = refl; front = []; end = refl; order = omega arith }
-last_of old before (m ∷ ms) now e h = record {
+is_last : (old before moments : List ℕ) (now : ℕ) → old ≡ before ++ moments → All (λ (b : ℕ). b ≤ now) old → IsLastOf (moments ++ now ∷ []) now
+is_last old before [] now e h = record { first = now; rest = []; begin = refl; front = []; end = refl; order = omega arith }
+is_last old before (m ∷ ms) now e h = record {
   first = m;
   rest = ms ++ now ∷ [];
   begin = refl;
@@ -50,7 +50,7 @@ begins_err new old after before moments more e f g = record { more = more; are =
 pub begins_ok : (p a b : PairState) (old after before moments : List ℕ) (now : Moment) → after ≡ old ++ now.0 ∷ [] → old ≡ before ++ moments → All (λ (b : ℕ). b ≤ now.0) old
     → AreTicking p moments → KeepsTicking now.0 p a → KeepsTicking now.0 a b → BeginsAt b before moments after (Ok now)
 begins_ok p a b old after before moments now f g order t ka kb =
-    let last : IsLastOf (moments ++ now.0 ∷ []) now.0 = last_of old before moments now.0 g order in
+    let last : IsLastOf (moments ++ now.0 ∷ []) now.0 = is_last old before moments now.0 g order in
     record {
       more = now.0 ∷ [];
       are = moments_more old after before moments (now.0 ∷ []) g f;
@@ -104,82 +104,56 @@ grew_none Answer r = record { fresh = []; longer = sym (append-nil r); each = λ
 pub grew_same : (Answer : Limits → PlainMessage → PlainMessage → Type 0) (a b : Limits) (r s : List PlainEntry) → a ≡ b → GrewByAnswers (Answer a) r s → GrewByAnswers (Answer b) r s
 grew_same Answer a b r s e g = subst (λ (z : Limits). GrewByAnswers (Answer z) r s) e g
 
--- ---- the events of a turn
+-- ---- the moment of a step
 
-pub whole_turn : (m : ℕ) (a b c d : List Event) → a ≡ Round m ∷ [] → AreIntakes b → c ≡ [] → AreOutputs d → IsWholeTurn (((a ++ b) ++ c) ++ d)
-whole_turn m a b c d ea eb ec ed = record {
-  moment = m;
-  to_client = eb.to_client;
-  to_server = eb.to_server;
-  by_client = ed.by_client;
-  by_server = ed.by_server;
-  is = ap (λ (z : List Event). ((z ++ b) ++ c) ++ d) ea
-      ∙ (ap (λ (z : List Event). ((Round m ∷ b) ++ z) ++ d) ec
-      ∙ (ap (λ (z : List Event). z ++ d) (append-nil (Round m ∷ b))
-      ∙ (ap (λ (z : List Event). Round m ∷ (z ++ d)) eb.are
-      ∙ (ap (λ (z : List Event). Round m ∷ ((eb.to_client ++ eb.to_server) ++ z)) ed.are
-      ∙ ap (λ (z : List Event). Round m ∷ z) (append_assoc eb.to_client eb.to_server (ed.by_client ++ ed.by_server))))));
-  client_takes = eb.client_takes;
-  server_takes = eb.server_takes;
-  client_sends = ed.client_sends;
-  server_sends = ed.server_sends;
-}
+-- a step at the last moment, and one that is said to be at it
+pub begun : (now : ℕ) (before after : List ℕ) (w : Bool) (a b : PairState) (t u : Option (List Event)) (r s : List PlainEntry) (K : List Event → Type 0) → after ≡ before ++ now ∷ []
+    → PairStep (last_of after) w a b t u r s K → PairStep now w a b t u r s K
+begun now before after w a b t u r s K e p = step_at (last_of after) now w a b t u r s K (ap last_of e ∙ last_more before now) p
+
+pub ended_at : (now : ℕ) (before after : List ℕ) (w : Bool) (a b : PairState) (t u : Option (List Event)) (r s : List PlainEntry) (K : List Event → Type 0) → after ≡ before ++ now ∷ []
+    → PairStep now w a b t u r s K → PairStep (last_of after) w a b t u r s K
+ended_at now before after w a b t u r s K e p = step_at now (last_of after) w a b t u r s K (sym (ap last_of e ∙ last_more before now)) p
 
 -- ---- what a turn means
 
--- a turn is being made
-pub turning : (p : PairState) → HasRun p → HasRun (record p { is_over = true })
-turning p run = record {
-  events = run.events;
-  entries = run.entries;
-  running = runs_over p true true run.events run.entries run.running;
-  counted = λ e. cc;
-  places = run.places;
-}
-
-pub counted_over : (p : PairState) (over : Bool) → IsCounted p → IsCounted (record p { is_over = over })
-counted_over p over counted = record { client = counted.client; server = counted.server }
-
--- a turn went well
-pub turned : (p : PairState) → HasRun p → IsCounted p → HasRun (record p { is_over = false })
-turned p run counted = record {
-  events = run.events;
-  entries = run.entries;
-  running = runs_over p false true run.events run.entries run.running;
-  counted = λ e. counted_over p false counted;
-  places = run.places;
-}
-
-pub goes_well : (p b : PairState) (t u : Option (List Event)) (r s : List PlainEntry) (K : List Event → Type 0) → p.is_over ≡ false
-    → PairStep true (record p { is_over = true }) b t u r s K → GoesOn p t r (record b { is_over = false }) u s
+-- a turn that went well, the last round of which began at this moment
+pub goes_well : (now : ℕ) (p b : PairState) (t u : Option (List Event)) (r s : List PlainEntry) (K : List Event → Type 0) → p.is_over ≡ false
+    → ((es : List Event) → u ≡ Some es → AreBy now es) → PairStep now true (record p { is_over = true }) b t u r s K → GoesOn p t r (record b { is_over = false }) u s
 unfolding Running
-goes_well p b t u r s K going step = λ earlier events before entries run x y.
-    let old : IsRunning true p events entries = subst (λ (z : Bool). IsRunning (not z) p events entries) going run in
+goes_well now p b t u r s K going by step = λ earlier events before entries run x y.
+    let old : IsRunning true p events entries = subst (λ (z : Bool). IsRunning (not z) p events entries) going run.running in
+    let over : IsRunning true (record p { is_over = true }) events entries = runs_over p true true events entries old in
+    let told_is : u ≡ Some (earlier ++ (events ++ step.more))
+    = step.told_is ∙ (ap (λ (z : Option (List Event)). told z step.more) x ∙ ap Some (append_assoc earlier events step.more)) in
     record {
       same_requests = step.same.requests;
       same_ids = step.same.ids;
       same_config = step.same.config;
       more = step.more;
-      told_is = step.told_is ∙ (ap (λ (z : Option (List Event)). told z step.more) x ∙ ap Some (append_assoc earlier events step.more));
+      told_is = told_is;
       fresh = step.fresh;
       served_is = step.served_is ∙ (ap (λ (z : List PlainEntry). z ++ step.fresh) y ∙ append_assoc before entries step.fresh);
-      running = runs_over b false true (events ++ step.more) (entries ++ step.fresh) (step.running events entries (runs_over p true true events entries old));
+      running = record {
+        running = runs_over b false true (events ++ step.more) (entries ++ step.fresh) (step.running events entries over);
+        sound = λ e honest.
+            sound_over b false (events ++ step.more)
+            (step.sound refl events entries over honest (by_behind now earlier (events ++ step.more) (by (earlier ++ (events ++ step.more)) told_is))
+            (sound_over p true events (run.sound going (honest_front events step.more honest))));
+      };
     }
 
 -- the same, where the pair is seen as another value that is equal
-pub goes_well_as : (p v b : PairState) (t u : Option (List Event)) (r s : List PlainEntry) (K : List Event → Type 0) → v ≡ b → p.is_over ≡ false
-    → PairStep true (record p { is_over = true }) b t u r s K → GoesOn p t r (record v { is_over = false }) u s
-goes_well_as p v b t u r s K same going step =
-    goes_well p v t u r s K going (subst (λ (z : PairState). PairStep true (record p { is_over = true }) z t u r s K) (sym same) step)
+pub goes_well_as : (now : ℕ) (p v b : PairState) (t u : Option (List Event)) (r s : List PlainEntry) (K : List Event → Type 0) → v ≡ b → p.is_over ≡ false
+    → ((es : List Event) → u ≡ Some es → AreBy now es) → PairStep now true (record p { is_over = true }) b t u r s K → GoesOn p t r (record v { is_over = false }) u s
+goes_well_as now p v b t u r s K same going by step =
+    goes_well now p v t u r s K going by (subst (λ (z : PairState). PairStep now true (record p { is_over = true }) z t u r s K) (sym same) step)
 
-pub turned_as : (a v b : PairState) (t u : Option (List Event)) (r s : List PlainEntry) (K : List Event → Type 0) → v ≡ b → PairStep true a b t u r s K → HasRun v → HasRun (record v { is_over = false })
-turned_as a v b t u r s K same step run = turned v run (subst IsCounted (sym same) (step.counted refl))
-
-pub goes_ill : (p b : PairState) (t u : Option (List Event)) (r s : List PlainEntry) (K : List Event → Type 0) → p.is_over ≡ false
-    → PairStep false (record p { is_over = true }) b t u r s K → GoesOn p t r b u s
+pub goes_ill : (now : ℕ) (p b : PairState) (t u : Option (List Event)) (r s : List PlainEntry) (K : List Event → Type 0) → p.is_over ≡ false
+    → PairStep now false (record p { is_over = true }) b t u r s K → GoesOn p t r b u s
 unfolding Running
-goes_ill p b t u r s K going step = λ earlier events before entries run x y.
-    let old : IsRunning true p events entries = subst (λ (z : Bool). IsRunning (not z) p events entries) going run in
+goes_ill now p b t u r s K going step = λ earlier events before entries run x y.
+    let old : IsRunning true p events entries = subst (λ (z : Bool). IsRunning (not z) p events entries) going run.running in
     record {
       same_requests = step.same.requests;
       same_ids = step.same.ids;
@@ -188,13 +162,16 @@ goes_ill p b t u r s K going step = λ earlier events before entries run x y.
       told_is = step.told_is ∙ (ap (λ (z : Option (List Event)). told z step.more) x ∙ ap Some (append_assoc earlier events step.more));
       fresh = step.fresh;
       served_is = step.served_is ∙ (ap (λ (z : List PlainEntry). z ++ step.fresh) y ∙ append_assoc before entries step.fresh);
-      running = subst (λ (z : Bool). IsRunning (not z) b (events ++ step.more) (entries ++ step.fresh)) (sym step.same.over)
-          (step.running events entries (runs_over p true true events entries old));
+      running = record {
+        running = subst (λ (z : Bool). IsRunning (not z) b (events ++ step.more) (entries ++ step.fresh)) (sym step.same.over)
+            (step.running events entries (runs_over p true true events entries old));
+        sound = λ e. let over : true ≡ false = sym step.same.over ∙ e in cc;
+      };
     }
 
-pub adds : (w : Bool) (a b : PairState) (t u : Option (List Event)) (r s : List PlainEntry) (K Kind : List Event → Type 0)
-    → PairStep w a b t u r s K → ((x : List Event) → K x → Kind x) → Adds Kind t u
-adds w a b t u r s K Kind p kinds = λ events e. (p.more, p.told_is ∙ ap (λ (z : Option (List Event)). told z p.more) e, kinds p.more p.kind)
+pub adds : (now : ℕ) (w : Bool) (a b : PairState) (t u : Option (List Event)) (r s : List PlainEntry) (K Kind : List Event → Type 0)
+    → PairStep now w a b t u r s K → ((x : List Event) → K x → Kind x) → Adds Kind t u
+adds now w a b t u r s K Kind p kinds = λ events e. (p.more, p.told_is ∙ ap (λ (z : Option (List Event)). told z p.more) e, kinds p.more p.kind)
 
 pub protocol_again : (T U : Type 0) (e : ExchangeError) (P : ConnectionError → Type 0) → IfProtocol {T = T} (Err e) P → IfProtocol {T = U} (Err e) P
 protocol_again T U error.Link P h = tt

@@ -193,10 +193,10 @@ same_out : (s : Side) (es : List Event) (t u : List Act) → wire t ≡ told_act
 same_out s es t u e =
     sym (handed_out-wire t) ∙ (ap handed_out e ∙ (handed_out-append (told_acts s es) u ∙ ap (λ (z : List (List ℕ)). z ++ handed_out u) (handed_out-told s es)))
 
-whole_in : (s : Side) (es : List Event) (t : List Act) → wire t ≡ told_acts s es → handed_in t ≡ given_to s es
+pub whole_in : (s : Side) (es : List Event) (t : List Act) → wire t ≡ told_acts s es → handed_in t ≡ given_to s es
 whole_in s es t e = sym (handed_in-wire t) ∙ (ap handed_in e ∙ handed_in-told s es)
 
-whole_out : (s : Side) (es : List Event) (t : List Act) → wire t ≡ told_acts s es → handed_out t ≡ sent_by s es
+pub whole_out : (s : Side) (es : List Event) (t : List Act) → wire t ≡ told_acts s es → handed_out t ≡ sent_by s es
 whole_out s es t e = sym (handed_out-wire t) ∙ (ap handed_out e ∙ handed_out-told s es)
 
 -- what was handed in was given

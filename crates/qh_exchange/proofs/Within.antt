@@ -1,5 +1,5 @@
 -- What an end sent kept within the limits that it was given before.
-use Rattle.std.proofs.Common.{◌≡◌, ◌⊎◌, inl, inr, ℕ, Bool, true, false, List, [], ◌∷◌, ◌++◌, length, Option, Some, None, refl, sym, ◌∙◌, ap, subst, append_assoc}
+use Rattle.std.proofs.Common.{◌≡◌, ℕ, Bool, List, [], ◌∷◌, ◌++◌, length, Option, Some, None, refl, sym, ◌∙◌, ap, subst, append_assoc}
 use Rattle.std.specs.Prelude.{not}
 use Rattle.qh_conn.specs.Follows.{Follows, IsWithinLimits}
 use Rattle.qh_conn.specs.declared.config.ConnConfig.{ConnConfig}
@@ -8,10 +8,9 @@ use Rattle.qh_spec.specs.declared.link.Event.TheVariants.{Sent}
 use Rattle.qh_spec.specs.declared.sides.Side.{Side}
 use Rattle.qh_spec.specs.declared.sides.Side.TheVariants.{Client, Server}
 use Rattle.qh_spec.specs.Lawful.{Lawful}
-use Rattle.qh_spec.specs.Link.{if_same_side}
 use Rattle.qh_spec.specs.Record.{PlainEntry}
 use Rattle.qh_spec.specs.Transcript.{Act, HandedIn, HandedOut, Wrote, Finished, Reset, Stopped, ReadBytes, ReadEnd, ReadReset}
-use Rattle.qh_exchange.specs.Pair.{End, EndAt, IsRunning, IsTold, all, unhanded, unsent, KeepWithin, KeptWithin, PairState, Running, wire, told_acts}
+use Rattle.qh_exchange.specs.Pair.{End, EndAt, IsRunning, IsTold, all, unhanded, unsent, KeepWithin, KeptWithin, PairState, Running, id_length, wire, told_acts}
 use Rattle.qh_exchange.proofs.Bridged.{IsFaithful, end_lawful}
 use Rattle.qh_exchange.proofs.Wire.{told_acts-append, told_nearly}
 
@@ -96,7 +95,7 @@ module _ (faithful : IsFaithful) (within : AreWithin) where
       subst (λ (z : ConnConfig). IsWithinLimits k k side z before d) is.config_is
       (subst (λ (z : Side). IsWithinLimits k k z c.config before d) is.side_is
       (subst (λ (n : ℕ). IsWithinLimits n k c.side c.config before d) is.local
-      (subst (λ (n : ℕ). IsWithinLimits (length c.local_id) n c.side c.config before d) is.remote (within c t before after d at.stands.1 e))))
+      (subst (λ (n : ℕ). IsWithinLimits (length c.local_id) n c.side c.config before d) is.remote (within c t before after d at.stands.1.follows e))))
 
   kept : (w : Bool) (side : Side) (k : ℕ) (config : ConnConfig) (end : Option End) (events : List Event) (t : List Act) → EndAt w side k config end events t
       → (before after : List Event) (d : List ℕ) → events ≡ before ++ Sent side d ∷ after → KeptWithin k config side before d
@@ -111,10 +110,10 @@ module _ (faithful : IsFaithful) (within : AreWithin) where
       }
 
   by_side : (w : Bool) (p : PairState) (events : List Event) (entries : List PlainEntry) → IsRunning w p events entries → (before after : List Event) (side : Side) (d : List ℕ)
-      → events ≡ before ++ Sent side d ∷ after → KeptWithin p.id_length p.config side before d
-  by_side w p events entries run before after Client d e = kept w Client p.id_length p.config p.client_end events run.client.acts run.client.at before after d e
-  by_side w p events entries run before after Server d e = kept w Server p.id_length p.config p.server_end events run.server.acts run.server.at before after d e
+      → events ≡ before ++ Sent side d ∷ after → KeptWithin (id_length p) p.config side before d
+  by_side w p events entries run before after Client d e = kept w Client (id_length p) p.config p.client_end events run.client.acts run.client.at before after d e
+  by_side w p events entries run before after Server d e = kept w Server (id_length p) p.config p.server_end events run.server.acts run.server.at before after d e
 
-  pub keeps_within : (p : PairState) (events : List Event) (entries : List PlainEntry) → Running p events entries → KeepWithin p.id_length p.config events
+  pub keeps_within : (p : PairState) (events : List Event) (entries : List PlainEntry) → Running p events entries → KeepWithin (id_length p) p.config events
   unfolding Running
-  keeps_within p events entries run = by_side (not p.is_over) p events entries run
+  keeps_within p events entries run = by_side (not p.is_over) p events entries run.running

@@ -1,10 +1,12 @@
 -- What the calls on one end do (own).
 use Rattle.std.specs.Prelude.{◌≡◌, ◌⊎◌, ℕ, ◌+◌, ◌≤◌, Bool, true, false, List, [], ◌++◌, ◌∷◌, Some, Result, Ok, Err, MatchBool, length, map}
+use Rattle.qh_base.specs.declared.connection_error.ConnectionError.{ConnectionError}
 use Rattle.qh_base.specs.declared.connection_error.ConnectionError.TheVariants as lost
 use Rattle.qh_base.specs.declared.memory.Memory.{Memory as OutOfMemory}
 use Rattle.qh_base.specs.declared.time.Span.{Span}
-use Rattle.qh_conn.specs.Follows.{Follows}
+use Rattle.qh_conduct.specs.Behaves.{Behaves}
 use Rattle.qh_conn.specs.Inner.{HaveSameCounts, IsSameEnd}
+use Rattle.qh_conn.specs.Timers.{IsTimedOut}
 use Rattle.qh_spec.specs.declared.link.Event.{Event}
 use Rattle.qh_spec.specs.declared.link.Event.TheVariants.{Sent, Given}
 use Rattle.qh_spec.specs.declared.sides.Side.{Side}
@@ -29,7 +31,7 @@ pub record AreSent (side : Side) (count : ℕ) (events : List Event) : Type 0 wh
 
 -- behind this transcript a datagram was handed in; where the call failed, it may not have been
 abbrev pub IsHandedIn : (is_whole : Bool) → List ℕ → End → List Act → Type 0
-IsHandedIn is_whole d c t = MatchBool is_whole (Follows c (t ++ HandedIn d ∷ [])) (Follows c t ⊎ Follows c (t ++ HandedIn d ∷ []))
+IsHandedIn is_whole d c t = MatchBool is_whole (Behaves c (t ++ HandedIn d ∷ [])) (Behaves c t ⊎ Behaves c (t ++ HandedIn d ∷ []))
 
 -- what an end did that was asked for a datagram and answered so: it handed it out, where there is one
 abbrev pub polled_acts : List ℕ → Result Bool OutOfMemory → List Act
@@ -45,7 +47,9 @@ pub record IsPolledOut (old new : End) : Type 0 where
   pub counts : HaveSameCounts old.space.streams new.space.streams
   pub idle_is : new.idle ≡ old.idle
   pub error_is : new.error ≡ old.error
-  pub follows : (t : List Act) → Follows old t → Follows new t
+  pub state_is : new.state ≡ old.state
+  pub session_is : new.session ≡ old.session
+  pub behaves : (t : List Act) → Behaves old t → Behaves new t
 
 -- an idle time is set, and passed by this moment
 pub record HasWaited (now : ℕ) (c : End) : Type 0 where
@@ -56,8 +60,11 @@ pub record HasWaited (now : ℕ) (c : End) : Type 0 where
 -- the moments that were due did no more than this
 pub record IsTicked (now : ℕ) (old new : End) : Type 0 where
   pub same_end : IsSameEnd old new
+  pub session_is : new.session ≡ old.session
   pub counts : HaveSameCounts old.space.streams new.space.streams
   pub idle_is : new.idle ≡ old.idle
   pub timed_out : new.error ≡ Some lost.TimedOut → (old.error ≡ Some lost.TimedOut) ⊎ HasWaited now old
   pub failed : old.error ≡ Some lost.Memory → new.error ≡ Some lost.Memory
-  pub follows : (t : List Act) → Follows old t → Follows new t
+  pub kept : (e : ConnectionError) → new.error ≡ Some e → (old.error ≡ Some e) ⊎ (e ≡ lost.TimedOut)
+  pub due : IsTimedOut now old new
+  pub behaves : (t : List Act) → Behaves old t → Behaves new t

@@ -1,8 +1,8 @@
 -- What the answers of an exchange say.
-use Rattle.std.specs.Prelude.{◌≡◌, ◌≢◌, ◌⊎◌, ◌<◌, ℕ, Bool, true, false, List, [], ◌++◌, Option, Some, None, Result, Ok, Err, length}
+use Rattle.std.specs.Prelude.{ℕ, Result, Err}
 use Rattle.qh_base.specs.declared.connection_error.ConnectionError.{ConnectionError}
 use Rattle.qh_exchange.specs.declared.error.ExchangeError.{ExchangeError}
-use Rattle.qh_exchange.specs.declared.error.ExchangeError.TheVariants.{Invalid, Link, TimedOut, OutOfRounds, Protocol, Memory}
+use Rattle.qh_exchange.specs.declared.error.ExchangeError.TheVariants.{Invalid, TimedOut, OutOfRounds, Protocol, Memory}
 
 -- the fact, where the answer is this one
 abbrev pub IfInvalid : {T : Type 0} → Result T ExchangeError → (ℕ → Type 0) → Type 0

@@ -1,7 +1,8 @@
 -- How a pair stands to what happened on its link, and what its service recorded, since it was opened. No object stores
 -- these lists.
-use Rattle.std.specs.Prelude.{◌≡◌, ◌⊎◌, ℕ, ◌*◌, Bool, true, false, not, List, [], ◌∷◌, ◌++◌, Option, Some, None, length, filter, map, slice_get, MatchBool}
-use Rattle.qh_conn.specs.Follows.{Follows, IsWithinLimits}
+use Rattle.std.specs.Prelude.{◌≡◌, ℕ, ◌^◌, ◌≤◌, Bool, true, false, not, List, [], ◌∷◌, ◌++◌, Option, Some, None, Result, length, filter, slice_get, MatchBool}
+use Rattle.qh_conduct.specs.Behaves.{Behaves}
+use Rattle.qh_conn.specs.Follows.{IsWithinLimits}
 use Rattle.qh_conn.specs.declared.config.ConnConfig.{ConnConfig}
 use Rattle.qh_conn.specs.declared.inner.Inner.{Inner}
 use Rattle.qh_packet.specs.Session.{PlainKeys}
@@ -17,15 +18,18 @@ use Rattle.qh_spec.specs.Lawful.{Lawful}
 use Rattle.qh_spec.specs.Link.{if_same_side}
 use Rattle.qh_spec.specs.Message.{PlainMessage}
 use Rattle.qh_spec.specs.Record.{PlainEntry}
-use Rattle.qh_spec.specs.Transcript.{Act, HandedIn, HandedOut, handed_in, handed_out}
+use Rattle.qh_spec.specs.Transcript.{Act, HandedIn, HandedOut}
+use Rattle.qh_exchange.specs.Sound.{EndsFairly, IsSoundAt}
+use Rattle.qh_exchange.specs.declared.ends.Ids.{Ids}
+use Rattle.qh_exchange.specs.declared.error.ExchangeError.{ExchangeError}
 
 -- an end of a connection with a plain session
 abbrev pub End : Type 0
 End = Inner PlainKeys
 
 pub record PairState : Type 0 where
-  -- how many bytes the connection ids of the two ends have
-  pub id_length : ℕ
+  -- the connection ids of the two ends, of one length, and the one that their tags are made of
+  pub ids : Ids
   -- what both ends begin with
   pub config : ConnConfig
   pub client : PlainClient
@@ -35,6 +39,10 @@ pub record PairState : Type 0 where
   pub server_end : Option End
   -- a turn answered an error, or is being made
   pub is_over : Bool
+
+-- how many bytes the connection ids have
+abbrev pub id_length : PairState → ℕ
+id_length p = length p.ids.client
 
 -- ---- an end and its acts
 
@@ -48,7 +56,7 @@ pub record IsEndOf (side : Side) (id_length : ℕ) (config : ConnConfig) (c : En
 -- an end stands where this transcript leaves it; one that isn't there has none
 abbrev pub Stands : Side → ℕ → ConnConfig → Option End → List Act → Type 0
 Stands side id_length config None t = t ≡ []
-Stands side id_length config (Some c) t = IsEndOf side id_length config c × Follows c t
+Stands side id_length config (Some c) t = IsEndOf side id_length config c × Behaves c t
 
 -- the acts that hand datagrams in and out, in order
 abbrev pub is_wire : Act → Bool
@@ -97,13 +105,13 @@ HasAcceptedEnd s (Some end) = HasAccepted s end
 
 pub record ClientAt (is_whole : Bool) (p : PairState) (events : List Event) : Type 0 where
   pub acts : List Act
-  pub at : EndAt is_whole Client p.id_length p.config p.client_end events acts
+  pub at : EndAt is_whole Client (id_length p) p.config p.client_end events acts
   pub asking : Asking p.client acts
   pub opened : HasOpenedEnd p.client p.client_end
 
 pub record ServerAt (is_whole : Bool) (p : PairState) (events : List Event) (entries : List PlainEntry) : Type 0 where
   pub acts : List Act
-  pub at : EndAt is_whole Server p.id_length p.config p.server_end events acts
+  pub at : EndAt is_whole Server (id_length p) p.config p.server_end events acts
   pub serving : Serving p.server entries acts
   pub accepted : HasAcceptedEnd p.server p.server_end
 
@@ -112,13 +120,25 @@ pub record IsRunning (is_whole : Bool) (p : PairState) (events : List Event) (en
   pub client : ClientAt is_whole p events
   pub server : ServerAt is_whole p events entries
 
+-- The limits are such that a frame can say them, and so is the key; each end is sound.
+pub record IsSound (p : PairState) (events : List Event) : Type 0 where
+  pub fits : (p.config.limits.max_bidi ≤ 2 ^ 60) × (p.config.limits.max_uni ≤ 2 ^ 60)
+  pub lengths : (length p.ids.server ≡ length p.ids.client) × (length p.ids.key ≤ 20)
+  pub client : IsSoundAt Client p.ids p.config p.client_end events
+  pub server : IsSoundAt Server p.ids p.config p.server_end events
+
+-- and over an honest link its ends are sound
+pub record RunsOn (p : PairState) (events : List Event) (entries : List PlainEntry) : Type 0 where
+  pub running : IsRunning (not p.is_over) p events entries
+  pub sound : p.is_over ≡ false → IsHonest events → IsSound p events
+
 unfoldable pub Running : PairState → List Event → List PlainEntry → Type 0
-Running p events entries = IsRunning (not p.is_over) p events entries
+Running p events entries = RunsOn p events entries
 
 -- the pair has the same requests and settings, and stands where what the link and the service tell now leaves it
 pub record WentOn (old new : PairState) (earlier events : List Event) (told : Option (List Event)) (before entries served : List PlainEntry) : Type 0 where
   pub same_requests : new.client.requests ≡ old.client.requests
-  pub same_ids : new.id_length ≡ old.id_length
+  pub same_ids : new.ids ≡ old.ids
   pub same_config : new.config ≡ old.config
   pub more : List Event
   pub told_is : told ≡ Some (earlier ++ (events ++ more))
@@ -133,14 +153,20 @@ GoesOn old told_before served_before new told_after served_after =
     → Running old events entries → told_before ≡ Some (earlier ++ events) → served_before ≡ before ++ entries
     → WentOn old new earlier events told_after before entries served_after
 
+-- Over an honest link a pair that went on so fails for no fault of an end's, and for its idle time only where nothing came for as long.
+abbrev pub IsFair : {T : Type 0} → (old : PairState) → (told_before told_after : Option (List Event)) → Result T ExchangeError → Type 0
+IsFair old told_before told_after result = (earlier events more : List Event) (entries : List PlainEntry)
+    → Running old events entries → told_before ≡ Some (earlier ++ events) → told_after ≡ Some (earlier ++ (events ++ more)) → IsHonest (events ++ more)
+    → EndsFairly (id_length old) old.config.idle (events ++ more) result
+
 -- ---- what it means
 
 -- What a pair means over an honest link: no request was served twice or altered, each that was served was whole in what
 -- the server was given, and each answer that is held is the one recorded and was whole in what the client was given.
 pub record Means (p : PairState) (events : List Event) (before entries : List PlainEntry) : Type 0 where
-  pub served : ServedOnce p.id_length events p.client.requests before (before ++ entries)
+  pub served : ServedOnce (id_length p) events p.client.requests before (before ++ entries)
   pub answered : (index : ℕ) (answer : PlainMessage) → slice_get p.client.answers index ≡ Some (Some answer)
-      → IsRecordedAnswer p.id_length events entries index answer
+      → IsRecordedAnswer (id_length p) events entries index answer
 
 -- A side that sent this datagram behind these events kept within the limits that it was given before: some transcript of it, of
 -- which the events tell and by which it sent only what was written, has no more written than the peer's credit, on each stream

@@ -24,6 +24,7 @@ use Rattle.qh_exchange.specs.Exchange.{IfInvalid, IfOutOfRounds, IfProtocol, IfT
 use Rattle.qh_exchange.specs.Pair.{KeepWithin}
 use Rattle.qh_exchange.specs.Reading.{IsRead, IsInput, IsAppended, IsWritten}
 use Rattle.qh_exchange.specs.Settings.{conn_config}
+use Rattle.qh_exchange.specs.Sound.{EndsFairly}
 use Rattle.qh_exchange.specs.Turn.{RanOut, WasIdle, WasLost, has_link_failed}
 use Rattle.qh_exchange.specs.Unbuilt.{IsUnbuiltAt}
 
@@ -72,6 +73,7 @@ pub record HasRun (s : Script) (link : PlainLink) (served : List PlainEntry) (re
   pub invalid : IfInvalid result (λ index. IsFaultIndex s.config.max_requests s.config.max_field_section_size s.config.max_request_body s.requests index × (link.events ≡ []) × (served ≡ []))
   pub not_valid : (IsValidList s.config.max_requests s.config.max_field_section_size s.config.max_request_body s.requests → ⊥) → IsInvalidAnswer result × (link.events ≡ []) × (served ≡ [])
   pub timed_out : IfTimedOut result (WasIdle (conn_config s.config).idle [] (moments_of link.events))
+  pub fair : IsUnforged s.schedule → EndsFairly s.config.local_id_len (conn_config s.config).idle link.events result
   pub lost : IfProtocol result (WasLost s.requests (Some []) (Some link.events) [] served)
   pub out_of_rounds : IfOutOfRounds result (RanOut (rounds_of s) s.requests (Some []) (Some link.events) [] (moments_of link.events) [] served)
 

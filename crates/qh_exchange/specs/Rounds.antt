@@ -1,15 +1,18 @@
 -- What the rounds of an exchange leave of its pair.
-use Rattle.std.specs.Prelude.{◌≡◌, ◌≢◌, ◌<◌, ℕ, false, List, [], ◌++◌, Option, Result, IfErr, IfOk, length}
+use Rattle.std.specs.Prelude.{◌≡◌, ◌≢◌, ◌<◌, ℕ, suc, false, List, [], ◌++◌, Option, Some, Result, IfErr, IfOk, length}
 use Rattle.qh_conn.specs.declared.config.ConnConfig.{ConnConfig}
 use Rattle.qh_roles.specs.Client.{held}
 use Rattle.qh_service.specs.declared.service.Limits.{Limits}
 use Rattle.qh_spec.specs.declared.link.Event.{Event}
+use Rattle.qh_spec.specs.Honest.{IsHonest}
 use Rattle.qh_spec.specs.Message.{PlainMessage}
 use Rattle.qh_spec.specs.Record.{PlainEntry}
 use Rattle.qh_spec.specs.Turns.{AreWholeTurns}
 use Rattle.qh_exchange.specs.Clock.{IsClocked}
 use Rattle.qh_exchange.specs.Exchange.{IfOutOfRounds, IfProtocol, IfTimedOut}
-use Rattle.qh_exchange.specs.Pair.{PairState, Running, GoesOn}
+use Rattle.qh_exchange.specs.Full.{EndsInFullTurn}
+use Rattle.qh_exchange.specs.Pair.{PairState, Running, GoesOn, id_length}
+use Rattle.qh_exchange.specs.Sound.{EndsFairly}
 use Rattle.qh_exchange.specs.Turn.{Adds, IsProtocolLoss, WasIdle}
 use Rattle.qh_exchange.specs.declared.error.ExchangeError.{ExchangeError}
 use Rattle.qh_exchange.specs.declared.error.ExchangeError.TheVariants.{Invalid}
@@ -18,19 +21,20 @@ use Rattle.qh_exchange.specs.declared.error.ExchangeError.TheVariants.{Invalid}
 pub record IsAsked (id_length : ℕ) (config : ConnConfig) (limits : Limits) (requests : List PlainMessage) (p : PairState) : Type 0 where
   pub running : Running p [] []
   pub clocked : IsClocked p []
-  pub ids : p.id_length ≡ id_length
+  pub ids : length p.ids.client ≡ id_length
   pub config_is : p.config ≡ config
   pub limits_are : p.server.limits ≡ limits
   pub asked : p.client.requests ≡ requests
   pub lacks : held p.client.answers ≢ length p.client.requests
   pub going : p.is_over ≡ false
 
--- exactly so many rounds were made, each a whole turn where the events are told, and an answer is missing
+-- exactly so many rounds were made, each a whole turn where the events are told, the last a full one, and an answer is missing
 pub record IsRunOut (rounds : ℕ) (p : PairState) (told_before told_after : Option (List Event)) (moments_before moments_after : List ℕ) : Type 0 where
   pub turns : Adds (AreWholeTurns rounds) told_before told_after
   pub moments : List ℕ
   pub moments_are : moments_after ≡ moments_before ++ moments
   pub rounds_are : length moments ≡ rounds
+  pub last : (n : ℕ) → rounds ≡ suc n → Adds (EndsInFullTurn p) told_before told_after
   pub fewer : held p.client.answers < length p.client.requests
 
 -- the errors that rounds may end by
@@ -48,3 +52,10 @@ pub record RoundsMade (rounds : ℕ) (old new : PairState) (told_before told_aft
   pub timed_out : IfTimedOut result (WasIdle old.config.idle moments_before moments_after)
   pub lost : IfProtocol result (λ e. IsProtocolLoss e new)
   pub errors : IfErr result IsRoundsError
+
+-- Over an honest link rounds of a pair, whose service recorded what the pair tells, fail for no fault of an end's, and for its idle
+-- time only where nothing came for as long.
+abbrev pub AreFair : (old : PairState) → (told_before told_after : Option (List Event)) → (served_before : List PlainEntry) → Result (Unit {0}) ExchangeError → Type 0
+AreFair old told_before told_after served_before result = (earlier events more : List Event) (before entries : List PlainEntry)
+    → Running old events entries → told_before ≡ Some (earlier ++ events) → served_before ≡ before ++ entries → told_after ≡ Some (earlier ++ (events ++ more)) → IsHonest (events ++ more)
+    → EndsFairly (id_length old) old.config.idle (events ++ more) result

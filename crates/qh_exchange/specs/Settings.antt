@@ -1,11 +1,8 @@
 -- What the ends of a pair begin with, by the settings of an exchange.
-use Rattle.std.specs.Prelude.{ℕ, Option}
 use Rattle.std.specs.Option.{option_map}
-use Rattle.qh_base.specs.declared.time.Span.{Span}
 use Rattle.qh_conn.specs.declared.config.ConnConfig.{ConnConfig}
 use Rattle.qh_service.specs.declared.service.Limits.{Limits}
 use Rattle.qh_spec.specs.Config.{PlainConfig}
-use Rattle.qh_streams.specs.declared.frames.StreamLimits.{StreamLimits}
 
 -- what a response may measure
 abbrev pub limits_of : PlainConfig → Limits

@@ -1,30 +1,40 @@
 -- What the steps of a turn do (own).
-use Rattle.std.specs.Prelude.{◌≡◌, ◌⊎◌, ℕ, ◌≤◌, Bool, true, false, List, [], ◌++◌, ◌∷◌, Option, Some, None, Result, Ok, Err, IfOk, MatchBool, is_some, length}
+use Rattle.std.specs.Prelude.{◌≡◌, ◌⊎◌, ℕ, ◌≤◌, Bool, true, false, List, [], ◌++◌, ◌∷◌, Option, Some, None, Result, Ok, Err, IfOk, MatchBool, MatchOption, is_some, length}
 use Rattle.qh_base.specs.declared.connection_error.ConnectionError.{ConnectionError}
 use Rattle.qh_base.specs.declared.connection_error.ConnectionError.TheVariants as lost
 use Rattle.qh_base.specs.declared.time.Moment.{Moment}
 use Rattle.qh_base.specs.declared.time.Span.{Span}
-use Rattle.qh_conn.specs.Follows.{Follows}
-use Rattle.qh_conn.specs.Inner.{HaveSameCounts, with_streams}
-use Rattle.qh_conn.specs.Timers.{IsUndisturbed}
+use Rattle.qh_conduct.specs.Behaves.{Behaves}
+use Rattle.qh_conduct.specs.Peers.{AreLinked, ArePeers}
+use Rattle.qh_conduct.specs.Restarting.{AreSealed, IsCounting, IsSealed}
+use Rattle.qh_conn.specs.Inner.{HaveSameCounts, IsSameEnd, is_open, with_streams}
+use Rattle.qh_conn.specs.Timers.{IsTimedOut, IsUndisturbed}
 use Rattle.qh_conn.specs.declared.config.ConnConfig.{ConnConfig}
 use Rattle.qh_roles.specs.Client.{PlainClient, Asking, HasOpened}
 use Rattle.qh_roles.specs.Server.{PlainServer, HasAccepted, ServerStep}
 use Rattle.qh_roles.specs.Streams.{Acted, IsFresh}
 use Rattle.qh_spec.specs.declared.link.Event.{Event}
+use Rattle.qh_spec.specs.declared.link.Event.TheVariants.{Given}
 use Rattle.qh_spec.specs.declared.sides.Side.{Side}
 use Rattle.qh_spec.specs.declared.sides.Side.TheVariants.{Client, Server}
-use Rattle.qh_spec.specs.Link.{other, told}
+use Rattle.qh_spec.specs.Honest.{IsHonest}
+use Rattle.qh_spec.specs.Link.{given_to, other, sent_by, told}
+use Rattle.qh_spec.specs.Lists.{In}
 use Rattle.qh_spec.specs.Record.{PlainEntry}
-use Rattle.qh_spec.specs.Transcript.{Act}
+use Rattle.qh_spec.specs.Tag.{tag_bytes}
+use Rattle.qh_spec.specs.Transcript.{Act, handed_in, handed_out}
 use Rattle.qh_spec.specs.Turns.{IsIntake, IsOutput}
-use Rattle.qh_exchange.specs.Clock.{HasPassed, IsEndClocked}
+use Rattle.qh_exchange.specs.Clock.{HasPassed}
+use Rattle.qh_exchange.specs.EndCalls.{HasWaited, IsPolledOut}
 use Rattle.qh_exchange.specs.Error.{error_of_loss}
 use Rattle.qh_exchange.specs.Exchange.{IfTimedOut}
-use Rattle.qh_exchange.specs.Pair.{End, IsEndOf, IsRunning, IsToldIf, PairState, Stands, told_acts}
+use Rattle.qh_exchange.specs.Full.{IsSentOut}
+use Rattle.qh_exchange.specs.Pair.{End, IsEndOf, IsRunning, IsSound, IsToldIf, PairState, Stands, told_acts}
+use Rattle.qh_exchange.specs.Sound.{AreBy, own_id}
 use Rattle.qh_exchange.specs.Turn.{IsNotLost}
+use Rattle.qh_exchange.specs.declared.ends.Ids.{Ids}
 use Rattle.qh_exchange.specs.declared.error.ExchangeError.{ExchangeError}
-use Rattle.qh_exchange.specs.declared.error.ExchangeError.TheVariants.{Invalid, Link, TimedOut, OutOfRounds, Protocol, Memory}
+use Rattle.qh_exchange.specs.declared.error.ExchangeError.TheVariants.{Link, Memory}
 
 -- the errors of the steps that use the link
 abbrev pub IsLinkError : ExchangeError → Type 0
@@ -41,12 +51,19 @@ is_done (Err e) = false
 -- an end before its first packet, which opened at this moment
 pub record IsNewEnd (side : Side) (id_length : ℕ) (config : ConnConfig) (now : Moment) (c : End) : Type 0 where
   pub of : IsEndOf side id_length config c
-  pub follows : Follows c []
+  pub behaves : Behaves c []
   pub opened : c.space.streams.bi.opened ≡ 0
   pub accepted : c.space.streams.bi.accepted ≡ 0
   pub since : c.idle.since ≡ now
   pub timeout : c.idle.timeout ≡ config.idle
   pub not_lost : c.error ≡ None
+  pub up : is_open c.state ≡ true
+
+-- it has these ids, and this key
+pub record HasNames (side : Side) (ids : Ids) (c : End) : Type 0 where
+  pub local_is : c.local_id ≡ own_id side ids
+  pub remote_is : c.remote_id ≡ own_id (other side) ids
+  pub key_is : c.session.key_id ≡ ids.key
 
 -- acts that no writer and no reader of a stream sees
 abbrev pub IsQuiet : List Act → Type 0
@@ -66,6 +83,35 @@ IsEndUndisturbed is_whole now None (Some d) = ⊥
 IsEndUndisturbed is_whole now (Some c) None = ⊥
 IsEndUndisturbed is_whole now (Some c) (Some d) = MatchBool is_whole (IsUndisturbed now c d) (IsUndisturbed now c d ⊎ (d.error ≡ Some lost.Memory))
 
+-- The two are the ends of one connection, with one key, and open; what came to each was handed out by the other.
+pub record AreJoined (c q : End) (tc tq : List Act) : Type 0 where
+  pub peers : ArePeers c q
+  pub key_is : q.session.key_id ≡ c.session.key_id
+  pub short : length c.session.key_id ≤ 20
+  pub linked : AreLinked tc tq
+  pub behaves : Behaves c tc
+  pub peer_behaves : Behaves q tq
+  pub sealed : AreSealed (tag_bytes q.session.key_id) q tq
+  pub up : is_open c.state ≡ true
+  pub peer_open : is_open q.state ≡ true
+  pub peer_not_lost : q.error ≡ None
+
+-- What more events leave of an end that is open: it has its session, and is open; what it sent has its tag; and a datagram that
+-- counts restarts its idle time.
+pub record StaysSound (now : Moment) (side : Side) (c d : End) (t : List Act) (more : List Event) : Type 0 where
+  pub same_end : IsSameEnd c d
+  pub session_is : d.session ≡ c.session
+  pub up : is_open d.state ≡ true
+  pub not_lost : d.error ≡ None
+  pub sealed : (datagram : List ℕ) → In datagram (sent_by side more) → IsSealed (tag_bytes c.session.key_id) side c.remote_id datagram
+  pub restarted : (before after : List Event) (datagram : List ℕ) → more ≡ before ++ Given side datagram ∷ after
+      → IsCounting (length c.local_id) (other side) (handed_in t ++ given_to side before) datagram → d.idle.since ≡ now
+
+-- so it is where the link gave it only what its peer handed out
+abbrev pub KeepsSound : (is_whole : Bool) → Moment → Side → (old new : Option End) → List Event → Type 0
+KeepsSound is_whole now side old new more = (c d q : End) (tc tq : List Act) → old ≡ Some c → new ≡ Some d → is_whole ≡ true → c.side ≡ side → AreJoined c q tc tq
+    → ((datagram : List ℕ) → In datagram (given_to side more) → In datagram (handed_out tq)) → StaysSound now side c d tc more
+
 -- an end went on at this moment by what the link tells more, which is of this kind; the other end did nothing meanwhile
 pub record EndStep (is_whole : Bool) (now : Moment) (side : Side) (old new : Option End) (before after : Option (List Event)) (Kind : List Event → Type 0) : Type 0 where
   pub more : List Event
@@ -74,9 +120,16 @@ pub record EndStep (is_whole : Bool) (now : Moment) (side : Side) (old new : Opt
   pub silent : told_acts (other side) more ≡ []
   pub does : (id_length : ℕ) (config : ConnConfig) (t : List Act) → Stands side id_length config old t → Did is_whole side id_length config new t more
   pub undisturbed : IsEndUndisturbed is_whole now old new
+  pub sound : KeepsSound is_whole now side old new more
+
+-- why an end is lost over an honest link
+abbrev pub IsLostFairly : (now : ℕ) → ConnectionError → Option End → Type 0
+IsLostFairly now e None = ⊥
+IsLostFairly now e (Some c) = (e ≡ lost.TimedOut) × HasWaited now c
 
 -- the moments that were due did this to an end: its streams and its transcript stay
-pub record EndTicked (side : Side) (old new : Option End) : Type 0 where
+pub record EndTicked (now : ℕ) (side : Side) (old new : Option End) : Type 0 where
+  pub due : (c : End) → old ≡ Some c → (mid : End) × IsTimedOut now c mid × MatchOption new ⊥ (λ d. IsPolledOut mid d)
   pub stands : (id_length : ℕ) (config : ConnConfig) (t : List Act) → Stands side id_length config old t → Stands side id_length config new t
   pub counts : (c : End) → old ≡ Some c → (d : End) × (new ≡ Some d) × HaveSameCounts c.space.streams d.space.streams
   pub kept : (c d : End) → old ≡ Some c → new ≡ Some d → c.error ≡ Some lost.Memory → d.error ≡ Some lost.Memory
@@ -108,13 +161,13 @@ pub record HasRun (p : PairState) : Type 0 where
 pub record IsSamePair (old new : PairState) : Type 0 where
   pub requests : new.client.requests ≡ old.client.requests
   pub places : length new.client.answers ≡ length old.client.answers
-  pub ids : new.id_length ≡ old.id_length
+  pub ids : new.ids ≡ old.ids
   pub config : new.config ≡ old.config
   pub limits : new.server.limits ≡ old.server.limits
   pub over : new.is_over ≡ old.is_over
 
--- a pair went on by what the link and the service tell more, which is of this kind
-pub record PairStep (is_whole : Bool) (old new : PairState) (before after : Option (List Event)) (served_before served_after : List PlainEntry) (Kind : List Event → Type 0) : Type 0 where
+-- a pair went on at this moment by what the link and the service tell more, which is of this kind
+pub record PairStep (now : ℕ) (is_whole : Bool) (old new : PairState) (before after : Option (List Event)) (served_before served_after : List PlainEntry) (Kind : List Event → Type 0) : Type 0 where
   pub same : IsSamePair old new
   pub more : List Event
   pub told_is : after ≡ told before more
@@ -123,12 +176,15 @@ pub record PairStep (is_whole : Bool) (old new : PairState) (before after : Opti
   pub served_is : served_after ≡ served_before ++ fresh
   pub running : (events : List Event) (entries : List PlainEntry) → IsRunning true old events entries → IsRunning is_whole new (events ++ more) (entries ++ fresh)
   pub counted : is_whole ≡ true → IsCounted new
+  pub sound : is_whole ≡ true → (events : List Event) (entries : List PlainEntry) → IsRunning true old events entries → IsHonest (events ++ more) → AreBy now (events ++ more)
+      → IsSound old events → IsSound new (events ++ more)
 
 -- nothing passed on the link and nothing was served
 pub record IsStill (old new : PairState) : Type 0 where
   pub same : IsSamePair old new
   pub running : (events : List Event) (entries : List PlainEntry) → IsRunning true old events entries → IsRunning true new events entries
   pub counted : IsCounted new
+  pub sound : (events : List Event) (entries : List PlainEntry) → IsRunning true old events entries → IsSound old events → IsSound new events
 
 -- this side's end, of a connection
 abbrev pub IsOnSide : Side → Option End → Type 0
@@ -145,7 +201,7 @@ pub record ClientPolled (old new : PlainClient) (old_end new_end : Option End) :
   pub requests : new.requests ≡ old.requests
   pub places : length new.answers ≡ length old.answers
   pub opened : HasOpened old before → HasOpened new after
-  pub asks : (t : List Act) → Follows before t → HasOpened old before → Asking old t → Acted (Asking new) after t
+  pub asks : (t : List Act) → Behaves before t → HasOpened old before → Asking old t → Acted (Asking new) after t
 
 -- A server went on at its end, without a datagram.
 pub record ServerPolled (old new : PlainServer) (old_end new_end : Option End) (served_before served_after : List PlainEntry) : Type 0 where
@@ -227,10 +283,12 @@ pub record AreIntakes (events : List Event) : Type 0 where
   pub client_takes : IsIntake Client to_client
   pub server_takes : IsIntake Server to_server
 
--- the client sends, and then the server
-pub record AreOutputs (events : List Event) : Type 0 where
+-- the client sends all that it has, and then the server
+pub record AreOutputs (p : PairState) (events : List Event) : Type 0 where
   pub by_client : List Event
   pub by_server : List Event
   pub are : events ≡ by_client ++ by_server
   pub client_sends : IsOutput Client by_client
   pub server_sends : IsOutput Server by_server
+  pub client_is_done : IsSentOut Client p.client_end by_client
+  pub server_is_done : IsSentOut Server p.server_end by_server

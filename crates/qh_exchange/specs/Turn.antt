@@ -1,5 +1,5 @@
 -- What a turn and its steps add to the events of a link, and why one fails.
-use Rattle.std.specs.Prelude.{◌≡◌, ◌≢◌, ◌⊎◌, ◌<◌, ℕ, Bool, true, false, List, [], ◌++◌, Option, Some, None, Result, Ok, Err, length}
+use Rattle.std.specs.Prelude.{◌≡◌, ◌≢◌, ◌⊎◌, ◌<◌, ℕ, suc, Bool, true, false, List, [], ◌++◌, Option, Some, None, Result, Ok, Err, length}
 use Rattle.qh_base.specs.declared.connection_error.ConnectionError.{ConnectionError}
 use Rattle.qh_base.specs.declared.connection_error.ConnectionError.TheVariants as lost
 use Rattle.qh_roles.specs.Client.{held}
@@ -8,9 +8,10 @@ use Rattle.qh_spec.specs.Message.{PlainMessage}
 use Rattle.qh_spec.specs.Record.{PlainEntry}
 use Rattle.qh_spec.specs.Turns.{AreWholeTurns}
 use Rattle.qh_exchange.specs.Clock.{HasPassed}
+use Rattle.qh_exchange.specs.Full.{EndsInFullTurn}
 use Rattle.qh_exchange.specs.Pair.{End, PairState, Running}
 use Rattle.qh_exchange.specs.declared.error.ExchangeError.{ExchangeError}
-use Rattle.qh_exchange.specs.declared.error.ExchangeError.TheVariants.{Invalid, Link, TimedOut, OutOfRounds, Protocol, Memory}
+use Rattle.qh_exchange.specs.declared.error.ExchangeError.TheVariants.{Invalid, Link, OutOfRounds}
 use Rattle.qh_base.specs.declared.time.Span.{Span}
 
 -- where the events were told they are told still, with more that are of this kind behind them
@@ -61,8 +62,8 @@ pub record WasMade (requests : List PlainMessage) (told_before told_after : Opti
   pub stands : (events more : List Event) (fresh : List PlainEntry) → told_before ≡ Some events → told_after ≡ Some (events ++ more)
       → served_after ≡ served_before ++ fresh → Running p more fresh
 
--- there were requests, exactly so many rounds were made, each a whole turn where the events are told, and the pair that
--- made them holds fewer answers than requests
+-- there were requests, exactly so many rounds were made, each a whole turn where the events are told, the last one such that nothing
+-- more could be done in it, and the pair that made them holds fewer answers than requests
 pub record RanOut (rounds : ℕ) (requests : List PlainMessage) (told_before told_after : Option (List Event)) (moments_before moments_after : List ℕ) (served_before served_after : List PlainEntry) : Type 0 where
   pub some : requests ≢ []
   pub turns : Adds (AreWholeTurns rounds) told_before told_after
@@ -71,6 +72,7 @@ pub record RanOut (rounds : ℕ) (requests : List PlainMessage) (told_before tol
   pub rounds_are : length moments ≡ rounds
   pub pair : PairState
   pub made : WasMade requests told_before told_after served_before served_after pair
+  pub last : (n : ℕ) → rounds ≡ suc n → Adds (EndsInFullTurn pair) told_before told_after
   pub fewer : held pair.client.answers < length requests
 
 -- the pair lost the connection of one of its ends with this error

@@ -8,9 +8,10 @@ ghost use Rattle.qh_spec.specs.Validity.{IsFaultIndex, IsValidList};
 ghost use Rattle.qh_exchange.specs.Exchange.{IfInvalid, IfOutOfRounds, IfProtocol, IfTimedOut, IsInvalidAnswer};
 ghost use Rattle.qh_exchange.specs.Clock.{IsClocked};
 ghost use Rattle.qh_exchange.specs.Pair.{KeepWithin};
-ghost use Rattle.qh_exchange.specs.Rounds.{IsAsked, RoundsMade};
+ghost use Rattle.qh_exchange.specs.Rounds.{AreFair, IsAsked, RoundsMade};
 ghost use Rattle.qh_roles.specs.Client.{held};
 ghost use Rattle.qh_exchange.specs.Settings.{conn_config, limits_of};
+ghost use Rattle.qh_exchange.specs.Sound.{EndsFairly};
 ghost use Rattle.qh_exchange.specs.Turn.{RanOut, WasIdle, WasLost, has_link_failed};
 ghost use Rattle.qh_roles.specs.Server.{GrewByAnswers};
 
@@ -41,6 +42,9 @@ pub fn exchange<V: Service, L: Link>(
     // given to the server.
     ensures never_twice { (events : List Event) → L.events link.old ≡ Some [] → L.events link.new ≡ Some events → IsHonest events
         → ServedOnce config.now.local_id_len events requests.now (V.served service.old) (V.served service.new) }
+    // Over a fresh honest link no connection is lost but by its idle time, and by that only where nothing that counts came for as long.
+    ensures fair { (events : List Event) → L.events link.old ≡ Some [] → L.events link.new ≡ Some events → IsHonest events
+        → EndsFairly config.now.local_id_len (conn_config config.now).idle events result }
     // Whatever is answered, over any link, each datagram that an end sent kept within the limits that it was given before.
     ensures within_announced { (before more : List Event) → L.events link.old ≡ Some before → L.events link.new ≡ Some (before ++ more)
         → KeepWithin config.now.local_id_len (conn_config config.now) more }
@@ -95,6 +99,7 @@ fn make_rounds<V: Service, L: Link>(
     requires going { pair.old.is_over ≡ false }
     requires lacks { held pair.old.client.answers ≢ length pair.old.client.requests }
     requires clocked { IsClocked pair.old [] }
+    ensures fair { AreFair pair.old (L.events link.old) (L.events link.new) (V.served service.old) result }
     ensures made { RoundsMade rounds pair.old pair.new (L.events link.old) (L.events link.new) (L.moments link.old) (L.moments link.new) (V.served service.old) (V.served service.new) result }
     ensures cause { CountsFaults (L.faults link.old) (L.faults link.new) (has_link_failed result) }
     ensures plan { L.plan link.new ≡ L.plan link.old }

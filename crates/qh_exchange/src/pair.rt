@@ -1,8 +1,11 @@
-ghost use Rattle.std.specs.Prelude.{◌≡◌, ◌⊎◌, ◌≤◌, ◌↔◌, ◌++◌, ◌∷◌, [], ℕ, List, Option, Some, None, true, false, length, is_some, IfOk, IfErr, IsTrue, map};
+ghost use Rattle.std.specs.Prelude.{◌≡◌, ◌⊎◌, ◌≤◌, ◌<◌, ◌^◌, ◌↔◌, ◌++◌, ◌∷◌, [], ℕ, List, Option, Some, None, true, false, length, is_some, All, IfOk, IfErr, IsTrue, OnOk, map};
+ghost use Rattle.qh_conn.specs.Inner.{is_open};
 ghost use Rattle.qh_exchange.specs.Clock.{HasPassed, IsClocked, RunsByTheClock};
 ghost use Rattle.qh_exchange.specs.Exchange.{IfProtocol, IfTimedOut};
-ghost use Rattle.qh_exchange.specs.Pair.{PairState, Running, GoesOn, Means, KeepWithin};
+ghost use Rattle.qh_exchange.specs.Pair.{End as AnEnd, PairState, Running, GoesOn, IsFair, IsRunning, IsSound, Means, KeepWithin, id_length};
 ghost use Rattle.qh_exchange.specs.Settings.{conn_config, limits_of};
+ghost use Rattle.qh_exchange.specs.Full.{AsksWhereItMay, HasAcceptedWhatArrived, IsFullTurn, ToldAsBefore};
+ghost use Rattle.qh_exchange.specs.Sound.{EndsFairly, last_of};
 ghost use Rattle.qh_exchange.specs.Steps.{AreIntakes, AreNotLost, AreOutputs, AreTicking, BeginsAt, ClientPolled, IsCounted, IsLastOf, IsLinkError, IsOnSide, IsOpen, IsStill, KeepsTicking, PairStep, ServerPolled, TicksOn, ended_by, is_done};
 ghost use Rattle.qh_exchange.specs.Turn.{Adds, IsNotLost, IsProtocolLoss, IsTurnError, has_link_failed};
 ghost use Rattle.qh_roles.specs.Client.{AreAskable, held};
@@ -13,9 +16,9 @@ ghost use Rattle.qh_spec.specs.declared.sides.Side.TheVariants.{Client as TheCli
 ghost use Rattle.qh_spec.specs.Config.{Fits};
 ghost use Rattle.qh_spec.specs.Fault.{CountsFaults};
 ghost use Rattle.qh_spec.specs.Honest.{IsHonest};
+ghost use Rattle.qh_spec.specs.Link.{moments_of};
 ghost use Rattle.qh_spec.specs.Message.{PlainMessage};
 ghost use Rattle.qh_spec.specs.Record.{PlainEntry};
-ghost use Rattle.qh_spec.specs.Turns.{IsWholeTurn};
 
 use crate::ends::{End, Ids, MAX_NAME, open_end, receive_at, tick_at, transmit_at};
 use crate::{Config, ExchangeError, Head, Link, Message, Service};
@@ -49,12 +52,12 @@ impl Model for Pair {
 
     ghost Value = { PairState };
 
-    ghost view = { λ p. record { id_length = length p.ids.client; config = p.config; client = p.client; server = p.server; client_end = p.client_end; server_end = p.server_end; is_over = p.is_over } };
+    ghost view = { λ p. record { ids = p.ids; config = p.config; client = p.client; server = p.server; client_end = p.client_end; server_end = p.server_end; is_over = p.is_over } };
 
     ghost use Rattle.qh_exchange.specs.Steps.{HasRun};
 
     ghost invariant = { λ p. (length p.ids.server ≡ length p.ids.client)
-        × HasRun (record { id_length = length p.ids.client; config = p.config; client = p.client; server = p.server; client_end = p.client_end; server_end = p.server_end; is_over = p.is_over }) };
+        × HasRun (record { ids = p.ids; config = p.config; client = p.client; server = p.server; client_end = p.client_end; server_end = p.server_end; is_over = p.is_over }) };
 }
 
 /// What a pair that stands where these events and entries leave it means: over an honest link what it served and what it holds,
@@ -62,7 +65,7 @@ impl Model for Pair {
 pub fn pairs()
     ensures honest { (p : PairState) (events : List Event) (before entries : List PlainEntry) → IsHonest events → Running p events entries
         → Means p events before entries }
-    ensures within { (p : PairState) (events : List Event) (entries : List PlainEntry) → Running p events entries → KeepWithin p.id_length p.config events }
+    ensures within { (p : PairState) (events : List Event) (entries : List PlainEntry) → Running p events entries → KeepWithin (id_length p) p.config events }
 {
     lawful::<PlainSession>();
 }
@@ -73,7 +76,7 @@ impl Pair {
         requires { Fits config.now }
         ensures running { IfOk result (λ p. Running p [] []) }
         ensures clocked { IfOk result (λ p. IsClocked p []) }
-        ensures ids { IfOk result (λ p. p.id_length ≡ config.now.local_id_len) }
+        ensures ids { IfOk result (λ p. id_length p ≡ config.now.local_id_len) }
         ensures config { IfOk result (λ p. p.config ≡ conn_config config.now) }
         ensures limits { IfOk result (λ p. p.server.limits ≡ limits_of config.now) }
         ensures unasked { IfOk result (λ p. (p.client ≡ record { requests = []; next = 0; streams = []; answers = [] }) × (p.client_end ≡ None) × (p.is_over ≡ false)) }
@@ -124,9 +127,10 @@ impl Pair {
         ensures goes_on { GoesOn self.old (L.events link.old) (V.served service.old) self.new (L.events link.new) (V.served service.new) }
         ensures clock { RunsByTheClock self.old self.new (L.moments link.old) (L.moments link.new) result }
         ensures requests { self.new.client.requests ≡ self.old.client.requests }
-        ensures settings { (self.new.config ≡ self.old.config) × (self.new.id_length ≡ self.old.id_length) × (self.new.server.limits ≡ self.old.server.limits) }
+        ensures fair { IsFair self.old (L.events link.old) (L.events link.new) result }
+        ensures settings { (self.new.config ≡ self.old.config) × (self.new.ids ≡ self.old.ids) × (self.new.server.limits ≡ self.old.server.limits) }
         ensures done { IfOk result (λ done. IsTrue done ↔ held self.new.client.answers ≡ length self.new.client.requests) }
-        ensures turned { IfOk result (λ _. Adds IsWholeTurn (L.events link.old) (L.events link.new)) }
+        ensures turned { IfOk result (λ _. Adds (IsFullTurn self.new) (L.events link.old) (L.events link.new)) }
         ensures round { IfOk result (λ _. (moment : ℕ) × (L.moments link.new ≡ L.moments link.old ++ moment ∷ [])) }
         ensures answered { GrewByAnswers (V.may_answer self.old.server.limits) (V.served service.old) (V.served service.new) }
         ensures cause { CountsFaults (L.faults link.old) (L.faults link.new) (has_link_failed result) }
@@ -162,28 +166,46 @@ impl Pair {
     ) -> Result<(), ExchangeError>
         requires over { self.old.is_over ≡ true }
         requires counted { IsCounted self.old }
-        ensures step { PairStep (is_done result) self.old self.new (L.events link.old) (L.events link.new) (V.served service.old) (V.served service.new) (λ more. IfOk result (λ _. IsWholeTurn more)) }
+        ensures step { PairStep (last_of (L.moments link.new)) (is_done result) self.old self.new (L.events link.old) (L.events link.new) (V.served service.old) (V.served service.new) (λ more. IfOk result (λ _. IsFullTurn self.new more)) }
         ensures clock { (before moments : List ℕ) → L.moments link.old ≡ before ++ moments → AreTicking self.old moments → TicksOn self.old self.new before moments (L.moments link.new) result }
         ensures round { IfOk result (λ _. (moment : ℕ) × (L.moments link.new ≡ L.moments link.old ++ moment ∷ [])) }
         ensures cause { CountsFaults (L.faults link.old) (L.faults link.new) (has_link_failed result) }
         ensures lost { IfProtocol result (λ e. IsProtocolLoss e self.new) }
         ensures plan { L.plan link.new ≡ L.plan link.old }
         ensures errors { IfErr result IsTurnError }
+        ensures order { IfOk result (λ _. All (λ moment. moment ≤ last_of (L.moments link.new)) (L.moments link.new)) }
+        ensures fair { (earlier events more : List Event) (entries : List PlainEntry) → IsRunning true self.old events entries → IsSound self.old events
+            → L.events link.old ≡ Some (earlier ++ events) → L.events link.new ≡ Some (earlier ++ (events ++ more)) → IsHonest (events ++ more)
+            → EndsFairly (id_length self.old) self.old.config.idle (events ++ more) result }
         ensures answered { GrewByAnswers (V.may_answer self.old.server.limits) (V.served service.old) (V.served service.new) }
     {
         let now = self.begin(link)?;
         self.receive(now, link)?;
         self.tick(now)?;
         self.converse(service)?;
+        self.is_up();
         self.transmit(now, link)
+    }
+
+    // The client's end is open where it isn't lost: the contract of an end says so.
+    fn is_up(&self)
+        requires { AreNotLost self.now }
+        ensures { (end : AnEnd) → self.now.client_end ≡ Some end → is_open end.state ≡ true }
+    {
+        if let Some(end) = &self.client_end {
+            end.is_owed();
+        }
     }
 
     // Begins a round, and opens the ends in the first one.
     fn begin<L: Link>(&mut self, link: &mut L) -> Result<Moment, ExchangeError>
         requires over { self.old.is_over ≡ true }
         requires counted { IsCounted self.old }
-        ensures step { (served : List PlainEntry) → PairStep (is_done result) self.old self.new (L.events link.old) (L.events link.new) served served (λ more. IfOk result (λ now. more ≡ Round now.0 ∷ [])) }
+        ensures step { (served : List PlainEntry) → PairStep (last_of (L.moments link.new)) (is_done result) self.old self.new (L.events link.old) (L.events link.new) served served
+            (λ more. IfOk result (λ now. more ≡ Round now.0 ∷ [])) }
         ensures open { IfOk result (λ _. IsOpen self.new) }
+        ensures bound { IfOk result (λ now. now.0 < 2 ^ 62) }
+        ensures order { IfOk result (λ now. All (λ before. before ≤ now.0) (L.moments link.old)) }
         ensures clock { (before moments : List ℕ) → L.moments link.old ≡ before ++ moments → AreTicking self.old moments → BeginsAt self.new before moments (L.moments link.new) result }
         ensures round { IfOk result (λ now. L.moments link.new ≡ L.moments link.old ++ now.0 ∷ []) }
         ensures cause { CountsFaults (L.faults link.old) (L.faults link.new) (has_link_failed result) }
@@ -233,7 +255,7 @@ impl Pair {
         requires open { IsOpen self.old }
         requires over { self.old.is_over ≡ true }
         requires counted { IsCounted self.old }
-        ensures step { (served : List PlainEntry) → PairStep (is_done result) self.old self.new (L.events link.old) (L.events link.new) served served (λ more. IfOk result (λ _. AreIntakes more)) }
+        ensures step { (served : List PlainEntry) → PairStep now.0 (is_done result) self.old self.new (L.events link.old) (L.events link.new) served served (λ more. IfOk result (λ _. AreIntakes more)) }
         ensures open { IfOk result (λ _. IsOpen self.new) }
         ensures ticking { IfOk result (λ _. KeepsTicking now.0 self.old self.new) }
         ensures moments { L.moments link.new ≡ L.moments link.old }
@@ -250,9 +272,11 @@ impl Pair {
         requires open { IsOpen self.old }
         requires over { self.old.is_over ≡ true }
         requires counted { IsCounted self.old }
-        ensures still { IsStill self.old self.new }
+        requires bound { now.0 < 2 ^ 62 }
+        ensures step { (told : Option (List Event)) (served : List PlainEntry) → PairStep now.0 (is_done result) self.old self.new told told served served (λ more. more ≡ []) }
         ensures open { IsOpen self.new }
         ensures going { IfOk result (λ _. AreNotLost self.new) }
+        ensures fair { (events : List Event) → IsSound self.old events → last_of (moments_of events) ≡ now.0 → EndsFairly (id_length self.old) self.old.config.idle events result }
         ensures ticking { IfOk result (λ _. KeepsTicking now.0 self.old self.new) }
         ensures timed_out { (moments : List ℕ) → IsLastOf moments now.0 → AreTicking self.old moments → IfTimedOut result (HasPassed self.old.config.idle moments) }
         ensures lost { IfProtocol result (λ e. IsProtocolLoss e self.new) }
@@ -270,8 +294,11 @@ impl Pair {
         requires going { AreNotLost self.old }
         requires over { self.old.is_over ≡ true }
         requires counted { IsCounted self.old }
-        ensures step { (told : Option (List Event)) → PairStep true self.old self.new told told (V.served service.old) (V.served service.new) (λ more. more ≡ []) }
+        ensures step { (now : ℕ) (told : Option (List Event)) → PairStep now true self.old self.new told told (V.served service.old) (V.served service.new) (λ more. more ≡ []) }
         ensures open { IsOpen self.new }
+        ensures going { AreNotLost self.new }
+        ensures asks { OnOk result (AsksWhereItMay self.new.client self.new.client_end) }
+        ensures accepts { OnOk result (HasAcceptedWhatArrived self.new.server_end) }
         ensures ticking { (moments : List ℕ) → AreTicking self.old moments → AreTicking self.new moments }
         ensures answered { GrewByAnswers (V.may_answer self.old.server.limits) (V.served service.old) (V.served service.new) }
     {
@@ -282,10 +309,13 @@ impl Pair {
     // Each end sends what it has.
     fn transmit<L: Link>(&mut self, now: Moment, link: &mut L) -> Result<(), ExchangeError>
         requires open { IsOpen self.old }
+        requires going { AreNotLost self.old }
         requires over { self.old.is_over ≡ true }
         requires counted { IsCounted self.old }
-        ensures step { (served : List PlainEntry) → PairStep (is_done result) self.old self.new (L.events link.old) (L.events link.new) served served (λ more. IfOk result (λ _. AreOutputs more)) }
+        ensures step { (served : List PlainEntry) → PairStep now.0 (is_done result) self.old self.new (L.events link.old) (L.events link.new) served served (λ more. IfOk result (λ _. AreOutputs self.new more)) }
         ensures open { IfOk result (λ _. IsOpen self.new) }
+        ensures told { IfOk result (λ _. ToldAsBefore self.old.client_end self.new.client_end × ToldAsBefore self.old.server_end self.new.server_end) }
+        ensures roles { (self.new.client ≡ self.old.client) × (self.new.server ≡ self.old.server) }
         ensures ticking { IfOk result (λ _. KeepsTicking now.0 self.old self.new) }
         ensures moments { L.moments link.new ≡ L.moments link.old }
         ensures cause { CountsFaults (L.faults link.old) (L.faults link.new) (has_link_failed result) }
@@ -317,7 +347,8 @@ fn ended_by(
 fn ask_at(alloc: Global, client: &mut Client, slot: &mut Option<End>) -> Result<(), Memory>
     requires open { is_some slot.old ≡ true }
     requires side { IsOnSide TheClient slot.old }
-    ensures { ClientPolled client.old client.new slot.old slot.new }
+    ensures polled { ClientPolled client.old client.new slot.old slot.new }
+    ensures asks { OnOk result (AsksWhereItMay client.new slot.new) }
 {
     let Some(end) = slot else {
         return Ok(());
@@ -336,6 +367,7 @@ fn serve_at<V: Service>(
     requires side { IsOnSide TheServer slot.old }
     requires going { IsNotLost slot.old }
     ensures polled { ServerPolled server.old server.new slot.old slot.new (V.served service.old) (V.served service.new) }
+    ensures accepts { OnOk result (HasAcceptedWhatArrived slot.new) }
     ensures answered { GrewByAnswers (V.may_answer server.old.limits) (V.served service.old) (V.served service.new) }
 {
     let Some(end) = slot else {

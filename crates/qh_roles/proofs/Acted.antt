@@ -3,7 +3,7 @@ use Rattle.std.proofs.Common.{ℕ, List, [], ◌++◌, drop, Result, Ok, Err, re
 use Rattle.std.proofs.lemmas.Bool.{false≢true}
 use Rattle.std.proofs.lemmas.List.{take-append-drop}
 use Rattle.qh_base.specs.declared.memory.Memory.{Memory as OutOfMemory}
-use Rattle.qh_conn.specs.Follows.{Follows}
+use Rattle.qh_conduct.specs.Behaves.{Behaves}
 use Rattle.qh_conn.specs.declared.inner.Inner.{Inner}
 use Rattle.qh_roles.proofs.Acts.{calls_append, none_calls, same_written, same_finished, same_pieces, same_read, same_ended}
 use Rattle.qh_roles.specs.Streams.{Outgoing, Incoming, Acted, IsUntouched, IsUnread, IsWriting, HasWritten, IsWrittenTo, HasRead}
@@ -71,23 +71,23 @@ reads_kept t u stream m unread r = record {
 
 module _ {S : Type 0} where
   -- no call was made
-  pub acted_nothing : (Holds : List Act → Type 0) (c : Inner S) (t : List Act) → Follows c t → Holds t → Acted Holds c t
+  pub acted_nothing : (Holds : List Act → Type 0) (c : Inner S) (t : List Act) → Behaves c t → Holds t → Acted Holds c t
   acted_nothing Holds c t follows holds = record {
     acts = [];
     calls = none_calls;
-    follows = subst (Follows c) (sym (append-nil t)) follows;
+    follows = subst (Behaves c) (sym (append-nil t)) follows;
     holds = subst Holds (sym (append-nil t)) holds;
   }
 
   -- calls behind calls
   pub acted_then : (Before After : List Act → Type 0) (mid new : Inner S) (t : List Act) → Acted Before mid t
-      → ((u : List Act) → Follows mid u → Before u → Acted After new u) → Acted After new t
+      → ((u : List Act) → Behaves mid u → Before u → Acted After new u) → Acted After new t
   acted_then Before After mid new t first next =
       let second = next (t ++ first.acts) first.follows first.holds in
       record {
         acts = first.acts ++ second.acts;
         calls = calls_append first.acts second.acts first.calls second.calls;
-        follows = subst (Follows new) (append_assoc t first.acts second.acts) second.follows;
+        follows = subst (Behaves new) (append_assoc t first.acts second.acts) second.follows;
         holds = subst After (append_assoc t first.acts second.acts) second.holds;
       }
 

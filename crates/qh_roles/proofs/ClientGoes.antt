@@ -7,13 +7,14 @@ use Rattle.std.proofs.lemmas.Option.{slice_get-get_or}
 use Rattle.qh_base.specs.declared.connection_error.ConnectionError.TheVariants.{Memory}
 use Rattle.qh_base.specs.declared.memory.Memory.{Memory as OutOfMemory}
 use Rattle.qh_base.specs.declared.stream_id.StreamId.{StreamId}
+use Rattle.qh_conduct.specs.Behaves.{Behaves}
 use Rattle.qh_conn.specs.Follows.{Follows}
 use Rattle.qh_conn.specs.Inner.{is_open, with_streams}
 use Rattle.qh_conn.specs.declared.inner.Inner.{Inner}
 use Rattle.qh_halves.specs.Counts.{is_bi}
 use Rattle.qh_roles.proofs.Acts.{fresh_append, calls_append, none_calls, fresh_writing}
 use Rattle.qh_roles.proofs.ClientLaws.{asks_kept, answer_kept, asked_kept, advances_as}
-use Rattle.qh_roles.proofs.ClientLists.{in_set, in_set_apart, map_set, in_filter, distinct_filter, get_set, length_set, none_held, nothing_left}
+use Rattle.qh_roles.proofs.ClientLists.{in_set, in_set_apart, map_set, of_filtered, distinct_filter, get_set, length_set, answers_kept, none_held, nothing_left}
 use Rattle.qh_roles.specs.Client.{PlainClient, AreAskable, Asking, IsAskedIn, IsClient, SpellsAsked, held}
 use Rattle.qh_roles.specs.ClientSteps.{Advances, AsksOn, Goes, IsAdvanced, with_answer}
 use Rattle.qh_roles.specs.Streams.{IsFresh, IsStirred, Acted}
@@ -67,7 +68,7 @@ client_filter c p ok = record {
   places = ok.places;
   next_within = ok.next_within;
   askable = ok.askable;
-  opened = λ r among. ok.opened r (in_filter p c.streams r among);
+  opened = λ r among. ok.opened r (of_filtered p c.streams r among).0;
 }
 
 pub client_answer : (c : PlainClient) (index : ℕ) (answer : Option PlainMessage) → IsClient c → IsClient (record c { answers = slice_set c.answers index answer })
@@ -105,7 +106,7 @@ filter_asking c p t a = record {
   asks = a.asks;
   answers_are = a.answers_are;
   streams = record {
-    each = λ r among. a.streams.each r (in_filter p c.streams r among);
+    each = λ r among. a.streams.each r (of_filtered p c.streams r among).0;
     apart = distinct_filter p index_of c.streams a.streams.apart;
     fresh = a.streams.fresh;
   };
@@ -263,8 +264,9 @@ module _ {S : Type 0} where
     rest = refl;
     requests = refl;
     places = refl;
+    kept = λ k m is. (m, is);
     opened = λ h. h;
-    asks = λ t f h a. record { acts = []; calls = none_calls; follows = subst (Follows end) (sym (append-nil t)) f; holds = subst (Asking c) (sym (append-nil t)) a };
+    asks = λ t f h a. record { acts = []; calls = none_calls; follows = subst (Behaves end) (sym (append-nil t)) f; holds = subst (Asking c) (sym (append-nil t)) a };
   }
 
   pub goes_after : (c d e : PlainClient) (old mid new : Inner S) → Goes c old d mid → Goes d mid e new → Goes c old e new
@@ -272,6 +274,7 @@ module _ {S : Type 0} where
     rest = second.rest ∙ ap (λ (x : Inner S). with_streams x new.space.streams) first.rest;
     requests = second.requests ∙ first.requests;
     places = second.places ∙ first.places;
+    kept = λ k m is. let one = first.kept k m is in second.kept k one.0 one.1;
     opened = λ h. second.opened (first.opened h);
     asks = λ t f h a.
         let one = first.asks t f h a in
@@ -279,19 +282,20 @@ module _ {S : Type 0} where
         record {
           acts = one.acts ++ two.acts;
           calls = calls_append one.acts two.acts one.calls two.calls;
-          follows = subst (Follows new) (append_assoc t one.acts two.acts) two.follows;
+          follows = subst (Behaves new) (append_assoc t one.acts two.acts) two.follows;
           holds = subst (Asking e) (append_assoc t one.acts two.acts) two.holds;
         };
   }
 
   -- where the client alone changes
-  pub goes_by : (c d : PlainClient) (end : Inner S) → d.requests ≡ c.requests → length d.answers ≡ length c.answers → d.next ≡ c.next → ((t : List Act) → Asking c t → Asking d t) → Goes c end d end
-  goes_by c d end requests places next f = record {
+  pub goes_by : (c d : PlainClient) (end : Inner S) → d.requests ≡ c.requests → d.answers ≡ c.answers → d.next ≡ c.next → ((t : List Act) → Asking c t → Asking d t) → Goes c end d end
+  goes_by c d end requests answers next f = record {
     rest = refl;
     requests = requests;
-    places = places;
+    places = ap length answers;
+    kept = λ k m is. (m, rw answers is);
     opened = λ h. elim h [ inl e ↦ inl e | inr n ↦ inr (n ∙ sym next) ];
-    asks = λ t follows h a. record { acts = []; calls = none_calls; follows = subst (Follows end) (sym (append-nil t)) follows; holds = subst (Asking d) (sym (append-nil t)) (f t a) };
+    asks = λ t follows h a. record { acts = []; calls = none_calls; follows = subst (Behaves end) (sym (append-nil t)) follows; holds = subst (Asking d) (sym (append-nil t)) (f t a) };
   }
 
   pub filter_goes : (c : PlainClient) (p : RequestStream → Bool) (end : Inner S) → Goes c end (record c { streams = filter p c.streams }) end
@@ -300,13 +304,14 @@ module _ {S : Type 0} where
   -- one stream goes on
   pub moved_goes : (c d : PlainClient) (at : ℕ) (r : RequestStream) (state : RequestState) (answer : Option PlainMessage) (old new : Inner S)
       → slice_get c.streams at ≡ Some r → r.index < c.next → d ≡ moved c at r.index state answer → IsStirred old new
-      → ((requests : List PlainMessage) (index : ℕ) (t : List Act) → Follows old t → IsAskedIn requests t index r.state
+      → ((requests : List PlainMessage) (index : ℕ) (t : List Act) → Behaves old t → IsAskedIn requests t index r.state
       → Advances (λ (u : List Act). IsAskedIn requests u index state × IfSome answer (λ m. IsResponse m.head × ReadsMessage u (4 * index) m)) requests index new t)
       → Goes c old d new
   moved_goes c d at r state answer old new place below is stirred advances = subst (λ (x : PlainClient). Goes c old x new) (sym is) (record {
     rest = stirred.rest_is;
     requests = refl;
     places = length_with c.answers r.index answer;
+    kept = answers_kept c.answers r.index answer;
     opened = λ h. elim h [
       | inl e ↦ inl (ap (λ (x : Inner S). x.error) stirred.rest_is ∙ e)
       | inr n ↦ inr (stirred.counts.bi_opened ∙ n)
@@ -317,7 +322,7 @@ module _ {S : Type 0} where
   -- a stream on which memory lacked is given up
   pub lost_goes : (c d : PlainClient) (at : ℕ) (x r : RequestStream) (result : Result (RequestState × Option PlainMessage) OutOfMemory) (old new : Inner S)
       → slice_get c.streams at ≡ Some x → slice_get c.streams at ≡ Some r → x.index < c.next → d ≡ record c { streams = slice_set c.streams at (record { index = x.index; state = Done }) } → IsStirred old new
-      → ((requests : List PlainMessage) (index : ℕ) (t : List Act) → Follows old t → IsAskedIn requests t index r.state → Advances (IsAdvanced requests index result) requests index new t) → Goes c old d new
+      → ((requests : List PlainMessage) (index : ℕ) (t : List Act) → Behaves old t → IsAskedIn requests t index r.state → Advances (IsAdvanced requests index result) requests index new t) → Goes c old d new
   lost_goes c d at x r result old new place taken below is stirred advances =
       let one : x ≡ r = let some : ◌≡◌ {A = Option RequestStream} (Some x) (Some r) = sym place ∙ taken in cc in
       let index : x.index ≡ r.index = ap index_of one in
@@ -327,7 +332,7 @@ module _ {S : Type 0} where
   -- a stream went on, and its answer is held where it came
   pub kept_goes : (c d : PlainClient) (at : ℕ) (x r : RequestStream) (state : RequestState) (answer : Option PlainMessage) (result : Result (RequestState × Option PlainMessage) OutOfMemory) (old new : Inner S)
       → slice_get c.streams at ≡ Some x → slice_get c.streams at ≡ Some r → x.index < c.next → result ≡ Ok (state, answer) → d ≡ moved c at x.index state answer → IsStirred old new
-      → ((requests : List PlainMessage) (index : ℕ) (t : List Act) → Follows old t → IsAskedIn requests t index r.state → Advances (IsAdvanced requests index result) requests index new t) → Goes c old d new
+      → ((requests : List PlainMessage) (index : ℕ) (t : List Act) → Behaves old t → IsAskedIn requests t index r.state → Advances (IsAdvanced requests index result) requests index new t) → Goes c old d new
   kept_goes c d at x r state answer result old new place taken below ok is stirred advances =
       let one : x ≡ r = let some : ◌≡◌ {A = Option RequestStream} (Some x) (Some r) = sym place ∙ taken in cc in
       let index : x.index ≡ r.index = ap index_of one in
@@ -338,17 +343,17 @@ module _ {S : Type 0} where
   -- ---- opening a stream
 
   -- the connection stands as its side says, unless want of memory ended it
-  side_of : (end : Inner S) (t : List Act) → Follows end t → (end.error ≡ Some Memory → ⊥) → end.space.streams.side ≡ end.side
+  side_of : (end : Inner S) (t : List Act) → Behaves end t → (end.error ≡ Some Memory → ⊥) → end.space.streams.side ≡ end.side
   unfolding Follows
-  side_of end t f lives = elim f.is_space [
+  side_of end t f lives = elim f.follows.is_space [
     | inl failed ↦ absurd (lives failed)
-    | inr same ↦ ap (λ (s : DataSpace). s.streams.side) same ∙ f.of.side_is
+    | inr same ↦ ap (λ (s : DataSpace). s.streams.side) same ∙ f.follows.of.side_is
   ]
 
   -- a stream was opened for the next request
   pub opened_goes : (c d : PlainClient) (old new : Inner S) (id : ℕ) → is_open old.state ≡ true → (is_open old.state ≡ true → old.error ≡ None) → old.side ≡ Client
       → id ≡ stream_id old.space.streams.side Bi old.space.streams.bi.opened → IsOpened old.space.streams new.space.streams id → new ≡ with_streams old new.space.streams
-      → ((t : List Act) → Follows old t → Follows new t)
+      → ((t : List Act) → Behaves old t → Behaves new t)
       → d.next ≡ c.next + 1 → d.requests ≡ c.requests → d.answers ≡ c.answers → ((t : List Act) → id ≡ 4 * c.next → Asking c t → Asking d t) → Goes c old d new
   opened_goes c d old new id open_now named side is opened rest follows next requests answers asks =
       let lives : (old.error ≡ Some Memory → ⊥) = λ failed. let none = named open_now in absurd (cc) in
@@ -356,6 +361,7 @@ module _ {S : Type 0} where
         rest = rest;
         requests = requests;
         places = ap length answers;
+        kept = λ k m is. (m, rw answers is);
         opened = λ h. elim h [
           | inl failed ↦ absurd (lives failed)
           | inr n ↦
@@ -370,7 +376,7 @@ module _ {S : Type 0} where
               record {
                 acts = [];
                 calls = none_calls;
-                follows = subst (Follows new) (sym (append-nil t)) (follows t f);
+                follows = subst (Behaves new) (sym (append-nil t)) (follows t f);
                 holds = subst (Asking d) (sym (append-nil t)) (asks t (omega (arith, id_is, n)) a);
               }
         ];
@@ -380,9 +386,11 @@ module _ {S : Type 0} where
   pub open_goes : (c d : PlainClient) (old new : Inner S) (given : Option StreamId) (stream : StreamId) → given ≡ Some stream
       → IfSome given (λ (id : StreamId). (is_open old.state ≡ true) × (id.0 ≡ stream_id old.space.streams.side Bi old.space.streams.bi.opened) × (old.space.streams.bi.opened < old.space.streams.bi.max_opened)
       × IsOpened old.space.streams new.space.streams id.0 × (new ≡ with_streams old new.space.streams))
-      → (is_open old.state ≡ true → old.error ≡ None) → old.side ≡ Client → ((t : List Act) → Follows old t → Follows new t)
+      → (is_open old.state ≡ true → old.error ≡ None) → old.side ≡ Client
+      → ((id : ℕ) → id ≡ stream_id old.space.streams.side Bi old.space.streams.bi.opened → IsOpened old.space.streams new.space.streams id → new ≡ with_streams old new.space.streams
+      → (t : List Act) → Behaves old t → Behaves new t)
       → d.next ≡ c.next + 1 → (d.requests ≡ c.requests) × (d.answers ≡ c.answers) → ((t : List Act) → stream.0 ≡ 4 * c.next → Asking c t → Asking d t) → Goes c old d new
   open_goes c d old new None stream is some named side follows next same asks = absurd (cc)
   open_goes c d old new (Some id) stream is some named side follows next same asks =
       let one : id ≡ stream = let two : ◌≡◌ {A = Option StreamId} (Some id) (Some stream) = is in cc in
-      opened_goes c d old new id.0 some.0 named side some.1 some.3 some.4 follows next same.0 same.1 (λ t e a. asks t (sym (ap (λ (s : StreamId). s.0) one) ∙ e) a)
+      opened_goes c d old new id.0 some.0 named side some.1 some.3 some.4 (follows id.0 some.1 some.3 some.4) next same.0 same.1 (λ t e a. asks t (sym (ap (λ (s : StreamId). s.0) one) ∙ e) a)

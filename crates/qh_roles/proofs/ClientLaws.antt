@@ -3,7 +3,7 @@ use Rattle.std.proofs.Common.{◌≡◌, ℕ, ◌*◌, true, false, List, [], �
 use Rattle.std.proofs.lemmas.Bool.{both_ways}
 use Rattle.std.proofs.lemmas.List.{take-append-drop}
 use Rattle.qh_base.specs.declared.memory.Memory.{Memory as OutOfMemory}
-use Rattle.qh_conn.specs.Follows.{Follows}
+use Rattle.qh_conduct.specs.Behaves.{Behaves}
 use Rattle.qh_conn.specs.declared.inner.Inner.{Inner}
 use Rattle.qh_roles.proofs.Acts.{same_written, same_finished, same_pieces, same_read, same_ended, untouched_append, unread_append, on_append, none_on, writing_kept, reading_kept}
 use Rattle.qh_roles.specs.Client.{Asks, IsAskedIn, SpellsAsked}
@@ -116,18 +116,18 @@ module _ {S : Type 0} where
   stirred_still c = record { rest_is = refl; counts = record { bi_opened = refl; bi_accepted = refl; uni_opened = refl; uni_accepted = refl } }
 
   -- nothing was done
-  pub rests : (Is : List Act → Type 0) (requests : List PlainMessage) (index : ℕ) (c : Inner S) (t : List Act) → Follows c t → Is t → Advances Is requests index c t
+  pub rests : (Is : List Act → Type 0) (requests : List PlainMessage) (index : ℕ) (c : Inner S) (t : List Act) → Behaves c t → Is t → Advances Is requests index c t
   rests Is requests index c t follows is = record {
     acts = [];
     on = none_on (4 * index);
-    follows = subst (Follows c) (sym (append-nil t)) follows;
+    follows = subst (Behaves c) (sym (append-nil t)) follows;
     asks = λ a. subst (λ (u : List Act). AsksOn requests u (4 * index)) (sym (append-nil t)) a;
     answered = λ m a. subst (λ (u : List Act). ReadsMessage u (4 * index) m) (sym (append-nil t)) a;
     is = subst Is (sym (append-nil t)) is;
   }
 
   -- a state that doesn't send
-  pub left_alone : (requests : List PlainMessage) (index : ℕ) (state : RequestState) (c : Inner S) (t : List Act) → Follows c t → IsAskedIn requests t index state → Advances (IsSent requests index (Ok state)) requests index c t
+  pub left_alone : (requests : List PlainMessage) (index : ℕ) (state : RequestState) (c : Inner S) (t : List Act) → Behaves c t → IsAskedIn requests t index state → Advances (IsSent requests index (Ok state)) requests index c t
   left_alone requests index state c t follows is = rests (IsSent requests index (Ok state)) requests index c t follows is
 
   -- one step behind another
@@ -136,7 +136,7 @@ module _ {S : Type 0} where
   advances_after Is Was requests index mid new t first second = record {
     acts = first.acts ++ second.acts;
     on = on_append (4 * index) first.acts second.acts first.on second.on;
-    follows = subst (Follows new) (append_assoc t first.acts second.acts) second.follows;
+    follows = subst (Behaves new) (append_assoc t first.acts second.acts) second.follows;
     asks = λ a. subst (λ (u : List Act). AsksOn requests u (4 * index)) (append_assoc t first.acts second.acts) (second.asks (first.asks a));
     answered = λ m a. subst (λ (u : List Act). ReadsMessage u (4 * index) m) (append_assoc t first.acts second.acts) (second.answered m (first.answered m a));
     is = subst Is (append_assoc t first.acts second.acts) second.is;
@@ -165,7 +165,7 @@ module _ {S : Type 0} where
 
   -- a stream is given up: what was done before stays
   pub given_up_advances : (requests : List PlainMessage) (index stream : ℕ) (new : Inner S) (t acts : List Act) → stream ≡ 4 * index
-      → AreOn stream acts → IsFresh acts stream → Follows new (t ++ acts) → Advances (IsSent requests index (Ok Done)) requests index new t
+      → AreOn stream acts → IsFresh acts stream → Behaves new (t ++ acts) → Advances (IsSent requests index (Ok Done)) requests index new t
   given_up_advances requests index stream new t acts at on fresh follows =
       let still : IsFresh acts (4 * index) = subst (IsFresh acts) at fresh in
       record {

@@ -3,7 +3,7 @@ use Rattle.std.proofs.Common.{◌≡◌, ◌⊎◌, ℕ, ◌+◌, ◌≤◌, zer
 use Rattle.std.specs.Prelude.{map, filter, is_some, slice_get, slice_set, replicate, not, if◌then◌else◌}
 use Rattle.std.proofs.lemmas.Bool.{both_ways, cases_Bool}
 use Rattle.qh_roles.specs.Client.{held}
-use Rattle.qh_roles.specs.ClientSteps.{present}
+use Rattle.qh_roles.specs.ClientSteps.{KeepsAnswers, present, with_answer}
 use Rattle.qh_spec.proofs.Members.{in_at, in_map}
 use Rattle.qh_spec.specs.Lists.{In, Distinct}
 use Rattle.qh_spec.specs.Message.{PlainMessage}
@@ -44,15 +44,14 @@ length_set (z ∷ xs) (suc at) x = ap suc (length_set xs at x)
 
 -- ---- what a filter leaves
 
-pub in_filter : {X : Type 0} (p : X → Bool) (xs : List X) (y : X) → In y (filter p xs) → In y xs
-in_filter p [] y h = absurd h
-in_filter p (x ∷ xs) y h = elim (cases_Bool (p x)) [
-  | inl holds ↦
-      let among : In y (x ∷ filter p xs) = subst (λ (b : Bool). In y (cond b (x ∷ filter p xs) (filter p xs))) holds h in
-      elim among [ inl e ↦ inl e | inr m ↦ inr (in_filter p xs y m) ]
-  | inr fails ↦
-      let among : In y (filter p xs) = subst (λ (b : Bool). In y (cond b (x ∷ filter p xs) (filter p xs))) fails h in
-      inr (in_filter p xs y among)
+pub of_filtered : {X : Type 0} (p : X → Bool) (xs : List X) (x : X) → In x (filter p xs) → In x xs × (p x ≡ true)
+of_filtered p [] x h = absurd h
+of_filtered p (y ∷ ys) x h = elim (cases_Bool (p y)) [
+  | inl here ↦ elim (rw here at h) [
+    | inl e ↦ (inl e, ap p (sym e) ∙ here)
+    | inr more ↦ let one = of_filtered p ys x more in (inr one.0, one.1)
+  ]
+  | inr gone ↦ let one = of_filtered p ys x (rw gone at h) in (inr one.0, one.1)
 ]
 
 in_map_filter : {X : Type 0} (p : X → Bool) (f : X → ℕ) (xs : List X) (k : ℕ) → In k (map f (filter p xs)) → In k (map f xs)
@@ -74,6 +73,17 @@ distinct_filter p f (x ∷ xs) d = elim (cases_Bool (p x)) [
 ]
 
 -- ---- answers
+
+set_kept : (xs : List (Option PlainMessage)) (at k : ℕ) (x a : PlainMessage) → slice_get xs k ≡ Some (Some a) → (b : PlainMessage) × (slice_get (slice_set xs at (Some x)) k ≡ Some (Some b))
+set_kept [] at k x a is = (a, is)
+set_kept (z ∷ xs) zero zero x a is = (x, refl)
+set_kept (z ∷ xs) zero (suc k) x a is = (a, is)
+set_kept (z ∷ xs) (suc at) zero x a is = (a, is)
+set_kept (z ∷ xs) (suc at) (suc k) x a is = set_kept xs at k x a is
+
+pub answers_kept : (xs : List (Option PlainMessage)) (index : ℕ) (answer : Option PlainMessage) → KeepsAnswers xs (with_answer xs index answer)
+answers_kept xs index None = λ k a is. (a, is)
+answers_kept xs index (Some x) = λ k a is. set_kept xs index k x a is
 
 pub get_set : {X : Type 0} (xs : List X) (at k : ℕ) (x y : X) → slice_get (slice_set xs at x) k ≡ Some y → (x ≡ y) × (k ≡ at) ⊎ (slice_get xs k ≡ Some y) × (k ≡ at → ⊥)
 get_set [] at k x y is = cc

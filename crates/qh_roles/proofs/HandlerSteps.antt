@@ -3,7 +3,7 @@ use Rattle.std.proofs.Common.{◌≡◌, ℕ, List, [], ◌++◌, take, drop, Re
 use Rattle.std.proofs.lemmas.List.{take-append-drop}
 use Rattle.std.proofs.lemmas.Bool.{false≢true}
 use Rattle.qh_base.specs.declared.memory.Memory.{Memory as OutOfMemory}
-use Rattle.qh_conn.specs.Follows.{Follows}
+use Rattle.qh_conduct.specs.Behaves.{Behaves}
 use Rattle.qh_conn.specs.declared.inner.Inner.{Inner}
 use Rattle.qh_roles.proofs.Acts.{none_on, none_fresh, on_append, unread_append, untouched_append, read_kept, written_to_kept}
 use Rattle.qh_roles.specs.Handling.{IsAnswering, IsServed, IsFreshOn, IsQuiet, Handles, HandlerStep, state_of}
@@ -104,11 +104,11 @@ spells_same : (entries : List PlainEntry) (stream : ℕ) (old new : List ℕ) �
 spells_same entries stream old new same s = spells_left entries [] stream new (subst (λ (bytes : List ℕ). SpellsResponse entries stream bytes) (sym same) s)
 
 module _ {S : Type 0} where
-  pub none_quiet : (stream : ℕ) (c : Inner S) (t : List Act) → Follows c t → IsQuiet stream c t
-  none_quiet stream c t follows = record { acts = []; on = none_on stream; fresh = none_fresh stream; follows = subst (Follows c) (sym (append-nil t)) follows }
+  pub none_quiet : (stream : ℕ) (c : Inner S) (t : List Act) → Behaves c t → IsQuiet stream c t
+  none_quiet stream c t follows = record { acts = []; on = none_on stream; fresh = none_fresh stream; follows = subst (Behaves c) (sym (append-nil t)) follows }
 
-  pub acted_quiet : (stream : ℕ) (old new : Inner S) → ((t : List Act) → Follows old t → (acts : List Act) × AreOn stream acts × IsFresh acts stream × Follows new (t ++ acts))
-      → (t : List Act) → Follows old t → IsQuiet stream new t
+  pub acted_quiet : (stream : ℕ) (old new : Inner S) → ((t : List Act) → Behaves old t → (acts : List Act) × AreOn stream acts × IsFresh acts stream × Behaves new (t ++ acts))
+      → (t : List Act) → Behaves old t → IsQuiet stream new t
   acted_quiet stream old new acted t follows = let a = acted t follows in record { acts = a.0; on = a.1; fresh = a.2; follows = a.3 }
 
   -- nothing was done
@@ -120,7 +120,7 @@ module _ {S : Type 0} where
     does = λ t entries follows handled. record {
       acts = [];
       on = none_on stream;
-      follows = subst (Follows c) (sym (append-nil t)) follows;
+      follows = subst (Behaves c) (sym (append-nil t)) follows;
       reads = inl (none_fresh stream).1;
       writes = inl (none_fresh stream).0;
       each = λ e among. absurd among;
@@ -143,7 +143,7 @@ module _ {S : Type 0} where
       record {
         acts = d.acts ++ q.acts;
         on = on_append stream d.acts q.acts on q.on;
-        follows = subst (Follows end_after) (append_assoc t d.acts q.acts) q.follows;
+        follows = subst (Behaves end_after) (append_assoc t d.acts q.acts) q.follows;
         reads = inr (ap (ended t) (sym is) ∙ was.endless);
         writes = inl whole;
         each = each;
@@ -152,8 +152,8 @@ module _ {S : Type 0} where
 
   -- the stream is given up, or memory is wanting
   pub read_gone : (stream : ℕ) (r : Result ReadState OutOfMemory) (i new : Incoming) (end_before mid end_after : Inner S) (recorded : List PlainEntry)
-      → new.stream ≡ i.stream → ((t : List Act) → Follows end_before t → IsReading t i → ReadsOn r new mid t)
-      → ((t : List Act) → Follows mid t → IsQuiet stream end_after t) → HandlerStep stream (Reading i) Done end_before end_after recorded recorded
+      → new.stream ≡ i.stream → ((t : List Act) → Behaves end_before t → IsReading t i → ReadsOn r new mid t)
+      → ((t : List Act) → Behaves mid t → IsQuiet stream end_after t) → HandlerStep stream (Reading i) Done end_before end_after recorded recorded
   read_gone stream r i new end_before mid end_after recorded same reads quiet = record {
     fresh = [];
     longer = sym (append-nil recorded);
@@ -165,7 +165,7 @@ module _ {S : Type 0} where
 
   -- more is to come
   pub read_blocked : (stream : ℕ) (i new : Incoming) (end_before end_after : Inner S) (recorded : List PlainEntry)
-      → new.stream ≡ i.stream → ((t : List Act) → Follows end_before t → IsReading t i → ReadsOn (Ok reading.Blocked) new end_after t)
+      → new.stream ≡ i.stream → ((t : List Act) → Behaves end_before t → IsReading t i → ReadsOn (Ok reading.Blocked) new end_after t)
       → HandlerStep stream (Reading i) (Reading new) end_before end_after recorded recorded
   read_blocked stream i new end_before end_after recorded same reads = record {
     fresh = [];
@@ -187,8 +187,8 @@ module _ {S : Type 0} where
 
   -- all came, and it was served, or refused
   pub read_served : (stream : ℕ) (i new : Incoming) (result : Result HandlerState OutOfMemory) (end_before mid end_after : Inner S) (before after : List PlainEntry)
-      → new.stream ≡ i.stream → ((t : List Act) → Follows end_before t → IsReading t i → ReadsOn (Ok reading.Ended) new mid t)
-      → ((t : List Act) → Follows mid t → IsQuiet stream end_after t) → IsServed stream new.bytes result before after
+      → new.stream ≡ i.stream → ((t : List Act) → Behaves end_before t → IsReading t i → ReadsOn (Ok reading.Ended) new mid t)
+      → ((t : List Act) → Behaves mid t → IsQuiet stream end_after t) → IsServed stream new.bytes result before after
       → HandlerStep stream (Reading i) (state_of result) end_before end_after before after
   read_served stream i new result end_before mid end_after before after same reads quiet served = record {
     fresh = served.fresh;
@@ -227,7 +227,7 @@ module _ {S : Type 0} where
       record {
         acts = w.acts ++ q.acts;
         on = on_append stream w.acts q.acts on q.on;
-        follows = subst (Follows end_after) (append_assoc t w.acts q.acts) q.follows;
+        follows = subst (Behaves end_after) (append_assoc t w.acts q.acts) q.follows;
         reads = inl (unread_append w.acts q.acts stream unread q.fresh.1);
         writes = inr (to_responds r (entries ++ []) (t ++ (w.acts ++ q.acts)) stream new is spells to);
         each = λ e among. absurd among;
@@ -236,8 +236,8 @@ module _ {S : Type 0} where
 
   -- all was written, or the stream is given up, or memory is wanting
   pub write_gone : (stream : ℕ) (r : Result WriteState OutOfMemory) (o new : Outgoing) (end_before mid end_after : Inner S) (recorded : List PlainEntry)
-      → (new.stream ≡ o.stream) × (new.bytes ≡ o.bytes) → ((t : List Act) → Follows end_before t → IsWriting t o → Writes r new mid t)
-      → ((t : List Act) → Follows mid t → IsQuiet stream end_after t) → HandlerStep stream (Responding o) Done end_before end_after recorded recorded
+      → (new.stream ≡ o.stream) × (new.bytes ≡ o.bytes) → ((t : List Act) → Behaves end_before t → IsWriting t o → Writes r new mid t)
+      → ((t : List Act) → Behaves mid t → IsQuiet stream end_after t) → HandlerStep stream (Responding o) Done end_before end_after recorded recorded
   write_gone stream r o new end_before mid end_after recorded same writes quiet = record {
     fresh = [];
     longer = sym (append-nil recorded);
@@ -249,7 +249,7 @@ module _ {S : Type 0} where
 
   -- bytes are left
   pub write_blocked : (stream : ℕ) (o new : Outgoing) (end_before end_after : Inner S) (recorded : List PlainEntry)
-      → (new.stream ≡ o.stream) × (new.bytes ≡ o.bytes) → ((t : List Act) → Follows end_before t → IsWriting t o → Writes (Ok writing.Blocked) new end_after t)
+      → (new.stream ≡ o.stream) × (new.bytes ≡ o.bytes) → ((t : List Act) → Behaves end_before t → IsWriting t o → Writes (Ok writing.Blocked) new end_after t)
       → HandlerStep stream (Responding o) (Responding new) end_before end_after recorded recorded
   write_blocked stream o new end_before end_after recorded same writes = record {
     fresh = [];

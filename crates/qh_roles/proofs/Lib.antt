@@ -1,5 +1,6 @@
 pub mod Acted
 pub mod Acts
+pub mod Calling
 pub mod ClientGoes
 pub mod ClientLaws
 pub mod ClientLists

@@ -3,6 +3,7 @@ use Rattle.std.proofs.Common.{◌≡◌, ℕ, ◌+◌, ◌*◌, ◌<◌, ◌^◌
 use Rattle.std.proofs.lemmas.List.{map-append}
 use Rattle.std.specs.List.{items_where_true}
 use Rattle.std.specs.Prelude.{map}
+use Rattle.qh_conduct.specs.Behaves.{Behaves}
 use Rattle.qh_conn.specs.Follows.{Follows}
 use Rattle.qh_conn.specs.Inner.{with_streams}
 use Rattle.qh_conn.specs.declared.inner.Inner.{Inner}
@@ -79,11 +80,11 @@ rises Server n more id e below is = omega (arith, e, below, is)
 
 module _ {S : Type 0} where
   -- where the connection isn't lost, its streams are those of its side
-  side_follows : (c : Inner S) (t : List Act) → c.error ≡ None → Follows c t → c.space.streams.side ≡ c.side
+  side_follows : (c : Inner S) (t : List Act) → c.error ≡ None → Behaves c t → c.space.streams.side ≡ c.side
   unfolding Follows
-  side_follows c t sound f = elim f.is_space [
+  side_follows c t sound f = elim f.follows.is_space [
     | inl failed ↦ absurd (let e = sym sound ∙ failed in cc)
-    | inr same ↦ ap (λ s. s.streams.side) same ∙ f.of.side_is
+    | inr same ↦ ap (λ s. s.streams.side) same ∙ f.follows.of.side_is
   ]
 
   pub none_accepted : (n : ℕ) (handlers : List Handler) (c : Inner S) → c.space.streams.bi.accepted ≡ n → AcceptStep n n handlers handlers c c
@@ -114,14 +115,14 @@ module _ {S : Type 0} where
 
   module _ (n more : ℕ) (handlers : List Handler) (id : ℕ) (old new : Inner S) (sound : old.error ≡ None) (side : old.side ≡ Server) (same : old.space.streams.bi.accepted ≡ n)
       (is : new ≡ with_streams old (with_counts old.space.streams true (with_accepted old.space.streams.bi))) (named : id ≡ stream_id (other_side old.space.streams.side) Bi old.space.streams.bi.accepted)
-      (below : id < 2 ^ 64) (rose : more ≡ min (n + 1) 18446744073709551615) (follow : (t : List Act) → Follows old t → Follows new t) where
+      (below : id < 2 ^ 64) (rose : more ≡ min (n + 1) 18446744073709551615) (follow : (t : List Act) → Behaves old t → Behaves new t) where
     count_is : more ≡ n + 1
     count_is = rises (other_side old.space.streams.side) n more id (named ∙ ap (λ (k : ℕ). stream_id (other_side old.space.streams.side) Bi k) same) below rose
 
     counts_are : new.space.streams.bi.accepted ≡ more
     counts_are = ap (λ (c : Inner S). c.space.streams.bi.accepted) is ∙ ap (λ (k : ℕ). k + 1) same ∙ sym count_is
 
-    at_client : (t : List Act) → Follows old t → id ≡ 4 * n
+    at_client : (t : List Act) → Behaves old t → id ≡ 4 * n
     at_client t follows = client_stream old.space.streams.side n id (side_follows old t sound follows ∙ side) (named ∙ ap (λ (k : ℕ). stream_id (other_side old.space.streams.side) Bi k) same)
 
     -- there was no memory for its handler

@@ -5,6 +5,7 @@ use Rattle.std.proofs.lemmas.Bool.{cases_Bool, cases_lt}
 use Rattle.std.specs.List.{items_where_true}
 use Rattle.std.specs.Prelude.{map, filter}
 use Rattle.qh_halves.specs.Counts.{other_side}
+use Rattle.qh_roles.proofs.ClientLists.{of_filtered}
 use Rattle.qh_roles.specs.Handling.{Accepts, AreSettled, IsSettledIn, Polls}
 use Rattle.qh_roles.specs.Server.{AreGoing, AreOnStreams, ForgetsNone, HasHandler, IsCaredFor, IsOn, is_done, is_going}
 use Rattle.qh_roles.specs.Streams.{IsOver, KeepsOver, NoneArrived}
@@ -33,16 +34,6 @@ in_filtered p (y ∷ ys) x (inl e) passes = rw (ap p e ∙ passes) (inl e)
 in_filtered p (y ∷ ys) x (inr h) passes = elim (cases_Bool (p y)) [
   | inl here ↦ rw here (inr (in_filtered p ys x h passes))
   | inr gone ↦ rw gone (in_filtered p ys x h passes)
-]
-
-of_filtered : {X : Type 0} (p : X → Bool) (xs : List X) (x : X) → In x (filter p xs) → In x xs × (p x ≡ true)
-of_filtered p [] x h = absurd h
-of_filtered p (y ∷ ys) x h = elim (cases_Bool (p y)) [
-  | inl here ↦ elim (rw here at h) [
-    | inl e ↦ (inl e, ap p (sym e) ∙ here)
-    | inr more ↦ let one = of_filtered p ys x more in (inr one.0, one.1)
-  ]
-  | inr gone ↦ let one = of_filtered p ys x (rw gone at h) in (inr one.0, one.1)
 ]
 
 in_set : {X : Type 0} (xs : List X) (at : ℕ) (new x : X) → In x (set xs at new) → (new ≡ x) ⊎ In x xs

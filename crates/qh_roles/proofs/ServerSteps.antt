@@ -5,7 +5,7 @@ use Rattle.std.proofs.Math.Seq.{map-set_same}
 use Rattle.std.proofs.lemmas.Bool.{cases_eq, false≢true}
 use Rattle.std.proofs.lemmas.List.{map-append}
 use Rattle.std.specs.List.{items_where_true}
-use Rattle.qh_conn.specs.Follows.{Follows}
+use Rattle.qh_conduct.specs.Behaves.{Behaves}
 use Rattle.qh_conn.specs.declared.inner.Inner.{Inner}
 use Rattle.qh_roles.proofs.Acts.{none_calls, calls_append, untouched_append, same_written, same_finished, same_pieces, same_read, same_ended, fresh_append, writing_kept, reading_kept}
 use Rattle.qh_roles.proofs.HandlerLists.{same_default, in_set, in_kept, distinct_kept}
@@ -84,22 +84,22 @@ module _ {S : Type 0} where
         record {
           acts = d.acts ++ e.acts;
           calls = calls_append d.acts e.acts d.calls e.calls;
-          follows = subst (Follows new) (append_assoc t d.acts e.acts) e.follows;
+          follows = subst (Behaves new) (append_assoc t d.acts e.acts) e.follows;
           holds = subst (λ (u : List Act). Serving c (entries ++ (first.fresh ++ second.fresh)) u) (append_assoc t d.acts e.acts)
               (subst (λ (es : List PlainEntry). Serving c es ((t ++ d.acts) ++ e.acts)) (append_assoc entries first.fresh second.fresh) e.holds);
         };
   }
 
   -- where what is served stays as it is, and nothing was done
-  pub quiet_step : (a b : PlainServer) (old new : Inner S) (recorded : List PlainEntry) → ((t : List Act) → Follows old t → Follows new t)
-      → ((t : List Act) (entries : List PlainEntry) → Follows old t → Serving a entries t → Serving b entries t) → ServerStep a b old new recorded recorded
+  pub quiet_step : (a b : PlainServer) (old new : Inner S) (recorded : List PlainEntry) → ((t : List Act) → Behaves old t → Behaves new t)
+      → ((t : List Act) (entries : List PlainEntry) → Behaves old t → Serving a entries t → Serving b entries t) → ServerStep a b old new recorded recorded
   quiet_step a b old new recorded follow serve = record {
     fresh = [];
     served_is = sym (append-nil recorded);
     does = λ t entries follows serving. record {
       acts = [];
       calls = none_calls;
-      follows = subst (Follows new) (sym (append-nil t)) (follow t follows);
+      follows = subst (Behaves new) (sym (append-nil t)) (follow t follows);
       holds = still b entries t (serve t entries follows serving);
     };
   }

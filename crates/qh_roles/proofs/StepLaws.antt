@@ -5,7 +5,8 @@ use Rattle.std.proofs.lemmas.Bool.{eq-eqb}
 use Rattle.std.proofs.lemmas.List.{take_all}
 use Rattle.std.proofs.Math.Seq.{take-nil}
 use Rattle.qh_base.specs.declared.memory.Memory.{Memory as OutOfMemory}
-use Rattle.qh_conn.specs.Follows.{Follows, write_acts}
+use Rattle.qh_conduct.specs.Behaves.{Behaves}
+use Rattle.qh_conn.specs.Follows.{write_acts}
 use Rattle.qh_conn.specs.declared.inner.Inner.{Inner}
 use Rattle.qh_half.specs.declared.fault.WriteFault.{WriteFault}
 use Rattle.qh_roles.proofs.Acts.{same_written, same_finished, on_append, none_on, none_unread, none_untouched, unread_append, untouched_append, same_pieces, same_read, same_ended, wrote_on, finished_on, piece_on, end_on, writing_kept, in_order_append}
@@ -42,17 +43,17 @@ finished_itself stream = rw (eq-eqb stream stream refl) refl
 
 module _ {S : Type 0} where
   -- nothing was done
-  pub no_push : (stream : ℕ) (c : Inner S) (t : List Act) → Follows c t → Pushes stream [] c t
+  pub no_push : (stream : ℕ) (c : Inner S) (t : List Act) → Behaves c t → Pushes stream [] c t
   no_push stream c t follows = record {
     acts = [];
     on = none_on stream;
     unread = none_unread stream;
     written_is = refl;
     unfinished = refl;
-    follows = subst (Follows c) (sym (append-nil t)) follows;
+    follows = subst (Behaves c) (sym (append-nil t)) follows;
   }
 
-  pub write_pushes : (stream : ℕ) (bytes : List ℕ) (r : Result ℕ WriteFault) (new : Inner S) (t : List Act) → Follows new (t ++ write_acts stream bytes r) → Pushes stream (pushed bytes r) new t
+  pub write_pushes : (stream : ℕ) (bytes : List ℕ) (r : Result ℕ WriteFault) (new : Inner S) (t : List Act) → Behaves new (t ++ write_acts stream bytes r) → Pushes stream (pushed bytes r) new t
   write_pushes stream bytes (Ok n) new t follows = record {
     acts = Wrote stream (take n bytes) ∷ [];
     on = wrote_on stream (take n bytes);
@@ -97,22 +98,22 @@ module _ {S : Type 0} where
     acts = p.acts ++ w.acts;
     on = on_append o.stream p.acts w.acts p.on w.on;
     unread = unread_append p.acts w.acts o.stream p.unread w.unread;
-    follows = subst (Follows new) (append_assoc t p.acts w.acts) w.follows;
+    follows = subst (Behaves new) (append_assoc t p.acts w.acts) w.follows;
     is = subst (λ (u : List Act). IsWrittenTo result u o) (append_assoc t p.acts w.acts) w.is;
   }
 
   -- nothing was done, and bytes are left
-  pub left_writes : (o : Outgoing) (c : Inner S) (t : List Act) → Follows c t → IsWriting t o → Writes (Ok writing.Blocked) o c t
+  pub left_writes : (o : Outgoing) (c : Inner S) (t : List Act) → Behaves c t → IsWriting t o → Writes (Ok writing.Blocked) o c t
   left_writes o c t follows was = record {
     acts = [];
     on = none_on o.stream;
     unread = none_unread o.stream;
-    follows = subst (Follows c) (sym (append-nil t)) follows;
+    follows = subst (Behaves c) (sym (append-nil t)) follows;
     is = subst (λ (u : List Act). IsWriting u o) (sym (append-nil t)) was;
   }
 
   -- all was written, and the stream is finished
-  pub finish_writes : (o : Outgoing) (new : Inner S) (t : List Act) → length o.bytes ≤ o.taken → Follows new (t ++ Finished o.stream ∷ []) → IsWriting t o → Writes (Ok writing.Finished) o new t
+  pub finish_writes : (o : Outgoing) (new : Inner S) (t : List Act) → length o.bytes ≤ o.taken → Behaves new (t ++ Finished o.stream ∷ []) → IsWriting t o → Writes (Ok writing.Finished) o new t
   finish_writes o new t all follows was = record {
     acts = Finished o.stream ∷ [];
     on = finished_on o.stream;
@@ -125,7 +126,7 @@ module _ {S : Type 0} where
   }
 
   -- the stream takes no end
-  pub unfinished_writes : (o : Outgoing) (new : Inner S) (t : List Act) → Follows new (t ++ []) → IsWriting t o → Writes (Ok writing.Refused) o new t
+  pub unfinished_writes : (o : Outgoing) (new : Inner S) (t : List Act) → Behaves new (t ++ []) → IsWriting t o → Writes (Ok writing.Refused) o new t
   unfinished_writes o new t follows was = record {
     acts = [];
     on = none_on o.stream;
@@ -163,16 +164,16 @@ piece_acts_on stream offset (b ∷ bytes) = (piece_on stream offset (b ∷ bytes
 
 module _ {S : Type 0} where
   -- nothing was read
-  pub none_reads : (i : Incoming) (c : Inner S) (t : List Act) → Follows c t → IsReading t i → ReadsOn (Ok reading.Blocked) i c t
+  pub none_reads : (i : Incoming) (c : Inner S) (t : List Act) → Behaves c t → IsReading t i → ReadsOn (Ok reading.Blocked) i c t
   none_reads i c t follows was = record {
     acts = [];
     on = none_on i.stream;
     untouched = none_untouched i.stream;
-    follows = subst (Follows c) (sym (append-nil t)) follows;
+    follows = subst (Behaves c) (sym (append-nil t)) follows;
     is = subst (λ (u : List Act). IsReading u i) (sym (append-nil t)) was;
   }
 
-  pub piece_reads : (i : Incoming) (offset : ℕ) (bytes : List ℕ) (new : Inner S) (t : List Act) → Follows new (t ++ piece_acts i.stream offset bytes)
+  pub piece_reads : (i : Incoming) (offset : ℕ) (bytes : List ℕ) (new : Inner S) (t : List Act) → Behaves new (t ++ piece_acts i.stream offset bytes)
       → (0 < length bytes → offset ≡ length (read t i.stream)) → IsReading t i → ReadsOn (Ok reading.Blocked) (record { stream = i.stream; bytes = i.bytes ++ bytes }) new t
   piece_reads i offset bytes new t follows here was = record {
     acts = piece_acts i.stream offset bytes;
@@ -183,7 +184,7 @@ module _ {S : Type 0} where
   }
 
   -- the end was told
-  pub end_reads : (i : Incoming) (new : Inner S) (t : List Act) → Follows new (t ++ ReadEnd i.stream ∷ []) → IsReading t i → ReadsOn (Ok reading.Ended) i new t
+  pub end_reads : (i : Incoming) (new : Inner S) (t : List Act) → Behaves new (t ++ ReadEnd i.stream ∷ []) → IsReading t i → ReadsOn (Ok reading.Ended) i new t
   end_reads i new t follows was =
       let acts : List Act = ReadEnd i.stream ∷ [] in
       record {
@@ -206,6 +207,6 @@ module _ {S : Type 0} where
         acts = p.acts ++ w.acts;
         on = on_append j.stream p.acts w.acts (subst (λ (k : ℕ). AreOn k p.acts) (sym same) p.on) w.on;
         untouched = untouched_append p.acts w.acts j.stream (subst (λ (k : ℕ). IsUntouched p.acts k) (sym same) p.untouched) w.untouched;
-        follows = subst (Follows new) (append_assoc t p.acts w.acts) w.follows;
+        follows = subst (Behaves new) (append_assoc t p.acts w.acts) w.follows;
         is = subst (λ (u : List Act). IsReadTo result u j) (append_assoc t p.acts w.acts) w.is;
       }

@@ -2,7 +2,7 @@
 use Rattle.std.specs.Prelude.{◌≡◌, ◌⊎◌, ℕ, ◌<◌, min, false, List, [], ◌++◌, length, take, Option, Some, None, Result, Ok, Err}
 use Rattle.qh_base.specs.declared.memory.Memory.{Memory as OutOfMemory}
 use Rattle.qh_buffers.specs.declared.assembler.Chunk.{Chunk}
-use Rattle.qh_conn.specs.Follows.{Follows}
+use Rattle.qh_conduct.specs.Behaves.{Behaves}
 use Rattle.qh_conn.specs.Streams.{IsWriteRefused}
 use Rattle.qh_conn.specs.declared.fault.TakeFault.{TakeFault}
 use Rattle.qh_conn.specs.declared.fault.TakeFault.TheVariants.{Read}
@@ -44,7 +44,7 @@ module _ {S : Type 0} where
     pub unread : IsUnread acts stream
     pub written_is : written acts stream ≡ bytes
     pub unfinished : finished acts stream ≡ false
-    pub follows : Follows new (t ++ acts)
+    pub follows : Behaves new (t ++ acts)
 
   -- so many of the bytes were taken for the stream, as the credit permitted, and it may be finished
   pub record Took (stream : ℕ) (bytes : List ℕ) (n : ℕ) (old new : Inner S) : Type 0 where

@@ -1,7 +1,7 @@
 -- How far the bytes of a message are on a stream, and what the calls of a role add to what was done with an end.
 use Rattle.std.specs.Prelude.{◌≡◌, ◌⊎◌, ℕ, ◌+◌, ◌-◌, ◌^◌, ◌<◌, min, Bool, true, false, List, [], ◌++◌, length, take, Option, Some, None, IsSome, Result, Ok}
 use Rattle.qh_base.specs.declared.memory.Memory.{Memory as OutOfMemory}
-use Rattle.qh_conn.specs.Follows.{Follows}
+use Rattle.qh_conduct.specs.Behaves.{Behaves}
 use Rattle.qh_conn.specs.Inner.{HaveSameCounts, is_open, with_streams}
 use Rattle.qh_conn.specs.declared.inner.Inner.{Inner}
 use Rattle.qh_half.specs.Recv.{PlainRecv, WaitsForMore, is_at_end, reset_code}
@@ -159,7 +159,7 @@ module _ {S : Type 0} where
     pub acts : List Act
     pub on : AreOn o.stream acts
     pub unread : IsUnread acts o.stream
-    pub follows : Follows new (t ++ acts)
+    pub follows : Behaves new (t ++ acts)
     pub is : IsWrittenTo result (t ++ acts) o
 
   -- what a call of `read` did behind this transcript
@@ -167,12 +167,12 @@ module _ {S : Type 0} where
     pub acts : List Act
     pub on : AreOn i.stream acts
     pub untouched : IsUntouched acts i.stream
-    pub follows : Follows new (t ++ acts)
+    pub follows : Behaves new (t ++ acts)
     pub is : IsReadTo result (t ++ acts) i
 
   -- behind this transcript a role made calls on streams, and this holds of all
   pub record Acted (Holds : List Act → Type 0) (new : Inner S) (t : List Act) : Type 0 where
     pub acts : List Act
     pub calls : AreCalls acts
-    pub follows : Follows new (t ++ acts)
+    pub follows : Behaves new (t ++ acts)
     pub holds : Holds (t ++ acts)

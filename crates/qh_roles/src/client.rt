@@ -1,8 +1,8 @@
-ghost use Rattle.std.specs.Prelude.{◌≡◌, [], ℕ, ◌+◌, ◌*◌, ◌<◌, List, Some, None, length, map, filter, replicate, IfOk, OnOk, OnErr, slice_get, slice_set, if◌then◌else◌};
-ghost use Rattle.qh_conn.specs.Follows.{Follows};
+ghost use Rattle.std.specs.Prelude.{◌≡◌, ◌⊎◌, [], ℕ, ◌+◌, ◌*◌, ◌<◌, List, true, false, Some, None, Ok, length, map, filter, replicate, IfOk, OnOk, OnErr, slice_get, slice_set, if◌then◌else◌};
+ghost use Rattle.qh_conduct.specs.Behaves.{Behaves};
 ghost use Rattle.qh_conn.specs.Inner.{with_streams};
 ghost use Rattle.qh_roles.specs.Client.{AreAskable, Asking, HasOpened, IsAskedIn, held};
-ghost use Rattle.qh_roles.specs.ClientSteps.{Advances, Goes, IsAdvanced, IsSent, is_left, is_over, with_answer};
+ghost use Rattle.qh_roles.specs.ClientSteps.{Advances, AreLeft, Goes, IsAdvanced, IsSent, KeepsAnswers, MayOpenNone, is_left, is_over, with_answer};
 ghost use Rattle.qh_roles.specs.Streams.{Acted, IsReading, IsStirred};
 ghost use Rattle.qh_spec.specs.Message.{PlainMessage};
 ghost use Rattle.qh_spec.specs.Transcript.{Act};
@@ -11,6 +11,7 @@ ghost use Rattle.qh_spec.specs.declared.sides.Side.TheVariants.{Client as TheCli
 use crate::outgoing::give_up;
 use crate::{Incoming, Outgoing, ReadState, WriteState};
 use qh_base::{Code, Dir, Memory, StreamId};
+use qh_conduct::behaves;
 use qh_conn::Connection;
 use qh_message::{read_response, write_message};
 use qh_service::Message;
@@ -134,18 +135,17 @@ impl Client {
         ensures rest { connection.new ≡ with_streams connection.old connection.new.space.streams }
         ensures requests { self.new.requests ≡ self.old.requests }
         ensures places { length self.new.answers ≡ length self.old.answers }
+        ensures kept { KeepsAnswers self.old.answers self.new.answers }
         ensures opened { HasOpened self.old connection.old → HasOpened self.new connection.new }
-        ensures asks { (t : List Act) → Follows connection.old t → HasOpened self.old connection.old → Asking self.old t → Acted (Asking self.new) connection.new t }
+        ensures asks { (t : List Act) → Behaves connection.old t → HasOpened self.old connection.old → Asking self.old t → Acted (Asking self.new) connection.new t }
+        ensures going { OnOk result (AreLeft self.new.streams) }
+        ensures opens { OnOk result ((self.new.next ≡ length self.new.requests) ⊎ MayOpenNone connection.new) }
     {
         for at in 0..self.streams.len() {
             self.poll_stream(alloc, at, connection)?;
         }
+        self.open_all(alloc, connection)?;
         self.forget_done();
-        for _request in self.next..self.requests.len() {
-            if !self.open(alloc, connection)? {
-                break;
-            }
-        }
         Ok(())
     }
 
@@ -159,6 +159,7 @@ impl Client {
         requires within { at < length self.old.streams }
         ensures goes { Goes self.old connection.old self.new connection.new }
         ensures length { length self.new.streams ≡ length self.old.streams }
+        ensures next { self.new.next ≡ self.old.next }
     {
         let index = self.streams[at].index;
         let done = RequestStream {
@@ -201,13 +202,30 @@ impl Client {
         self.streams.retain(|stream| !stream.is_done());
     }
 
-    // Opens a stream for the next request, where the peer permits it, and goes on with it.
+    // Opens streams for further requests, as many as the peer permits, and goes on with each.
+    fn open_all<S>(&mut self, alloc: Global, connection: &mut Connection<S>) -> Result<(), Memory>
+        requires side { connection.old.side ≡ TheClient }
+        ensures goes { Goes self.old connection.old self.new connection.new }
+        ensures opens { OnOk result ((self.new.next ≡ length self.new.requests) ⊎ MayOpenNone connection.new) }
+    {
+        for _request in self.next..self.requests.len() {
+            if !self.open(alloc, connection)? {
+                return Ok(());
+            }
+        }
+        Ok(())
+    }
+
+    // Opens a stream for the next request, where the peer permits it, and goes on with it; whether it did.
     fn open<S>(&mut self, alloc: Global, connection: &mut Connection<S>) -> Result<bool, Memory>
         requires side { connection.old.side ≡ TheClient }
         ensures goes { Goes self.old connection.old self.new connection.new }
+        ensures more { result ≡ Ok true → self.new.next ≡ self.old.next + 1 }
+        ensures none { result ≡ Ok false → (self.new.next ≡ length self.new.requests) ⊎ MayOpenNone connection.new }
     {
         // An open connection has no error: its contract says so from here on.
         connection.is_owed();
+        behaves::<S>();
         if self.next == self.requests.len() {
             return Ok(false);
         }
@@ -286,7 +304,7 @@ impl RequestState {
         connection: &mut Connection<S>,
     ) -> Result<(RequestState, Option<Message>), Memory>
         ensures stirred { IsStirred connection.old connection.new }
-        ensures advances { (requests : List PlainMessage) (index : ℕ) (t : List Act) → Follows connection.old t → IsAskedIn requests t index self → Advances (IsAdvanced requests index result) requests index connection.new t }
+        ensures advances { (requests : List PlainMessage) (index : ℕ) (t : List Act) → Behaves connection.old t → IsAskedIn requests t index self → Advances (IsAdvanced requests index result) requests index connection.new t }
     {
         match self.send(alloc, connection)? {
             RequestState::Receiving(incoming) => receive(alloc, incoming, connection),
@@ -297,7 +315,7 @@ impl RequestState {
     // Sends what is left of the request.
     fn send<S>(self, alloc: Global, connection: &mut Connection<S>) -> Result<RequestState, Memory>
         ensures stirred { IsStirred connection.old connection.new }
-        ensures sends { (requests : List PlainMessage) (index : ℕ) (t : List Act) → Follows connection.old t → IsAskedIn requests t index self → Advances (IsSent requests index result) requests index connection.new t }
+        ensures sends { (requests : List PlainMessage) (index : ℕ) (t : List Act) → Behaves connection.old t → IsAskedIn requests t index self → Advances (IsSent requests index result) requests index connection.new t }
     {
         let RequestState::Sending(mut outgoing) = self else {
             return Ok(self);
@@ -321,7 +339,7 @@ fn receive<S>(
     connection: &mut Connection<S>,
 ) -> Result<(RequestState, Option<Message>), Memory>
     ensures stirred { IsStirred connection.old connection.new }
-    ensures receives { (requests : List PlainMessage) (index : ℕ) (t : List Act) → Follows connection.old t → incoming.stream ≡ 4 * index → IsReading t incoming → Advances (IsAdvanced requests index result) requests index connection.new t }
+    ensures receives { (requests : List PlainMessage) (index : ℕ) (t : List Act) → Behaves connection.old t → incoming.stream ≡ 4 * index → IsReading t incoming → Advances (IsAdvanced requests index result) requests index connection.new t }
 {
     let mut incoming = incoming;
     match incoming.read(connection)? {

@@ -1,5 +1,6 @@
 ghost use Rattle.std.specs.Prelude.{◌≡◌, ◌<◌, ◌++◌, [], ℕ, List, length, None, Some, Ok, OnOk, IfOk, IfSome};
-ghost use Rattle.qh_conn.specs.Follows.{Follows, take_acts};
+ghost use Rattle.qh_conduct.specs.Behaves.{Behaves};
+ghost use Rattle.qh_conn.specs.Follows.{take_acts};
 ghost use Rattle.qh_roles.specs.Steps.{IsTaken, so_far};
 ghost use Rattle.qh_roles.specs.Streams.{GivesNoMore, IsReading, IsStirred, NoneArrived, ReadsOn, WaitsToRead};
 ghost use Rattle.qh_roles.specs.declared.incoming.ReadState.TheVariants as reading;
@@ -7,6 +8,7 @@ ghost use Rattle.qh_spec.specs.Transcript.{Act, read};
 
 use qh_base::{Memory, StreamId};
 use qh_buffers::Chunk;
+use qh_conduct::behaves;
 use qh_conn::{Connection, TakeFault};
 use qh_streams::ReadFault;
 use std::alloc::Global;
@@ -63,7 +65,7 @@ impl Incoming {
     pub fn read<S>(&mut self, connection: &mut Connection<S>) -> Result<ReadState, Memory>
         ensures same { self.new.stream ≡ self.old.stream }
         ensures stirred { IsStirred connection.old connection.new }
-        ensures reads { (t : List Act) → Follows connection.old t → IsReading t self.old → ReadsOn result self.new connection.new t }
+        ensures reads { (t : List Act) → Behaves connection.old t → IsReading t self.old → ReadsOn result self.new connection.new t }
         ensures none_arrived { NoneArrived connection.old.space.streams connection.new.space.streams }
         ensures unwritten { connection.new.space.streams.send ≡ connection.old.space.streams.send }
         ensures blocked { result ≡ Ok reading.Blocked → WaitsToRead connection.new.space.streams.recv self.old.stream }
@@ -82,7 +84,7 @@ impl Incoming {
     fn read_piece<S>(&mut self, connection: &mut Connection<S>) -> Result<Option<ReadState>, Memory>
         ensures same { self.new.stream ≡ self.old.stream }
         ensures stirred { IsStirred connection.old connection.new }
-        ensures reads { (t : List Act) → Follows connection.old t → IsReading t self.old → ReadsOn (so_far result) self.new connection.new t }
+        ensures reads { (t : List Act) → Behaves connection.old t → IsReading t self.old → ReadsOn (so_far result) self.new connection.new t }
         ensures none_arrived { NoneArrived connection.old.space.streams connection.new.space.streams }
         ensures unwritten { connection.new.space.streams.send ≡ connection.old.space.streams.send }
         ensures blocked { result ≡ Ok (Some reading.Blocked) → WaitsToRead connection.new.space.streams.recv self.old.stream }
@@ -115,11 +117,12 @@ fn take_piece<S>(
     stream: StreamId,
 ) -> Result<Option<Chunk>, TakeFault>
     ensures stirred { IsStirred connection.old connection.new }
-    ensures follows { (t : List Act) → Follows connection.old t → Follows connection.new (t ++ take_acts stream.0 result) }
-    ensures in_order { IfOk result (λ o. IfSome o (λ c. (t : List Act) → Follows connection.old t → 0 < length c.bytes → c.offset ≡ length (read t stream.0))) }
+    ensures follows { (t : List Act) → Behaves connection.old t → Behaves connection.new (t ++ take_acts stream.0 result) }
+    ensures in_order { IfOk result (λ o. IfSome o (λ c. (t : List Act) → Behaves connection.old t → 0 < length c.bytes → c.offset ≡ length (read t stream.0))) }
     ensures none_arrived { NoneArrived connection.old.space.streams connection.new.space.streams }
     ensures unwritten { connection.new.space.streams.send ≡ connection.old.space.streams.send }
     ensures taken { IsTaken stream.0 result connection.old.space.streams.recv connection.new.space.streams.recv }
 {
+    behaves::<S>();
     connection.read(stream, PIECE, true)
 }

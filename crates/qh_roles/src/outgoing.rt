@@ -1,5 +1,6 @@
 ghost use Rattle.std.specs.Prelude.{◌≡◌, ◌++◌, ◌-◌, ◌^◌, ℕ, ◌<◌, ◌≤◌, List, length, min, IsSome, Ok, IfOk, OnOk, OnErr};
-ghost use Rattle.qh_conn.specs.Follows.{Follows, finish_acts};
+ghost use Rattle.qh_conduct.specs.Behaves.{Behaves};
+ghost use Rattle.qh_conn.specs.Follows.{finish_acts};
 ghost use Rattle.qh_halves.specs.SendHalves.{finish_fault_at};
 ghost use Rattle.qh_roles.specs.Steps.{IsPushed, Pushes, pushed};
 ghost use Rattle.qh_roles.specs.Streams.{AreOn, IsBlocked, IsFresh, IsGivenUp, IsOver, IsStirred, IsWriting, KeepsOver, NoneArrived, TakesNothing, Writes};
@@ -7,6 +8,7 @@ ghost use Rattle.qh_roles.specs.declared.outgoing.WriteState.TheVariants as writ
 ghost use Rattle.qh_spec.specs.Transcript.{Act};
 
 use qh_base::{Code, Memory, StreamId, VarInt};
+use qh_conduct::behaves;
 use qh_conn::Connection;
 use qh_streams::{FinishFault, WriteFault};
 use std::marker::Model;
@@ -67,7 +69,7 @@ impl Outgoing {
         ensures stirred { IsStirred connection.old connection.new }
         ensures none_arrived { NoneArrived connection.old.space.streams connection.new.space.streams }
         ensures over { KeepsOver connection.old.space.streams.send connection.new.space.streams.send }
-        ensures writes { (t : List Act) → Follows connection.old t → IsWriting t self.old → Writes result self.new connection.new t }
+        ensures writes { (t : List Act) → Behaves connection.old t → IsWriting t self.old → Writes result self.new connection.new t }
         ensures finished { result ≡ Ok writing.Finished → IsOver connection.new.space.streams.send self.old.stream }
         ensures blocked { result ≡ Ok writing.Blocked → IsBlocked connection.old self.old self.new }
         ensures refused { result ≡ Ok writing.Refused → TakesNothing connection.old.space.streams.send self.old }
@@ -88,7 +90,7 @@ impl Outgoing {
         ensures stirred { IsStirred connection.old connection.new }
         ensures none_arrived { NoneArrived connection.old.space.streams connection.new.space.streams }
         ensures over { KeepsOver connection.old.space.streams.send connection.new.space.streams.send }
-        ensures writes { (t : List Act) → Follows connection.old t → IsWriting t self.now → Writes (Ok result) self.now connection.new t }
+        ensures writes { (t : List Act) → Behaves connection.old t → IsWriting t self.now → Writes (Ok result) self.now connection.new t }
         ensures finished { result ≡ writing.Finished → IsOver connection.new.space.streams.send self.now.stream }
         ensures blocked { result ≡ writing.Blocked → self.now.taken < length self.now.bytes }
         ensures refused { result ≡ writing.Refused → (self.now.taken ≡ length self.now.bytes) × IsSome (finish_fault_at connection.old.space.streams.send self.now.stream) }
@@ -113,12 +115,13 @@ fn push<S>(
     ensures stirred { IsStirred connection.old connection.new }
     ensures none_arrived { NoneArrived connection.old.space.streams connection.new.space.streams }
     ensures over { KeepsOver connection.old.space.streams.send connection.new.space.streams.send }
-    ensures pushes { (t : List Act) → Follows connection.old t → Pushes stream.0 (pushed bytes.now result) connection.new t }
+    ensures pushes { (t : List Act) → Behaves connection.old t → Pushes stream.0 (pushed bytes.now result) connection.new t }
     ensures pushed { IsPushed stream.0 bytes.now result connection.old connection.new }
 {
     if bytes.is_empty() {
         return Ok(0);
     }
+    behaves::<S>();
     connection.write(stream, bytes)
 }
 
@@ -127,10 +130,11 @@ fn finish<S>(connection: &mut Connection<S>, stream: StreamId) -> Result<(), Fin
     ensures stirred { IsStirred connection.old connection.new }
     ensures none_arrived { NoneArrived connection.old.space.streams connection.new.space.streams }
     ensures over { KeepsOver connection.old.space.streams.send connection.new.space.streams.send }
-    ensures follows { (t : List Act) → Follows connection.old t → Follows connection.new (t ++ finish_acts stream.0 result) }
+    ensures follows { (t : List Act) → Behaves connection.old t → Behaves connection.new (t ++ finish_acts stream.0 result) }
     ensures finished { OnOk result (IsOver connection.new.space.streams.send stream.0) }
     ensures fault { OnErr result (IsSome (finish_fault_at connection.old.space.streams.send stream.0)) }
 {
+    behaves::<S>();
     connection.finish(stream)
 }
 
@@ -139,10 +143,11 @@ pub(crate) fn give_up<S>(connection: &mut Connection<S>, stream: StreamId, code:
     ensures stirred { IsStirred connection.old connection.new }
     ensures none_arrived { NoneArrived connection.old.space.streams connection.new.space.streams }
     ensures over { KeepsOver connection.old.space.streams.send connection.new.space.streams.send }
-    ensures acted { (t : List Act) → Follows connection.old t → (acts : List Act) × AreOn stream.0 acts × IsFresh acts stream.0 × Follows connection.new (t ++ acts) }
+    ensures acted { (t : List Act) → Behaves connection.old t → (acts : List Act) × AreOn stream.0 acts × IsFresh acts stream.0 × Behaves connection.new (t ++ acts) }
     ensures done { IsOver connection.new.space.streams.send stream.0 }
     ensures given_up { IsGivenUp connection.old.space.streams.send connection.new.space.streams.send stream.0 code.0 }
 {
+    behaves::<S>();
     let _refused = connection.reset(stream, number_of(code));
 }
 

@@ -1,10 +1,23 @@
-use Rattle.std.proofs.Common.{refl, true}
-use Rattle.qh_exchange.proofs.EndSteps.{new_end}
+use Rattle.std.proofs.Common.{◌≡◌, ◌∙◌, Result, Ok, ap, refl}
+use Rattle.qh_base.specs.declared.memory.Memory.{Memory}
+use Rattle.qh_packet.specs.Session.{PlainKeys}
+use Rattle.qh_exchange.specs.Pair.{End}
+use Rattle.qh_exchange.proofs.EndTicks.{new_end}
 use Rattle.qh_exchange.proofs.ends.open_end.Goals as goal
+
+key_of : (s r : PlainKeys) → ◌≡◌ {A = Result PlainKeys Memory} (Ok s) (Ok r) → s.key_id ≡ r.key_id
+key_of s r e = let same : s ≡ r = cc in ap (λ (z : PlainKeys). z.key_id) same
 
 pub returns : goal.returns
 returns c =
     let ids = c.ids_from-local.ensures in
+    let made = c.new-2.ensures in
     record {
-      end = new_end _ _ _ _ _ _ c.new-2.ensures.value (record { side_is = refl; local = ids.0; remote = ids.1; config_is = refl }) c.new-2.ensures.follows (c.new-2.ensures.space.counts true) refl refl;
+      end = new_end _ _ _ _ _ _ made.value (record { side_is = refl; local = ids.lengths.0; remote = ids.lengths.1; config_is = refl }) made.space
+          (λ space. c.behaves.ensures.fresh c.new-2.result space made.follows) refl refl refl;
+      names = record {
+        local_is = ap (λ (z : End). z.local_id) made.value ∙ ids.are.0;
+        remote_is = ap (λ (z : End). z.remote_id) made.value ∙ ids.are.1;
+        key_is = ap (λ (z : End). z.session.key_id) made.value ∙ key_of c.in_ok-session.session _ c.in_ok-session.ensures;
+      };
     }

@@ -5,37 +5,41 @@ use Rattle.qh_spec.specs.Turns.{IsIntake}
 use Rattle.qh_spec.specs.declared.link.Event.TheVariants.{Given, Dry}
 use Rattle.qh_link.specs.Link.{take_events, fault_events}
 use Rattle.qh_exchange.specs.EndCalls.{AreGiven}
-use Rattle.qh_exchange.proofs.EndSteps.{end_trans, end_fails, end_kind, end_idle, end_given, end_ungiven, given_none, given_more, given_dry, given_full, counts_more, counts_fault, link_error, end_refl}
+use Rattle.qh_exchange.proofs.ClockSteps.{counts_link_fault, is_link_error}
+use Rattle.qh_exchange.proofs.EndCounts.{given_none, given_more, given_dry, given_full, counts_more}
+use Rattle.qh_exchange.proofs.EndSteps.{end_trans, end_fails, end_kind, end_idle, end_given, end_ungiven, end_refl, end_step}
 use Rattle.qh_exchange.proofs.Wire.{silent_fault}
 use Rattle.qh_exchange.proofs.ends.take_datagrams.Goals as goal
 
 pub loop-datagram-init : goal.loop-datagram-init
-loop-datagram-init g c = record { step = end_refl true c.args.now c.args.side _ _ _ (given_none c.args.side); moments = refl; faults = search rules; plan = refl }
+loop-datagram-init g c = record { step = end_refl c.args.now c.args.side _ _ _ (given_none c.args.side); moments = refl; faults = search rules; plan = refl }
 
 pub returns-in_err-len-clause-step : goal.returns-in_err-len-clause-step
 returns-in_err-len-clause-step g c =
     let p = err_from_is_err_and c.from_residual.result c.from_residual.ensures.1 in
     let e = c.in_err-len.field-0.0 in
     rw p.1
-    (end_fails false c.args.now c.args.side _ _ _ _ _ _ _ (λ more. Unit {0}) c.loop-datagram.invariant.step
-    (end_idle false c.args.now c.args.side _ _ _ (fault_events e) (λ more. Unit {0}) c.in_err-len.ensures.events tt (silent_fault _ e) (silent_fault _ e)))
+    (end_step false c.args.now c.args.side _ _ _ _ (λ more. Unit {0}) c.is_owed.ensures.open
+    (end_fails c.args.now c.args.side _ _ _ _ _ _ _ (λ more. Unit {0}) c.loop-datagram.invariant.step
+    (end_idle false c.args.now c.args.side _ _ _ (fault_events e) (λ more. Unit {0}) c.in_err-len.ensures.events tt (silent_fault _ e) (silent_fault _ e))))
 
 pub returns-in_err-len-clause-cause : goal.returns-in_err-len-clause-cause
 returns-in_err-len-clause-cause g c =
     let p = err_from_is_err_and c.from_residual.result c.from_residual.ensures.1 in
-    rw (p.1, p.2) (counts_more _ _ _ _ c.loop-datagram.invariant.faults (counts_fault _ _ c.in_err-len.field-0.0 c.in_err-len.ensures.cause))
+    rw (p.1, p.2) (counts_more _ _ _ _ c.loop-datagram.invariant.faults (counts_link_fault _ _ c.in_err-len.field-0.0 c.in_err-len.ensures.cause))
 
 pub returns-in_err-len-clause-errors : goal.returns-in_err-len-clause-errors
 returns-in_err-len-clause-errors g c =
-    let p = err_from_is_err_and c.from_residual.result c.from_residual.ensures.1 in rw (p.1, p.2) (link_error c.in_err-len.field-0.0)
+    let p = err_from_is_err_and c.from_residual.result c.from_residual.ensures.1 in rw (p.1, p.2) (is_link_error c.in_err-len.field-0.0)
 
 pub returns-in_default-clause-step : goal.returns-in_default-clause-step
 returns-in_default-clause-step g c =
     let dry : g.L.Link.events c.take.new.self ≡ told (g.L.Link.events c.loop-datagram.link) (Dry c.args.side ∷ []) =
     c.in_ok-len.ensures.events ∙ ap (λ (r : Option ℕ). told (g.L.Link.events c.loop-datagram.link) (take_events c.args.side c.take.new.buf (Ok r))) c.in_default.is in
-    end_trans true c.args.now c.args.side _ _ _ _ _ _ _ (λ more. more ≡ Dry c.args.side ∷ []) (IsIntake c.args.side) c.loop-datagram.invariant.step
+    end_step true c.args.now c.args.side _ _ _ _ (IsIntake c.args.side) c.is_owed.ensures.open
+    (end_trans true c.args.now c.args.side _ _ _ _ _ _ _ (λ more. more ≡ Dry c.args.side ∷ []) (IsIntake c.args.side) c.loop-datagram.invariant.step
     (end_idle true c.args.now c.args.side _ _ _ (Dry c.args.side ∷ []) (λ more. more ≡ Dry c.args.side ∷ []) dry refl refl refl)
-    (λ x y k m. rw m (given_dry c.args.side c.loop-datagram._datagram x (omega arith) k))
+    (λ x y k m. rw m (given_dry c.args.side c.loop-datagram._datagram x (omega arith) k)))
 
 pub returns-in_err-hand_in-clause-step : goal.returns-in_err-hand_in-clause-step
 returns-in_err-hand_in-clause-step g c =
@@ -43,16 +47,18 @@ returns-in_err-hand_in-clause-step g c =
     let given : g.L.Link.events c.take.new.self ≡ told (g.L.Link.events c.loop-datagram.link) (Given c.args.side (take c.in-Some.len c.take.new.buf) ∷ []) =
     c.in_ok-len.ensures.events ∙ ap (λ (r : Option ℕ). told (g.L.Link.events c.loop-datagram.link) (take_events c.args.side c.take.new.buf (Ok r))) c.in-Some.is in
     rw p.1
-    (end_fails false c.args.now c.args.side _ _ _ _ _ _ _ (λ more. Unit {0}) c.loop-datagram.invariant.step
-    (end_ungiven c.args.now c.args.side _ _ _ _ (take c.in-Some.len c.take.new.buf) (λ more. Unit {0}) given tt c.in_err-hand_in.ensures.same_end c.in_err-hand_in.ensures.undisturbed c.in_err-hand_in.ensures.follows))
+    (end_step false c.args.now c.args.side _ _ _ _ (λ more. Unit {0}) c.is_owed.ensures.open
+    (end_fails c.args.now c.args.side _ _ _ _ _ _ _ (λ more. Unit {0}) c.loop-datagram.invariant.step
+    (end_ungiven c.args.now c.args.side _ _ _ _ (take c.in-Some.len c.take.new.buf) (λ more. Unit {0}) given tt c.in_err-hand_in.ensures.same_end c.in_err-hand_in.ensures.undisturbed c.in_err-hand_in.ensures.behaves)))
 
 pub loop-datagram-preserved : goal.loop-datagram-preserved
 loop-datagram-preserved g c =
     let given : g.L.Link.events c.take.new.self ≡ told (g.L.Link.events c.loop-datagram.link) (Given c.args.side (take c.in-Some.len c.take.new.buf) ∷ []) =
     c.in_ok-len.ensures.events ∙ ap (λ (r : Option ℕ). told (g.L.Link.events c.loop-datagram.link) (take_events c.args.side c.take.new.buf (Ok r))) c.in-Some.is in
+    let handed = c.in_ok-hand_in.ensures in
     record {
       step = end_trans true c.args.now c.args.side _ _ _ _ _ _ _ (λ more. more ≡ Given c.args.side (take c.in-Some.len c.take.new.buf) ∷ []) (AreGiven c.args.side (c.loop-datagram._datagram + 1)) c.loop-datagram.invariant.step
-          (end_given c.args.now c.args.side _ _ _ _ (take c.in-Some.len c.take.new.buf) (λ more. more ≡ Given c.args.side (take c.in-Some.len c.take.new.buf) ∷ []) given refl c.in_ok-hand_in.ensures.same_end c.in_ok-hand_in.ensures.undisturbed c.in_ok-hand_in.ensures.follows)
+          (end_given c.args.now c.args.side _ _ _ _ (take c.in-Some.len c.take.new.buf) (λ more. more ≡ Given c.args.side (take c.in-Some.len c.take.new.buf) ∷ []) given refl handed.same_end handed.undisturbed handed.behaves handed.sound)
           (λ x y k m. rw m (given_more c.args.side c.loop-datagram._datagram (take c.in-Some.len c.take.new.buf) x k));
       moments = c.in_ok-len.ensures.moments ∙ c.loop-datagram.invariant.moments;
       faults = (let a = c.loop-datagram.invariant.faults in let b = c.in_ok-len.ensures.cause.stays in omega arith);
@@ -60,4 +66,6 @@ loop-datagram-preserved g c =
     }
 
 pub returns-clause-step : goal.returns-clause-step
-returns-clause-step g c = end_kind true c.args.now c.args.side _ _ _ _ _ (IsIntake c.args.side) c.loop-datagram.invariant.step (λ x k. given_full c.args.side x (let e : c.loop-datagram._datagram ≡ 65536 = omega arith in subst (λ (n : ℕ). AreGiven c.args.side n x) e k))
+returns-clause-step g c =
+    end_step true c.args.now c.args.side _ _ _ _ (IsIntake c.args.side) c.is_owed.ensures.open
+    (end_kind true c.args.now c.args.side _ _ _ _ _ (IsIntake c.args.side) c.loop-datagram.invariant.step (λ x k. given_full c.args.side x (let e : c.loop-datagram._datagram ≡ 65536 = omega arith in subst (λ (n : ℕ). AreGiven c.args.side n x) e k)))

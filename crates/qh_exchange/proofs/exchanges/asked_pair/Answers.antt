@@ -1,4 +1,4 @@
-use Rattle.qh_exchange.proofs.Rounds.{askable, asked}
+use Rattle.qh_exchange.proofs.AskedLists.{askable, asked}
 use Rattle.qh_exchange.proofs.exchanges.asked_pair.Goals as goal
 
 pub ask-requires-clause-askable : goal.ask-requires-clause-askable

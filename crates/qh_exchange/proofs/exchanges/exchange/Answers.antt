@@ -5,7 +5,9 @@ use Rattle.qh_spec.specs.Headline.{AnsweredOnce}
 use Rattle.qh_spec.specs.Message.{PlainMessage}
 use Rattle.qh_spec.proofs.HeadlineLaws.{served_nothing}
 use Rattle.qh_exchange.proofs.Turns.{grew_same, never_failed}
-use Rattle.qh_exchange.proofs.Rounds.{answered_once, count_held, ends_idle, ends_out, held_by, invalid_still, is_invalid, is_nothing, is_something, list_no_link, list_not_idle, list_not_lost, list_not_out, not_invalid, nothing_asked, nothing_valid, served_once, tells, was_lost, within_all, within_none}
+use Rattle.qh_exchange.proofs.RoundsFair.{ends_fairly, list_fairly}
+use Rattle.qh_exchange.proofs.AskedLists.{invalid_still, is_invalid, is_nothing, is_something, list_no_link, list_not_idle, list_not_lost, list_not_out, nothing_valid}
+use Rattle.qh_exchange.proofs.ExchangeEnds.{answered_once, count_held, ends_idle, ends_out, held_by, not_invalid, nothing_asked, served_once, tells, was_lost, within_all, within_none}
 use Rattle.qh_exchange.proofs.exchanges.exchange.Goals as goal
 
 -- ---- an empty list
@@ -56,6 +58,11 @@ pub returns-in_err-valid-clause-timed_out : goal.returns-in_err-valid-clause-tim
 returns-in_err-valid-clause-timed_out g c =
     let p = err_from_is_err_and c.from_residual.result c.from_residual.ensures.1 in
     rw (p.1, p.2) (list_not_idle (held_by _ _ c.from_residual.result) _ _ c.in_err-valid.ensures.errors)
+
+pub returns-in_err-valid-clause-fair : goal.returns-in_err-valid-clause-fair
+returns-in_err-valid-clause-fair g c =
+    let p = err_from_is_err_and c.from_residual.result c.from_residual.ensures.1 in
+    rw (p.1, p.2) (λ events te ue honest. list_fairly (held_by _ _ c.from_residual.result) _ _ events _ c.in_err-valid.ensures.errors)
 
 pub returns-in_err-valid-clause-lost : goal.returns-in_err-valid-clause-lost
 returns-in_err-valid-clause-lost g c =
@@ -151,6 +158,11 @@ pub returns-in_err-make_rounds-clause-timed_out : goal.returns-in_err-make_round
 returns-in_err-make_rounds-clause-timed_out g c =
     let p = err_from_is_err_and c.from_residual-in_err-make_rounds.result c.from_residual-in_err-make_rounds.ensures.1 in
     rw (p.1, p.2) (ends_idle (held_by _ _ c.from_residual-in_err-make_rounds.result) _ _ _ _ _ (ap (λ (z : ConnConfig). z.idle) c.in_ok-pair.ensures.config_is) c.in_err-make_rounds.ensures.made.timed_out)
+
+pub returns-in_err-make_rounds-clause-fair : goal.returns-in_err-make_rounds-clause-fair
+returns-in_err-make_rounds-clause-fair g c =
+    let p = err_from_is_err_and c.from_residual-in_err-make_rounds.result c.from_residual-in_err-make_rounds.ensures.1 in
+    rw (p.1, p.2) (ends_fairly (held_by _ _ c.from_residual-in_err-make_rounds.result) _ _ _ _ _ _ _ c.in_ok-pair.ensures.running c.in_ok-pair.ensures.ids c.in_ok-pair.ensures.config_is c.in_err-make_rounds.ensures.fair)
 
 pub returns-in_err-make_rounds-clause-lost : goal.returns-in_err-make_rounds-clause-lost
 returns-in_err-make_rounds-clause-lost g c =

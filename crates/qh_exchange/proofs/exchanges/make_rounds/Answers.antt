@@ -1,6 +1,7 @@
 use Rattle.std.proofs.Common.{◌≡◌, ◌∙◌, refl, true, false, arith}
 use Rattle.std.proofs.lemmas.Result.{err_from_is_err_and}
 use Rattle.qh_exchange.proofs.Turns.{counts_after, never_failed, grew_none}
+use Rattle.qh_exchange.proofs.RoundsFair.{rounds_fair}
 use Rattle.qh_exchange.proofs.Rounds.{grew_within, none_made, one_more, rounds_lost, rounds_done, rounds_out}
 use Rattle.qh_exchange.proofs.exchanges.make_rounds.Goals as goal
 
@@ -16,6 +17,12 @@ loop-round-preserved g c = record {
   plan = c.turn.ensures.plan ∙ c.loop-round.invariant.plan;
   answered = grew_within g.V.Service.may_answer _ _ _ _ _ _ c.loop-round.invariant.answered c.loop-round.invariant.made.limits c.turn.ensures.answered refl;
 }
+
+pub returns-in_err-turn-clause-fair : goal.returns-in_err-turn-clause-fair
+returns-in_err-turn-clause-fair g c =
+    let p = err_from_is_err_and c.from_residual.result c.from_residual.ensures.1 in
+    rw (p.1, p.2)
+    (rounds_fair _ _ _ _ _ _ _ _ _ _ _ _ _ _ _ c.loop-round.invariant.made c.turn.ensures.goes_on c.in_err-turn.ensures.fair)
 
 pub returns-in_err-turn-clause-made : goal.returns-in_err-turn-clause-made
 returns-in_err-turn-clause-made g c =

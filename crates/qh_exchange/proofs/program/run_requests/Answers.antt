@@ -15,6 +15,7 @@ returns c = λ s as_.
       answers = x.answers;
       cause = x.cause;
       timed_out = x.timed_out;
+      fair = x.fair;
       lost = x.lost;
       out_of_rounds = x.out_of_rounds;
     })

@@ -1,10 +1,20 @@
 use Rattle.std.proofs.Common.{true}
+use Rattle.std.proofs.lemmas.Result.{MatchResult-from_both}
+use Rattle.qh_roles.proofs.Calling.{read_in_order}
 use Rattle.qh_roles.proofs.Reading.{none_arrived, taken, unwritten}
 use Rattle.qh_roles.proofs.Stirred.{stirred_read}
 use Rattle.qh_roles.proofs.incoming.take_piece.Goals as goal
 
 pub returns-clause-stirred : goal.returns-clause-stirred
 returns-clause-stirred g c = stirred_read c.args.connection.now c.read.new.self 65536 c.args.stream.0 true c.read.result c.read.ensures.ok c.read.ensures.fault c.read.ensures.rest
+
+pub returns-clause-follows : goal.returns-clause-follows
+returns-clause-follows g c = λ t b.
+    c.behaves.ensures.read 65536 true c.args.stream.0 c.read.result c.args.connection.now c.read.new.self t (MatchResult-from_both c.read.result _ _ c.read.ensures.ok c.read.ensures.fault)
+    c.read.ensures.rest (c.read.ensures.follows t b.follows) b
+
+pub returns-clause-in_order : goal.returns-clause-in_order
+returns-clause-in_order g c = read_in_order c.args.stream.0 c.read.result c.args.connection.now c.read.ensures.in_order
 
 pub returns-clause-none_arrived : goal.returns-clause-none_arrived
 returns-clause-none_arrived g c = none_arrived 65536 c.args.stream.0 true c.read.result c.args.connection.now.space.streams c.read.new.self.space.streams c.read.ensures.ok c.read.ensures.fault

@@ -1,13 +1,14 @@
-use Rattle.std.proofs.Common.{◌≡◌, refl, sym, ◌∙◌, ap, subst, ◌++◌, ◌∷◌, [], List, Some}
-use Rattle.std.proofs.lemmas.Result.{err_from_is_err_and, IfOk-weaker, IfErr-weaker}
+use Rattle.std.proofs.Common.{◌≡◌, refl, ◌∙◌, ap, ◌++◌, ◌∷◌, [], List, Err, Some}
+use Rattle.std.proofs.lemmas.Result.{err_from_is_err_and, IfErr-weaker}
 use Rattle.qh_spec.specs.declared.link.Event.{Event}
 use Rattle.qh_spec.specs.declared.link.Event.TheVariants.{Round}
-use Rattle.qh_spec.specs.Turns.{IsWholeTurn}
-use Rattle.qh_exchange.specs.Steps.{AreIntakes, AreOutputs, IsLinkError}
+use Rattle.qh_exchange.specs.Steps.{AreIntakes, IsLinkError}
 use Rattle.qh_exchange.specs.Turn.{IsTurnError}
 use Rattle.qh_exchange.proofs.ClockSteps.{is_turn_error, link_no_protocol}
-use Rattle.qh_exchange.proofs.PairSteps.{step_trans, step_kind, step_fails, step_rests}
-use Rattle.qh_exchange.proofs.Turns.{ticks_link, ticks_lost, ticks_last, ok_always, no_protocol, counts_after, never_failed, grew_none, grew_same, whole_turn}
+use Rattle.qh_exchange.proofs.Fairness.{fair_last, fair_link, fair_tick, in_order}
+use Rattle.qh_exchange.proofs.FullTurns.{turned_full}
+use Rattle.qh_exchange.proofs.PairSteps.{step_fails, step_kind, step_trans}
+use Rattle.qh_exchange.proofs.Turns.{begun, ended_at, ticks_link, ticks_lost, ticks_last, ok_always, no_protocol, counts_after, never_failed, grew_none, grew_same}
 use Rattle.qh_exchange.proofs.pair.Pair.advance.Goals as goal
 
 -- what each step asks
@@ -27,6 +28,9 @@ tick-requires-clause-open g c = c.in_ok-receive.ensures.open
 pub tick-requires-clause-over : goal.tick-requires-clause-over
 tick-requires-clause-over g c = (c.in_ok-receive.ensures.step []).same.over ∙ (c.in_ok-now.ensures.step []).same.over ∙ c.requires.over
 
+pub tick-requires-clause-bound : goal.tick-requires-clause-bound
+tick-requires-clause-bound g c = c.in_ok-now.ensures.bound
+
 pub tick-requires-clause-counted : goal.tick-requires-clause-counted
 tick-requires-clause-counted g c = (c.in_ok-receive.ensures.step []).counted refl
 
@@ -38,27 +42,33 @@ converse-requires-clause-going g c = c.in_ok-tick.ensures.going
 
 pub converse-requires-clause-over : goal.converse-requires-clause-over
 converse-requires-clause-over g c =
-    c.tick.ensures.still.same.over ∙ (c.in_ok-receive.ensures.step []).same.over ∙ (c.in_ok-now.ensures.step []).same.over ∙ c.requires.over
+    (c.tick.ensures.step (Some []) []).same.over ∙ (c.in_ok-receive.ensures.step []).same.over ∙ (c.in_ok-now.ensures.step []).same.over ∙ c.requires.over
 
 pub converse-requires-clause-counted : goal.converse-requires-clause-counted
-converse-requires-clause-counted g c = c.tick.ensures.still.counted
+converse-requires-clause-counted g c = (c.in_ok-tick.ensures.step (Some []) []).counted refl
+
+pub is_up-requires : goal.is_up-requires
+is_up-requires g c = c.converse.ensures.going
 
 pub transmit-requires-clause-open : goal.transmit-requires-clause-open
 transmit-requires-clause-open g c = c.converse.ensures.open
 
+pub transmit-requires-clause-going : goal.transmit-requires-clause-going
+transmit-requires-clause-going g c = c.converse.ensures.going
+
 pub transmit-requires-clause-over : goal.transmit-requires-clause-over
 transmit-requires-clause-over g c =
-    (c.converse.ensures.step (Some [])).same.over ∙ c.tick.ensures.still.same.over ∙ (c.in_ok-receive.ensures.step []).same.over ∙ (c.in_ok-now.ensures.step []).same.over ∙ c.requires.over
+    (c.converse.ensures.step 0 (Some [])).same.over ∙ (c.tick.ensures.step (Some []) []).same.over ∙ (c.in_ok-receive.ensures.step []).same.over ∙ (c.in_ok-now.ensures.step []).same.over ∙ c.requires.over
 
 pub transmit-requires-clause-counted : goal.transmit-requires-clause-counted
-transmit-requires-clause-counted g c = (c.converse.ensures.step (Some [])).counted refl
+transmit-requires-clause-counted g c = (c.converse.ensures.step 0 (Some [])).counted refl
 
 -- where the round didn't begin
 
 pub returns-in_err-now-clause-step : goal.returns-in_err-now-clause-step
 returns-in_err-now-clause-step g c =
     let p = err_from_is_err_and c.from_residual.result c.from_residual.ensures.1 in
-    rw p.1 (step_kind _ _ _ _ _ _ _ _ _ (c.in_err-now.ensures.step _) (λ x k. tt))
+    rw p.1 (step_kind _ _ _ _ _ _ _ _ _ _ (c.in_err-now.ensures.step _) (λ x k. tt))
 
 pub returns-in_err-now-clause-clock : goal.returns-in_err-now-clause-clock
 returns-in_err-now-clause-clock g c =
@@ -69,6 +79,11 @@ returns-in_err-now-clause-clock g c =
 pub returns-in_err-now-clause-cause : goal.returns-in_err-now-clause-cause
 returns-in_err-now-clause-cause g c =
     let p = err_from_is_err_and c.from_residual.result c.from_residual.ensures.1 in rw (p.1, p.2) c.in_err-now.ensures.cause
+
+pub returns-in_err-now-clause-fair : goal.returns-in_err-now-clause-fair
+returns-in_err-now-clause-fair g c =
+    let p = err_from_is_err_and c.from_residual.result c.from_residual.ensures.1 in
+    rw (p.1, p.2) (λ earlier events more entries run sound told_old told_new honest. fair_link (Unit {0}) _ _ _ _ c.in_err-now.ensures.errors)
 
 pub returns-in_err-now-clause-lost : goal.returns-in_err-now-clause-lost
 returns-in_err-now-clause-lost g c =
@@ -86,7 +101,10 @@ returns-in_err-now-clause-answered g c = grew_none _ _
 pub returns-in_err-receive-clause-step : goal.returns-in_err-receive-clause-step
 returns-in_err-receive-clause-step g c =
     let p = err_from_is_err_and c.from_residual-in_err-receive.result c.from_residual-in_err-receive.ensures.1 in
-    rw p.1 (step_trans _ _ _ _ _ _ _ _ _ _ _ _ _ (c.in_ok-now.ensures.step _) (c.in_err-receive.ensures.step _) (λ x y k m. tt))
+    rw p.1
+    (step_fails _ _ _ _ _ _ _ _ _ (λ (more : List Event). Unit {0}) _
+    (step_trans _ _ _ _ _ _ _ _ _ _ _ _ _ (λ (more : List Event). Unit {0}) (begun _ _ _ _ _ _ _ _ _ _ _ c.in_ok-now.ensures.round (c.in_ok-now.ensures.step _)) (c.in_err-receive.ensures.step _) (λ x y k m. tt))
+    (λ x k. tt))
 
 pub returns-in_err-receive-clause-clock : goal.returns-in_err-receive-clause-clock
 returns-in_err-receive-clause-clock g c =
@@ -99,6 +117,11 @@ pub returns-in_err-receive-clause-cause : goal.returns-in_err-receive-clause-cau
 returns-in_err-receive-clause-cause g c =
     let p = err_from_is_err_and c.from_residual-in_err-receive.result c.from_residual-in_err-receive.ensures.1 in
     rw (p.1, p.2) (counts_after _ _ _ _ c.in_ok-now.ensures.cause.stays c.in_err-receive.ensures.cause)
+
+pub returns-in_err-receive-clause-fair : goal.returns-in_err-receive-clause-fair
+returns-in_err-receive-clause-fair g c =
+    let p = err_from_is_err_and c.from_residual-in_err-receive.result c.from_residual-in_err-receive.ensures.1 in
+    rw (p.1, p.2) (λ earlier events more entries run sound told_old told_new honest. fair_link (Unit {0}) _ _ _ _ c.in_err-receive.ensures.errors)
 
 pub returns-in_err-receive-clause-lost : goal.returns-in_err-receive-clause-lost
 returns-in_err-receive-clause-lost g c =
@@ -119,10 +142,20 @@ pub returns-in_err-tick-clause-step : goal.returns-in_err-tick-clause-step
 returns-in_err-tick-clause-step g c =
     let p = err_from_is_err_and c.from_residual-in_err-tick.result c.from_residual-in_err-tick.ensures.1 in
     rw p.1
-    (step_fails _ _ _ _ _ _ (λ (more : List Event). Unit {0}) _
-    (step_rests _ _ _ _ _ _ _ (λ (more : List Event). Unit {0})
-    (step_trans _ _ _ _ _ _ _ _ _ _ _ _ (λ (more : List Event). Unit {0}) (c.in_ok-now.ensures.step _) (c.in_ok-receive.ensures.step _) (λ x y k m. tt)) c.tick.ensures.still)
+    (step_fails _ _ _ _ _ _ _ _ _ (λ (more : List Event). Unit {0}) _
+    (step_trans _ _ _ _ _ _ _ _ _ _ _ (λ (more : List Event). Unit {0}) _ (λ (more : List Event). Unit {0})
+    (step_trans _ _ _ _ _ _ _ _ _ _ _ _ _ (λ (more : List Event). Unit {0}) (begun _ _ _ _ _ _ _ _ _ _ _ c.in_ok-now.ensures.round (c.in_ok-now.ensures.step _)) (c.in_ok-receive.ensures.step _) (λ x y k m. tt))
+    (c.in_err-tick.ensures.step _ _) (λ x y k m. tt))
     (λ x k. tt))
+
+pub returns-in_err-tick-clause-fair : goal.returns-in_err-tick-clause-fair
+returns-in_err-tick-clause-fair g c =
+    let p = err_from_is_err_and c.from_residual-in_err-tick.result c.from_residual-in_err-tick.ensures.1 in
+    rw (p.1, p.2)
+    (fair_tick _ _ _ _ _ [] _ (λ (more : List Event). Unit {0}) _ (Err c.in_err-tick.field-0.0)
+    (step_trans _ _ _ _ _ _ _ _ _ _ _ _ _ (λ (more : List Event). Unit {0})
+    (begun _ _ _ _ _ _ _ _ _ _ _ c.in_ok-now.ensures.round (c.in_ok-now.ensures.step [])) (c.in_ok-receive.ensures.step []) (λ x y k m. tt))
+    (g.met.L.Link.same_rounds _) (λ es e. g.met.L.Link.same_rounds _ es e ∙ (c.receive.ensures.moments ∙ c.in_ok-now.ensures.round)) c.in_ok-now.ensures.order c.in_err-tick.ensures.fair)
 
 pub returns-in_err-tick-clause-clock : goal.returns-in_err-tick-clause-clock
 returns-in_err-tick-clause-clock g c =
@@ -157,11 +190,12 @@ pub returns-in_err-converse-clause-step : goal.returns-in_err-converse-clause-st
 returns-in_err-converse-clause-step g c =
     let p = err_from_is_err_and c.from_residual-in_err-converse.result c.from_residual-in_err-converse.ensures.1 in
     rw p.1
-    (step_fails _ _ _ _ _ _ (λ (more : List Event). Unit {0}) _
-    (step_trans _ _ _ _ _ _ _ _ _ _ (λ (more : List Event). Unit {0}) _ (λ (more : List Event). Unit {0})
-    (step_rests _ _ _ _ _ _ _ (λ (more : List Event). Unit {0})
-    (step_trans _ _ _ _ _ _ _ _ _ _ _ _ (λ (more : List Event). Unit {0}) (c.in_ok-now.ensures.step _) (c.in_ok-receive.ensures.step _) (λ x y k m. tt)) c.tick.ensures.still)
-    (c.converse.ensures.step _) (λ x y k m. tt))
+    (step_fails _ _ _ _ _ _ _ _ _ (λ (more : List Event). Unit {0}) _
+    (step_trans _ _ _ _ _ _ _ _ _ _ _ (λ (more : List Event). Unit {0}) _ (λ (more : List Event). Unit {0})
+    (step_trans _ _ _ _ _ _ _ _ _ _ _ (λ (more : List Event). Unit {0}) _ (λ (more : List Event). Unit {0})
+    (step_trans _ _ _ _ _ _ _ _ _ _ _ _ _ (λ (more : List Event). Unit {0}) (begun _ _ _ _ _ _ _ _ _ _ _ c.in_ok-now.ensures.round (c.in_ok-now.ensures.step _)) (c.in_ok-receive.ensures.step _) (λ x y k m. tt))
+    (c.in_ok-tick.ensures.step _ _) (λ x y k m. tt))
+    (c.converse.ensures.step _ _) (λ x y k m. tt))
     (λ x k. tt))
 
 pub returns-in_err-converse-clause-clock : goal.returns-in_err-converse-clause-clock
@@ -174,6 +208,11 @@ returns-in_err-converse-clause-cause g c =
     let p = err_from_is_err_and c.from_residual-in_err-converse.result c.from_residual-in_err-converse.ensures.1 in
     rw (p.1, p.2) (counts_after _ _ _ _ c.in_ok-now.ensures.cause.stays (never_failed _ _ _ refl c.in_ok-receive.ensures.cause.stays))
 
+pub returns-in_err-converse-clause-fair : goal.returns-in_err-converse-clause-fair
+returns-in_err-converse-clause-fair g c =
+    let p = err_from_is_err_and c.from_residual-in_err-converse.result c.from_residual-in_err-converse.ensures.1 in
+    rw (p.1, p.2) (λ earlier events more entries run sound told_old told_new honest. tt)
+
 pub returns-in_err-converse-clause-lost : goal.returns-in_err-converse-clause-lost
 returns-in_err-converse-clause-lost g c =
     let p = err_from_is_err_and c.from_residual-in_err-converse.result c.from_residual-in_err-converse.ensures.1 in rw (p.1, p.2) tt
@@ -184,22 +223,32 @@ returns-in_err-converse-clause-errors g c =
 
 pub returns-in_err-converse-clause-answered : goal.returns-in_err-converse-clause-answered
 returns-in_err-converse-clause-answered g c =
-    grew_same g.V.Service.may_answer _ _ _ _ (c.tick.ensures.still.same.limits ∙ (c.in_ok-receive.ensures.step []).same.limits ∙ (c.in_ok-now.ensures.step []).same.limits) c.converse.ensures.answered
+    grew_same g.V.Service.may_answer _ _ _ _ ((c.tick.ensures.step (Some []) []).same.limits ∙ (c.in_ok-receive.ensures.step []).same.limits ∙ (c.in_ok-now.ensures.step []).same.limits) c.converse.ensures.answered
 
 -- where the ends sent
 
 pub returns-clause-step : goal.returns-clause-step
 returns-clause-step g c =
-    step_trans _ _ _ _ _ _ _ _ _ _ _ _ _
-    (step_trans _ _ _ _ _ _ _ _ _ _ _ _ (λ (more : List Event). (b1 b2 : List Event) × (more ≡ (b1 ++ b2) ++ []) × (b1 ≡ Round c.in_ok-now.now.0 ∷ []) × AreIntakes b2)
-    (step_rests _ _ _ _ _ _ _ _
-    (step_trans _ _ _ _ _ _ _ _ _ _ _ _ (λ (more : List Event). (b1 b2 : List Event) × (more ≡ b1 ++ b2) × (b1 ≡ Round c.in_ok-now.now.0 ∷ []) × AreIntakes b2)
-    (c.in_ok-now.ensures.step _) (c.in_ok-receive.ensures.step _) (λ x y k m. (x, y, refl, k, m)))
-    c.tick.ensures.still)
-    (c.converse.ensures.step _)
+    ended_at _ _ _ _ _ _ _ _ _ _ _ (c.transmit.ensures.moments ∙ c.receive.ensures.moments ∙ c.in_ok-now.ensures.round)
+    (step_trans _ _ _ _ _ _ _ _ _ _ _ _ _ _
+    (step_trans _ _ _ _ _ _ _ _ _ _ _ _ _ (λ (more : List Event). (b1 b2 : List Event) × (more ≡ ((b1 ++ b2) ++ []) ++ []) × (b1 ≡ Round c.in_ok-now.now.0 ∷ []) × AreIntakes b2)
+    (step_trans _ _ _ _ _ _ _ _ _ _ _ _ _ (λ (more : List Event). (b1 b2 : List Event) × (more ≡ (b1 ++ b2) ++ []) × (b1 ≡ Round c.in_ok-now.now.0 ∷ []) × AreIntakes b2)
+    (step_trans _ _ _ _ _ _ _ _ _ _ _ _ _ (λ (more : List Event). (b1 b2 : List Event) × (more ≡ b1 ++ b2) × (b1 ≡ Round c.in_ok-now.now.0 ∷ []) × AreIntakes b2)
+    (begun _ _ _ _ _ _ _ _ _ _ _ c.in_ok-now.ensures.round (c.in_ok-now.ensures.step _)) (c.in_ok-receive.ensures.step _) (λ x y k m. (x, y, refl, k, m)))
+    (c.in_ok-tick.ensures.step _ _)
     (λ x y k m. (k.0, k.1, ap (λ (z : List Event). z ++ y) k.2 ∙ ap (λ (z : List Event). (k.0 ++ k.1) ++ z) m, k.3, k.4)))
+    (c.converse.ensures.step _ _)
+    (λ x y k m. (k.0, k.1, ap (λ (z : List Event). z ++ y) k.2 ∙ ap (λ (z : List Event). ((k.0 ++ k.1) ++ []) ++ z) m, k.3, k.4)))
     (c.transmit.ensures.step _)
-    (λ x y k m. IfOk-weaker c.transmit.result (λ z. AreOutputs y) (λ z. IsWholeTurn (x ++ y)) (λ z out. rw k.2 (whole_turn c.in_ok-now.now.0 k.0 k.1 [] y k.3 k.4 refl out)) m)
+    (λ x y k m. turned_full c.transmit.result c.converse.new.self c.transmit.new.self c.in_ok-now.now.0 k.0 k.1 y x k.2 k.3 k.4 m c.transmit.ensures.told c.transmit.ensures.roles
+    ((c.converse.ensures.step 0 (Some [])).counted refl) (c.transmit.ensures.step []).counted c.is_up.ensures c.in_ok-converse.ensures.asks c.in_ok-converse.ensures.accepts))
+
+pub returns-clause-order : goal.returns-clause-order
+returns-clause-order g c =
+    ok_always c.transmit.result _ (in_order _ _ _ (c.transmit.ensures.moments ∙ c.receive.ensures.moments ∙ c.in_ok-now.ensures.round) c.in_ok-now.ensures.order)
+
+pub returns-clause-fair : goal.returns-clause-fair
+returns-clause-fair g c = λ earlier events more entries run sound told_old told_new honest. fair_last _ _ _ c.transmit.result c.transmit.ensures.errors
 
 pub returns-clause-clock : goal.returns-clause-clock
 returns-clause-clock g c = λ before moments is t.
@@ -223,4 +272,4 @@ returns-clause-errors g c = IfErr-weaker c.transmit.result IsLinkError IsTurnErr
 
 pub returns-clause-answered : goal.returns-clause-answered
 returns-clause-answered g c =
-    grew_same g.V.Service.may_answer _ _ _ _ (c.tick.ensures.still.same.limits ∙ (c.in_ok-receive.ensures.step []).same.limits ∙ (c.in_ok-now.ensures.step []).same.limits) c.converse.ensures.answered
+    grew_same g.V.Service.may_answer _ _ _ _ ((c.tick.ensures.step (Some []) []).same.limits ∙ (c.in_ok-receive.ensures.step []).same.limits ∙ (c.in_ok-now.ensures.step []).same.limits) c.converse.ensures.answered

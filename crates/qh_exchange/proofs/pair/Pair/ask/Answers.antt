@@ -1,6 +1,6 @@
-use Rattle.std.proofs.Common.{ap, sym, ◌∙◌}
+use Rattle.std.proofs.Common.{ap, ◌∙◌}
 use Rattle.qh_exchange.specs.Pair.{PairState}
-use Rattle.qh_exchange.proofs.PairSteps.{asks_run, asked_running}
+use Rattle.qh_exchange.proofs.PairFirst.{asks_run, asked_running}
 use Rattle.qh_exchange.proofs.pair.Pair.ask.Goals as goal
 
 pub invariant_of-self : goal.invariant_of-self

@@ -1,4 +1,4 @@
-use Rattle.std.proofs.Common.{◌≡◌, refl, ◌∷◌, [], ◌∙◌}
+use Rattle.std.proofs.Common.{◌≡◌, refl, ◌∷◌, []}
 use Rattle.std.proofs.lemmas.Result.{err_from_is_err_and}
 use Rattle.qh_spec.specs.declared.link.Event.TheVariants.{Round}
 use Rattle.qh_spec.specs.declared.sides.Side.TheVariants.{Client, Server}
@@ -13,7 +13,7 @@ returns-in_err-now-clause-step g c =
     let p = err_from_is_err_and c.from_residual.result c.from_residual.ensures.1 in
     let e = c.in_err-now.field-0.0 in
     rw p.1
-    (λ served. step_waits _ _ _ _ served (fault_events e) _ c.requires.counted (fault_tells_nothing Client e) (fault_tells_nothing Server e) c.in_err-now.ensures.events tt)
+    (λ served. step_waits _ _ _ _ _ served (fault_events e) _ c.requires.counted (fault_tells_nothing Client e) (fault_tells_nothing Server e) c.in_err-now.ensures.events tt)
 
 pub returns-in_err-now-clause-clock : goal.returns-in_err-now-clause-clock
 returns-in_err-now-clause-clock g c =
@@ -33,8 +33,8 @@ pub returns-in_err-open_client-clause-step : goal.returns-in_err-open_client-cla
 returns-in_err-open_client-clause-step g c =
     let p = err_from_is_err_and c.from_residual-in_err-open_client.result c.from_residual-in_err-open_client.ensures.1 in
     rw p.1
-    (λ served. step_fails _ _ _ _ _ _ _ _
-    (step_rests _ _ _ _ _ _ _ (λ more. more ≡ more) (step_waits _ _ _ _ served (Round c.in_ok-now.now.0 ∷ []) _ c.requires.counted refl refl c.in_ok-now.ensures.events refl) c.open_client.ensures.still)
+    (λ served. step_fails _ _ _ _ _ _ _ _ _ _ _
+    (step_rests 0 _ _ _ _ _ _ _ (λ more. more ≡ more) (step_waits _ _ _ _ _ served (Round c.in_ok-now.now.0 ∷ []) _ c.requires.counted refl refl c.in_ok-now.ensures.events refl) c.open_client.ensures.still)
     (λ x k. tt))
 
 pub returns-in_err-open_client-clause-clock : goal.returns-in_err-open_client-clause-clock
@@ -46,8 +46,8 @@ pub returns-in_err-open_server-clause-step : goal.returns-in_err-open_server-cla
 returns-in_err-open_server-clause-step g c =
     let p = err_from_is_err_and c.from_residual-in_err-open_server.result c.from_residual-in_err-open_server.ensures.1 in
     rw p.1
-    (λ served. step_fails _ _ _ _ _ _ _ _
-    (step_rests _ _ _ _ _ _ _ (λ more. more ≡ more) (step_waits _ _ _ _ served (Round c.in_ok-now.now.0 ∷ []) _ c.requires.counted refl refl c.in_ok-now.ensures.events refl)
+    (λ served. step_fails _ _ _ _ _ _ _ _ _ _ _
+    (step_rests 0 _ _ _ _ _ _ _ (λ more. more ≡ more) (step_waits _ _ _ _ _ served (Round c.in_ok-now.now.0 ∷ []) _ c.requires.counted refl refl c.in_ok-now.ensures.events refl)
     (still_trans _ _ _ c.open_client.ensures.still c.open_server.ensures.still))
     (λ x k. tt))
 
@@ -58,7 +58,7 @@ returns-in_err-open_server-clause-clock g c =
 
 pub returns-clause-step : goal.returns-clause-step
 returns-clause-step g c =
-    λ served. step_rests _ _ _ _ _ _ _ _ (step_waits _ _ _ _ served (Round c.in_ok-now.now.0 ∷ []) _ c.requires.counted refl refl c.in_ok-now.ensures.events refl)
+    λ served. step_rests _ _ _ _ _ _ _ _ _ (step_waits _ _ _ _ _ served (Round c.in_ok-now.now.0 ∷ []) _ c.requires.counted refl refl c.in_ok-now.ensures.events refl)
     (still_trans _ _ _ c.open_client.ensures.still c.open_server.ensures.still)
 
 pub returns-clause-clock : goal.returns-clause-clock

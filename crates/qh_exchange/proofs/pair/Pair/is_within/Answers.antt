@@ -1,4 +1,4 @@
-use Rattle.qh_exchange.proofs.PairSteps.{held_few}
+use Rattle.qh_exchange.proofs.PairFirst.{held_few}
 use Rattle.qh_exchange.proofs.pair.Pair.is_within.Goals as goal
 
 pub returns : goal.returns

@@ -1,8 +1,12 @@
-use Rattle.std.proofs.Common.{sym, subst, ◌∙◌}
+use Rattle.std.proofs.Common.{◌∙◌}
 use Rattle.qh_roles.proofs.ClientGoes.{goes_after, filter_goes}
-use Rattle.qh_roles.specs.Client.{PlainClient}
-use Rattle.qh_roles.specs.ClientSteps.{Goes, is_left}
+use Rattle.qh_roles.proofs.ClientLists.{of_filtered}
+use Rattle.qh_roles.specs.ClientSteps.{is_left}
 use Rattle.qh_roles.proofs.client.Client.poll.Goals as goal
+
+pub returns-in_err-poll_stream-clause-kept : goal.returns-in_err-poll_stream-clause-kept
+returns-in_err-poll_stream-clause-kept g c =
+    (goes_after c.args.self.now c.loop-at.self c.poll_stream.new.self c.args.connection.now c.loop-at.connection c.poll_stream.new.connection c.loop-at.invariant.0 c.poll_stream.ensures.goes).kept
 
 pub returns-in_err-poll_stream-clause-asks : goal.returns-in_err-poll_stream-clause-asks
 returns-in_err-poll_stream-clause-asks g c =
@@ -14,19 +18,24 @@ loop-at-preserved g c = (
   c.poll_stream.ensures.length ∙ c.loop-at.invariant.1,
 )
 
-pub loop-request-init : goal.loop-request-init
-loop-request-init g c =
-    goes_after c.args.self.now c.loop-at.self c.forget_done.new.self c.args.connection.now c.loop-at.connection c.loop-at.connection c.loop-at.invariant.0
-    (subst (λ (x : PlainClient). Goes c.loop-at.self c.loop-at.connection x c.loop-at.connection) (sym c.forget_done.ensures) (filter_goes c.loop-at.self is_left c.loop-at.connection))
+pub returns-in_err-open_all-clause-kept : goal.returns-in_err-open_all-clause-kept
+returns-in_err-open_all-clause-kept g c =
+    (goes_after c.args.self.now c.loop-at.self c.open_all.new.self c.args.connection.now c.loop-at.connection c.open_all.new.connection c.loop-at.invariant.0 c.open_all.ensures.goes).kept
 
-pub returns-in_err-open-clause-asks : goal.returns-in_err-open-clause-asks
-returns-in_err-open-clause-asks g c =
-    (goes_after c.args.self.now c.loop-request.self c.open.new.self c.args.connection.now c.loop-request.connection c.open.new.connection c.loop-request.invariant c.open.ensures.goes).asks
+pub returns-in_err-open_all-clause-asks : goal.returns-in_err-open_all-clause-asks
+returns-in_err-open_all-clause-asks g c =
+    (goes_after c.args.self.now c.loop-at.self c.open_all.new.self c.args.connection.now c.loop-at.connection c.open_all.new.connection c.loop-at.invariant.0 c.open_all.ensures.goes).asks
 
-pub loop-request-preserved : goal.loop-request-preserved
-loop-request-preserved g c =
-    goes_after c.args.self.now c.loop-request.self c.open.new.self c.args.connection.now c.loop-request.connection c.open.new.connection c.loop-request.invariant c.open.ensures.goes
+pub returns-clause-kept : goal.returns-clause-kept
+returns-clause-kept g c =
+    rw c.forget_done.ensures (goes_after c.args.self.now c.loop-at.self c.open_all.new.self c.args.connection.now c.loop-at.connection c.open_all.new.connection c.loop-at.invariant.0 c.open_all.ensures.goes).kept
 
-pub returns-then-not-branch-clause-asks : goal.returns-then-not-branch-clause-asks
-returns-then-not-branch-clause-asks g c =
-    (goes_after c.args.self.now c.loop-request.self c.open.new.self c.args.connection.now c.loop-request.connection c.open.new.connection c.loop-request.invariant c.open.ensures.goes).asks
+pub returns-clause-asks : goal.returns-clause-asks
+returns-clause-asks g c =
+    rw c.forget_done.ensures
+    (goes_after c.args.self.now c.open_all.new.self _ c.args.connection.now c.open_all.new.connection c.open_all.new.connection
+    (goes_after c.args.self.now c.loop-at.self c.open_all.new.self c.args.connection.now c.loop-at.connection c.open_all.new.connection c.loop-at.invariant.0 c.open_all.ensures.goes)
+    (filter_goes c.open_all.new.self is_left c.open_all.new.connection)).asks
+
+pub returns-clause-going : goal.returns-clause-going
+returns-clause-going g c = rw c.forget_done.ensures (λ r among. (of_filtered is_left c.open_all.new.self.streams r among).1)

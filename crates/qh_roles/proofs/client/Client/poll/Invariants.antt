@@ -5,7 +5,3 @@ use Rattle.qh_roles.proofs.client.Client.poll.Given as goal
 -- the streams before this one went on
 abbrev pub invariant-loop-at : goal.invariant-loop-at
 invariant-loop-at g l = Goes l.fn.self l.fn.connection l.self l.connection × (length l.self.streams ≡ length l.fn.self.streams)
-
--- streams were opened
-abbrev pub invariant-loop-request : goal.invariant-loop-request
-invariant-loop-request g l = Goes l.fn.self l.fn.connection l.self l.connection

@@ -1,5 +1,5 @@
 use Rattle.std.proofs.Common.{◌≡◌, List, Ok}
-use Rattle.qh_conn.specs.Follows.{Follows}
+use Rattle.qh_conduct.specs.Behaves.{Behaves}
 use Rattle.qh_roles.specs.Streams.{GivesNoMore, IsReading, IsStirred, NoneArrived, ReadsOn}
 use Rattle.qh_roles.specs.declared.incoming.ReadState.TheVariants as reading
 use Rattle.qh_spec.specs.Transcript.{Act}
@@ -13,5 +13,5 @@ invariant-loop-piece g l = record {
   none_arrived : NoneArrived l.fn.connection.space.streams l.connection.space.streams;
   unwritten : l.connection.space.streams.send ≡ l.fn.connection.space.streams.send;
   more : GivesNoMore l.connection.space.streams.recv l.fn.self.stream → GivesNoMore l.fn.connection.space.streams.recv l.fn.self.stream;
-  reads : (t : List Act) → Follows l.fn.connection t → IsReading t l.fn.self → ReadsOn (Ok reading.Blocked) l.self l.connection t;
+  reads : (t : List Act) → Behaves l.fn.connection t → IsReading t l.fn.self → ReadsOn (Ok reading.Blocked) l.self l.connection t;
 }

@@ -1,0 +1,128 @@
+-- Lists of requests that may be asked, and those that may not.
+use Rattle.std.proofs.Common.{◌≡◌, ◌≢◌, inl, inr, ℕ, zero, suc, ◌==◌, true, false, List, [], ◌∷◌, length, Some, Err, refl, sym, ap, ◌∙◌, subst, arith}
+use Rattle.std.specs.Prelude.{codes, slice_get}
+use Rattle.std.proofs.lemmas.Bool.{cases_eq, eq-eqb, ne_eqb}
+use Rattle.qh_base.specs.declared.connection_error.ConnectionError.{ConnectionError}
+use Rattle.qh_conn.specs.declared.config.ConnConfig.{ConnConfig}
+use Rattle.qh_message.specs.Written.{CanBeWritten}
+use Rattle.qh_roles.specs.Client.{AreAskable, held}
+use Rattle.qh_service.specs.declared.service.Limits.{Limits}
+use Rattle.qh_spec.specs.declared.link.Event.{Event}
+use Rattle.qh_spec.specs.Message.{IsRequest, PlainHead, PlainMessage, Request, Response}
+use Rattle.qh_spec.specs.Record.{PlainEntry}
+use Rattle.qh_spec.specs.Same.{bytes_under}
+use Rattle.qh_spec.specs.Validity.{IsValidHead, IsValidList, IsValidRequest}
+use Rattle.qh_exchange.specs.declared.error.ExchangeError.{ExchangeError}
+use Rattle.qh_exchange.specs.declared.error.ExchangeError.TheVariants as error
+use Rattle.qh_exchange.specs.Clock.{IsClocked}
+use Rattle.qh_exchange.specs.Exchange.{IfInvalid, IfOutOfRounds, IfProtocol, IfTimedOut, IsInvalidAnswer, IsListError}
+use Rattle.qh_exchange.specs.Pair.{PairState, Running}
+use Rattle.qh_exchange.specs.Rounds.{IsAsked}
+use Rattle.qh_exchange.specs.Turn.{is_link}
+
+-- a valid list may be asked
+valid_request : (h : PlainHead) (hosts : List (List ℕ)) → IsValidHead h hosts → IsRequest h
+valid_request (Request m t) hosts v = tt
+valid_request (Response s) hosts v = absurd v
+
+pub askable : (most section body : ℕ) (requests : List PlainMessage) → ((m : PlainMessage) → IsValidRequest section body m → CanBeWritten m)
+    → IsValidList most section body requests → AreAskable requests
+askable most section body requests written valid index m at =
+    let v : IsValidRequest section body m = valid.each index m at in
+    (valid_request m.head (bytes_under m.fields (codes "host")) v.head, written m v)
+
+nothing_of : {X : Type 0} (xs : List X) → length xs ≡ 0 → xs ≡ []
+nothing_of [] e = refl
+nothing_of (x ∷ xs) e = absurd (omega (arith, e))
+
+-- what a test for no elements says
+pub is_nothing : {X : Type 0} (xs : List X) → true ≡ (length xs == 0) → xs ≡ []
+is_nothing xs e =
+    elim (cases_eq (length xs) 0) [
+      | inl z ↦ nothing_of xs z
+      | inr n ↦ let t : length xs == 0 ≡ false = ne_eqb (length xs) 0 n in let f : ⊥ = cc in absurd f
+    ]
+
+pub is_something : {X : Type 0} (xs : List X) → false ≡ (length xs == 0) → xs ≢ []
+is_something xs e z =
+    let k : length xs ≡ 0 = ap length z in
+    let t : length xs == 0 ≡ true = eq-eqb (length xs) 0 k in
+    cc
+
+pub no_such : (index : ℕ) (answer : PlainMessage) → slice_get [] index ≡ Some answer → ⊥
+no_such zero answer e = cc
+no_such (suc index) answer e = cc
+
+-- a pair that took the requests
+pub asked : (k : ℕ) (config : ConnConfig) (limits : Limits) (requests : List PlainMessage) (p q : PairState) → requests ≢ [] → Running p [] [] → IsClocked p [] → length p.ids.client ≡ k
+    → p.config ≡ config → p.server.limits ≡ limits → p.is_over ≡ false → q ≡ record p { client = q.client }
+    → ((events : List Event) (entries : List PlainEntry) → Running p events entries → Running q events entries) → q.client.requests ≡ requests → held q.client.answers ≡ 0
+    → IsAsked k config limits requests q
+asked k config limits requests p q some run clocked ids conf lim going rest goes taken none = record {
+  running = goes [] [] run;
+  clocked = subst (λ (z : PairState). IsClocked z []) (sym rest) (record { client = clocked.client; server = clocked.server });
+  ids = ap (λ (z : PairState). length z.ids.client) rest ∙ ids;
+  config_is = ap (λ (z : PairState). z.config) rest ∙ conf;
+  limits_are = ap (λ (z : PairState). z.server.limits) rest ∙ lim;
+  asked = taken;
+  lacks = λ e. some (nothing_of requests (sym (ap length taken) ∙ (sym e ∙ none)));
+  going = ap (λ (z : PairState). z.is_over) rest ∙ going;
+}
+
+-- ---- a list that may not be asked
+
+pub invalid_still : {X Y : Type 0} (T U : Type 0) (e : ExchangeError) (P : ℕ → Type 0) (x : X) (y : Y) → IfInvalid {T = T} (Err e) P
+    → IfInvalid {T = U} (Err e) (λ index. P index × (x ≡ x) × (y ≡ y))
+invalid_still T U error.Link P x y h = tt
+invalid_still T U error.Memory P x y h = tt
+invalid_still T U error.TimedOut P x y h = tt
+invalid_still T U error.OutOfRounds P x y h = tt
+invalid_still T U (error.Invalid index) P x y h = (h, refl, refl)
+invalid_still T U (error.Protocol z) P x y h = tt
+
+pub is_invalid : (U : Type 0) (e : ExchangeError) → IsListError e → IsInvalidAnswer {T = U} (Err e)
+is_invalid U error.Link h = h
+is_invalid U error.Memory h = tt
+is_invalid U error.TimedOut h = h
+is_invalid U error.OutOfRounds h = h
+is_invalid U (error.Invalid index) h = tt
+is_invalid U (error.Protocol x) h = h
+
+pub list_not_out : (U : Type 0) (e : ExchangeError) (P : Type 0) → IsListError e → IfOutOfRounds {T = U} (Err e) P
+list_not_out U error.Link P h = tt
+list_not_out U error.Memory P h = tt
+list_not_out U error.TimedOut P h = tt
+list_not_out U error.OutOfRounds P h = absurd h
+list_not_out U (error.Invalid index) P h = tt
+list_not_out U (error.Protocol x) P h = tt
+
+pub list_not_idle : (U : Type 0) (e : ExchangeError) (P : Type 0) → IsListError e → IfTimedOut {T = U} (Err e) P
+list_not_idle U error.Link P h = tt
+list_not_idle U error.Memory P h = tt
+list_not_idle U error.TimedOut P h = absurd h
+list_not_idle U error.OutOfRounds P h = tt
+list_not_idle U (error.Invalid index) P h = tt
+list_not_idle U (error.Protocol x) P h = tt
+
+pub list_not_lost : (U : Type 0) (e : ExchangeError) (P : ConnectionError → Type 0) → IsListError e → IfProtocol {T = U} (Err e) P
+list_not_lost U error.Link P h = tt
+list_not_lost U error.Memory P h = tt
+list_not_lost U error.TimedOut P h = tt
+list_not_lost U error.OutOfRounds P h = tt
+list_not_lost U (error.Invalid index) P h = tt
+list_not_lost U (error.Protocol x) P h = absurd h
+
+pub list_no_link : (e : ExchangeError) → IsListError e → is_link e ≡ false
+list_no_link error.Link h = absurd h
+list_no_link error.Memory h = refl
+list_no_link error.TimedOut h = refl
+list_no_link error.OutOfRounds h = refl
+list_no_link (error.Invalid index) h = refl
+list_no_link (error.Protocol x) h = refl
+
+-- no request is a valid list
+pub nothing_valid : (most section body : ℕ) (requests : List PlainMessage) → requests ≡ [] → IsValidList most section body requests
+nothing_valid most section body requests none = record {
+  few = let l : length requests ≡ 0 = ap length none in omega (arith, l);
+  each = λ i m at. absurd (no_such i m (subst (λ (z : List PlainMessage). slice_get z i ≡ Some m) none at));
+}

@@ -1,0 +1,187 @@
+-- How an exchange ends by the rounds of a pair before its first turn, and what it means then.
+use Rattle.std.proofs.Common.{◌≡◌, ◌≢◌, ℕ, zero, suc, ◌<◌, List, [], ◌∷◌, ◌++◌, length, Option, Some, Err, refl, sym, ap, ◌∙◌, subst, arith, append-nil}
+use Rattle.std.specs.Prelude.{Result, filter, is_some, map, slice_get}
+use Rattle.std.proofs.lemmas.List.{append_cancel_left}
+use Rattle.qh_base.specs.declared.time.Span.{Span}
+use Rattle.qh_conn.specs.declared.config.ConnConfig.{ConnConfig}
+use Rattle.qh_roles.specs.Client.{held}
+use Rattle.qh_spec.specs.declared.link.Event.{Event}
+use Rattle.qh_spec.specs.Headline.{ServedOnce, IsRecordedAnswer, AnsweredOnce}
+use Rattle.qh_spec.specs.Honest.{IsHonest}
+use Rattle.qh_spec.specs.Message.{PlainMessage}
+use Rattle.qh_spec.specs.Record.{PlainEntry}
+use Rattle.qh_spec.proofs.HeadlineLaws.{served_nothing}
+use Rattle.qh_exchange.specs.declared.ends.Ids.{Ids}
+use Rattle.qh_exchange.specs.declared.error.ExchangeError.{ExchangeError}
+use Rattle.qh_exchange.specs.declared.error.ExchangeError.TheVariants as error
+use Rattle.qh_exchange.specs.Exchange.{IfInvalid, IfOutOfRounds, IfProtocol, IfTimedOut}
+use Rattle.qh_exchange.specs.Pair.{PairState, Running, WentOn, GoesOn, Means, KeepWithin}
+use Rattle.qh_exchange.specs.Rounds.{IsRoundsError, IsRunOut, RoundsMade}
+use Rattle.qh_exchange.specs.Turn.{IsProtocolLoss, RanOut, WasIdle, WasLost, WasMade}
+use Rattle.qh_exchange.proofs.AskedLists.{no_such}
+use Rattle.qh_exchange.proofs.Rounds.{idle_of}
+
+-- where a pair stands that went on from where nothing had happened
+pub stands : (p q : PairState) (t u : Option (List Event)) (r s : List PlainEntry) → Running p [] [] → GoesOn p t r q u s
+    → (events more : List Event) (fresh : List PlainEntry) → t ≡ Some events → u ≡ Some (events ++ more) → s ≡ r ++ fresh → Running q more fresh
+stands p q t u r s run goes events more fresh te ue se =
+    let x : WentOn p q events [] u r [] s = goes events [] r [] run (te ∙ ap Some (sym (append-nil events))) (sym (append-nil r)) in
+    let a : Some (events ++ x.more) ≡ Some (events ++ more) = sym x.told_is ∙ ue in
+    let b : events ++ x.more ≡ events ++ more = cc in
+    let c : r ++ x.fresh ≡ r ++ fresh = sym x.served_is ∙ se in
+    subst (λ (z : List Event). Running q z fresh) (append_cancel_left events x.more more b)
+    (subst (λ (z : List PlainEntry). Running q x.more z) (append_cancel_left r x.fresh fresh c) x.running)
+
+pub tells : (p q : PairState) (t u : Option (List Event)) (r s : List PlainEntry) → Running p [] [] → GoesOn p t r q u s
+    → (events : List Event) → t ≡ Some events → (more : List Event) × (u ≡ Some (events ++ more))
+tells p q t u r s run goes events te =
+    let x : WentOn p q events [] u r [] s = goes events [] r [] run (te ∙ ap Some (sym (append-nil events))) (sym (append-nil r)) in
+    (x.more, x.told_is)
+
+-- what `pairs` says
+abbrev pub MeanAll : Type 0
+MeanAll = (p : PairState) (events : List Event) (before entries : List PlainEntry) → IsHonest events → Running p events entries → Means p events before entries
+
+abbrev pub KeepAll : Type 0
+KeepAll = (p : PairState) (events : List Event) (entries : List PlainEntry) → Running p events entries → KeepWithin (length p.ids.client) p.config events
+
+concludes : (p q : PairState) (t u : Option (List Event)) (r s : List PlainEntry) → Running p [] [] → GoesOn p t r q u s
+    → (events : List Event) → t ≡ Some [] → u ≡ Some events → (fresh : List PlainEntry) × (s ≡ r ++ fresh) × Running q events fresh × (q.client.requests ≡ p.client.requests) × (length q.ids.client ≡ length p.ids.client)
+concludes p q t u r s run goes events te ue =
+    let x : WentOn p q [] [] u r [] s = goes [] [] r [] run te (sym (append-nil r)) in
+    let a : Some x.more ≡ Some events = sym x.told_is ∙ ue in
+    let b : x.more ≡ events = cc in
+    (x.fresh, x.served_is, subst (λ (z : List Event). Running q z x.fresh) b x.running, x.same_requests, ap (λ (z : Ids). length z.client) x.same_ids)
+
+pub served_once : MeanAll → (k : ℕ) (p q : PairState) (requests : List PlainMessage) (t u : Option (List Event)) (r s : List PlainEntry)
+    → Running p [] [] → p.client.requests ≡ requests → length p.ids.client ≡ k → GoesOn p t r q u s
+    → (events : List Event) → t ≡ Some [] → u ≡ Some events → IsHonest events → ServedOnce k events requests r s
+served_once means k p q requests t u r s run asked ids goes events te ue honest =
+    let x = concludes p q t u r s run goes events te ue in
+    let m : Means q events r x.0 = means q events r x.0 honest x.2 in
+    subst (λ (z : List PlainEntry). ServedOnce k events requests r z) (sym x.1)
+    (subst (λ (z : List PlainMessage). ServedOnce k events z r (r ++ x.0)) (x.3 ∙ asked)
+    (subst (λ (z : ℕ). ServedOnce z events q.client.requests r (r ++ x.0)) (x.4 ∙ ids) m.served))
+
+-- all answers are held
+all_held : (xs : List PlainMessage) → filter is_some (map (λ (x : PlainMessage). Some x) xs) ≡ map (λ (x : PlainMessage). Some x) xs
+all_held [] = refl
+all_held (x ∷ xs) = ap (λ (z : List (Option PlainMessage)). Some x ∷ z) (all_held xs)
+
+mapped_length : (xs : List PlainMessage) → length (map (λ (x : PlainMessage). Some x) xs) ≡ length xs
+mapped_length [] = refl
+mapped_length (x ∷ xs) = let e = mapped_length xs in omega (arith, e)
+
+held_at : (xs : List PlainMessage) (index : ℕ) (x : PlainMessage) → slice_get xs index ≡ Some x → slice_get (map (λ (x : PlainMessage). Some x) xs) index ≡ Some (Some x)
+held_at [] zero x e = cc
+held_at [] (suc index) x e = cc
+held_at (y ∷ xs) zero x e = ap Some e
+held_at (y ∷ xs) (suc index) x e = held_at xs index x e
+
+pub count_held : (items : List PlainMessage) (answers : List (Option PlainMessage)) (n : ℕ) → map (λ (x : PlainMessage). Some x) items ≡ answers → held answers ≡ n → length items ≡ n
+count_held items answers n are count =
+    sym (mapped_length items) ∙ (sym (ap length (all_held items)) ∙ (ap held are ∙ count))
+
+pub answered_once : MeanAll → (k : ℕ) (p q : PairState) (requests items : List PlainMessage) (t u : Option (List Event)) (r s : List PlainEntry)
+    → Running p [] [] → p.client.requests ≡ requests → length p.ids.client ≡ k → GoesOn p t r q u s → length items ≡ length requests → map (λ (x : PlainMessage). Some x) items ≡ q.client.answers
+    → (events : List Event) → t ≡ Some [] → u ≡ Some events → IsHonest events → AnsweredOnce k events requests r s items
+answered_once means k p q requests items t u r s run asked ids goes count are events te ue honest =
+    let x = concludes p q t u r s run goes events te ue in
+    let m : Means q events r x.0 = means q events r x.0 honest x.2 in
+    let served : ServedOnce k events requests r s = served_once means k p q requests t u r s run asked ids goes events te ue honest in
+    let same : x.0 ≡ served.grew.fresh = append_cancel_left r x.0 served.grew.fresh (sym x.1 ∙ served.grew.longer) in
+    record {
+      served = served;
+      count = count;
+      each = λ index answer at.
+          subst (λ (z : List PlainEntry). IsRecordedAnswer k events z index answer) same
+          (subst (λ (z : ℕ). IsRecordedAnswer z events x.0 index answer) (x.4 ∙ ids)
+          (m.answered index answer (ap (λ (z : List (Option PlainMessage)). slice_get z index) (sym are) ∙ held_at items index answer at)));
+    }
+
+pub within_all : KeepAll → (k : ℕ) (config : ConnConfig) (p q : PairState) (t u : Option (List Event)) (r s : List PlainEntry) → Running p [] [] → length p.ids.client ≡ k → p.config ≡ config
+    → GoesOn p t r q u s → (before more : List Event) → t ≡ Some before → u ≡ Some (before ++ more) → KeepWithin k config more
+within_all keep k config p q t u r s run ids conf goes before more te ue =
+    let x : WentOn p q before [] u r [] s = goes before [] r [] run (te ∙ ap Some (sym (append-nil before))) (sym (append-nil r)) in
+    let a : Some (before ++ x.more) ≡ Some (before ++ more) = sym x.told_is ∙ ue in
+    let b : before ++ x.more ≡ before ++ more = cc in
+    let w : KeepWithin (length q.ids.client) q.config x.more = keep q x.more x.fresh x.running in
+    subst (λ (z : List Event). KeepWithin k config z) (append_cancel_left before x.more more b)
+    (subst (λ (z : ConnConfig). KeepWithin k z x.more) (x.same_config ∙ conf) (subst (λ (z : ℕ). KeepWithin z q.config x.more) (ap (λ (z : Ids). length z.client) x.same_ids ∙ ids) w))
+
+nothing_sent : (front after : List Event) (x : Event) → [] ≡ front ++ x ∷ after → ⊥
+nothing_sent [] after x e = cc
+nothing_sent (y ∷ front) after x e = cc
+
+-- nothing more was told
+pub within_none : (k : ℕ) (config : ConnConfig) (t : Option (List Event)) (before more : List Event) → t ≡ Some before → t ≡ Some (before ++ more) → KeepWithin k config more
+within_none k config t before more te ue =
+    let a : Some before ≡ Some (before ++ more) = sym te ∙ ue in
+    let b : before ++ [] ≡ before ++ more = append-nil before ∙ (let c : before ≡ before ++ more = cc in c) in
+    let c : [] ≡ more = append_cancel_left before [] more b in
+    λ front after side d e. absurd (nothing_sent front after _ (c ∙ e))
+
+-- nothing was asked, so nothing was answered
+pub nothing_asked : (k : ℕ) (events : List Event) (requests : List PlainMessage) (r : List PlainEntry) → requests ≡ [] → AnsweredOnce k events requests r r []
+nothing_asked k events requests r none = record {
+  served = served_nothing k events requests r;
+  count = ap length (sym none);
+  each = λ index answer at. absurd (no_such index answer at);
+}
+
+made_by : (p q : PairState) (requests : List PlainMessage) (t u : Option (List Event)) (r s : List PlainEntry) → Running p [] [] → p.client.requests ≡ requests
+    → q.client.requests ≡ p.client.requests → GoesOn p t r q u s → WasMade requests t u r s q
+made_by p q requests t u r s run asked same goes = record { asked = same ∙ asked; stands = stands p q t u r s run goes }
+
+-- the error of a turn is that of the exchange
+pub was_lost : (T U : Type 0) (e : ExchangeError) (p q : PairState) (requests : List PlainMessage) (t u : Option (List Event)) (r s : List PlainEntry)
+    → Running p [] [] → p.client.requests ≡ requests → q.client.requests ≡ p.client.requests → GoesOn p t r q u s → IfProtocol {T = T} (Err e) (λ x. IsProtocolLoss x q)
+    → IfProtocol {T = U} (Err e) (WasLost requests t u r s)
+was_lost T U error.Link p q requests t u r s run asked same goes h = tt
+was_lost T U error.Memory p q requests t u r s run asked same goes h = tt
+was_lost T U error.TimedOut p q requests t u r s run asked same goes h = tt
+was_lost T U error.OutOfRounds p q requests t u r s run asked same goes h = tt
+was_lost T U (error.Invalid index) p q requests t u r s run asked same goes h = tt
+was_lost T U (error.Protocol x) p q requests t u r s run asked same goes h = record { pair = q; made = made_by p q requests t u r s run asked same goes; loss = h }
+
+-- ---- how an exchange ends by them
+
+-- what a result holds where it is well
+abbrev pub held_by : (T E : Type 0) → Result T E → Type 0
+held_by T E result = T
+
+out_of : (T U : Type 0) (e : ExchangeError) (P Q : Type 0) → (P → Q) → IfOutOfRounds {T = T} (Err e) P → IfOutOfRounds {T = U} (Err e) Q
+out_of T U error.Link P Q f h = tt
+out_of T U error.Memory P Q f h = tt
+out_of T U error.TimedOut P Q f h = tt
+out_of T U error.OutOfRounds P Q f h = f h
+out_of T U (error.Invalid index) P Q f h = tt
+out_of T U (error.Protocol x) P Q f h = tt
+
+pub ends_out : (U : Type 0) (e : ExchangeError) (rounds : ℕ) (p q : PairState) (requests : List PlainMessage) (t u : Option (List Event)) (m k : List ℕ) (r s : List PlainEntry)
+    → requests ≢ [] → Running p [] [] → p.client.requests ≡ requests → RoundsMade rounds p q t u m k r s (Err e) → IfOutOfRounds {T = U} (Err e) (RanOut rounds requests t u m k r s)
+ends_out U e rounds p q requests t u m k r s some run asked made =
+    out_of (Unit {0}) U e (IsRunOut rounds q t u m k) (RanOut rounds requests t u m k r s)
+    (λ o. record {
+      some = some;
+      turns = o.turns;
+      moments = o.moments;
+      moments_are = o.moments_are;
+      rounds_are = o.rounds_are;
+      last = o.last;
+      pair = q;
+      made = made_by p q requests t u r s run asked made.requests made.goes;
+      fewer = subst (λ (z : List PlainMessage). held q.client.answers < length z) (made.requests ∙ asked) o.fewer;
+    }) made.out
+
+pub ends_idle : (U : Type 0) (e : ExchangeError) (idle idle' : Option Span) (m k : List ℕ) → idle ≡ idle' → IfTimedOut {T = Unit {0}} (Err e) (WasIdle idle m k)
+    → IfTimedOut {T = U} (Err e) (WasIdle idle' m k)
+ends_idle U e idle idle' m k same = idle_of (Unit {0}) U e (WasIdle idle m k) (WasIdle idle' m k) (λ w. subst (λ (z : Option Span). WasIdle z m k) same w)
+
+pub not_invalid : (U : Type 0) (e : ExchangeError) (P : ℕ → Type 0) → IsRoundsError e → IfInvalid {T = U} (Err e) P
+not_invalid U error.Link P h = tt
+not_invalid U error.Memory P h = tt
+not_invalid U error.TimedOut P h = tt
+not_invalid U error.OutOfRounds P h = tt
+not_invalid U (error.Invalid index) P h = absurd h
+not_invalid U (error.Protocol x) P h = tt
