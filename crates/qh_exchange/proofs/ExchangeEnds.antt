@@ -15,6 +15,7 @@ use Rattle.qh_exchange.specs.declared.ends.Ids.{Ids}
 use Rattle.qh_exchange.specs.declared.error.ExchangeError.{ExchangeError}
 use Rattle.qh_exchange.specs.declared.error.ExchangeError.TheVariants as error
 use Rattle.qh_exchange.specs.Exchange.{IfInvalid, IfOutOfRounds, IfProtocol, IfTimedOut}
+use Rattle.qh_exchange.specs.Full.{AreFullTurns}
 use Rattle.qh_exchange.specs.Pair.{PairState, Running, WentOn, GoesOn, Means, KeepWithin}
 use Rattle.qh_exchange.specs.Rounds.{IsRoundsError, IsRunOut, RoundsMade}
 use Rattle.qh_exchange.specs.Turn.{IsProtocolLoss, RanOut, WasIdle, WasLost, WasMade}
@@ -161,10 +162,13 @@ out_of T U (error.Protocol x) P Q f h = tt
 pub ends_out : (U : Type 0) (e : ExchangeError) (rounds : ℕ) (p q : PairState) (requests : List PlainMessage) (t u : Option (List Event)) (m k : List ℕ) (r s : List PlainEntry)
     → requests ≢ [] → Running p [] [] → p.client.requests ≡ requests → RoundsMade rounds p q t u m k r s (Err e) → IfOutOfRounds {T = U} (Err e) (RanOut rounds requests t u m k r s)
 ends_out U e rounds p q requests t u m k r s some run asked made =
-    out_of (Unit {0}) U e (IsRunOut rounds q t u m k) (RanOut rounds requests t u m k r s)
+    out_of (Unit {0}) U e (IsRunOut rounds p q t u m k r) (RanOut rounds requests t u m k r s)
     (λ o. record {
       some = some;
       turns = o.turns;
+      full = λ events te.
+          subst (λ (z : List PlainMessage). (more : List Event) × (u ≡ Some (events ++ more)) × AreFullTurns z rounds [] more) asked
+          (o.full events [] r [] run (te ∙ ap Some (sym (append-nil events))) (sym (append-nil r)) events te);
       moments = o.moments;
       moments_are = o.moments_are;
       rounds_are = o.rounds_are;

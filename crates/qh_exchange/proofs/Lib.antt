@@ -9,6 +9,7 @@ pub mod Endings
 pub mod EndsAt
 pub mod ExchangeEnds
 pub mod Fairness
+pub mod FullRounds
 pub mod FullTurns
 pub mod Heard
 pub mod PairEnds

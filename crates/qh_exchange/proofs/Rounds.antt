@@ -19,6 +19,7 @@ use Rattle.qh_exchange.specs.Full.{EndsInFullTurn, IsFullTurn}
 use Rattle.qh_exchange.specs.Pair.{PairState, Running, WentOn, GoesOn}
 use Rattle.qh_exchange.specs.Rounds.{IsRoundsError, IsRunOut, RoundsMade}
 use Rattle.qh_exchange.specs.Turn.{Adds, IsProtocolLoss, IsTurnError, WasIdle}
+use Rattle.qh_exchange.proofs.FullRounds.{AddsFullTurns, adds_full, ends_full}
 use Rattle.qh_exchange.proofs.Turns.{protocol_again}
 
 -- a pair that did nothing, and one that went on twice
@@ -63,14 +64,7 @@ adds_turn n q t u v first second events te =
     let y = second (events ++ x.0) x.1 in
     (x.0 ++ y.0, y.1 ∙ ap Some (append_assoc events x.0 y.0), turns_more n x.0 y.0 x.2 y.2.turn)
 
--- a full turn behind what was added ends it
-adds_full : (Kind : List Event → Type 0) (q : PairState) (t u v : Option (List Event)) → Adds Kind t u → Adds (IsFullTurn q) u v → Adds (EndsInFullTurn q) t v
-adds_full Kind q t u v first second events te =
-    let x = first events te in
-    let y = second (events ++ x.0) x.1 in
-    (x.0 ++ y.0, y.1 ∙ ap Some (append_assoc events x.0 y.0), record { front = x.0; turn = y.0; are = refl; full = y.2 })
-
--- So many whole turns were made, the last a full one, that answered that an answer lacks: between a pair, what a link tells,
+-- So many whole turns were made, each a full one, that answered that an answer lacks: between a pair, what a link tells,
 -- its moments and its faults, and what a service recorded, before and after them.
 pub record AreMade (n : ℕ) (p q : PairState) (t u : Option (List Event)) (m k : List ℕ) (f g : ℕ) (r s : List PlainEntry) : Type 0 where
   pub goes : GoesOn p t r q u s
@@ -80,6 +74,7 @@ pub record AreMade (n : ℕ) (p q : PairState) (t u : Option (List Event)) (m k 
   pub limits : q.server.limits ≡ p.server.limits
   pub lacks : held q.client.answers ≢ length q.client.requests
   pub turns : Adds (AreWholeTurns n) t u
+  pub full : AddsFullTurns n p t u r
   pub last : (j : ℕ) → n ≡ suc j → Adds (EndsInFullTurn q) t u
   pub moments : List ℕ
   pub moments_are : k ≡ m ++ moments
@@ -97,6 +92,7 @@ none_made p t m f r going lacks clocked = record {
   limits = refl;
   lacks = lacks;
   turns = λ events te. ([], te ∙ ap Some (sym (append-nil events)), refl);
+  full = λ earlier events before entries run te re told de. ([], de ∙ ap Some (sym (append-nil told)), refl);
   last = λ j e. absurd (omega (arith, e));
   moments = [];
   moments_are = sym (append-nil m);
@@ -118,15 +114,18 @@ one_more n p q q' t u u' m k k' f g g' r s s' done made goes clock going same co
     let sum : m ++ (made.moments ++ c.more) ≡ m ++ (made.moments ++ round.0 ∷ [])
     = sym c.are ∙ (round.1 ∙ (ap (λ (z : List ℕ). z ++ round.0 ∷ []) made.moments_are ∙ append_assoc m made.moments (round.0 ∷ []))) in
     let new : made.moments ++ c.more ≡ made.moments ++ round.0 ∷ [] = append_cancel_left m (made.moments ++ c.more) (made.moments ++ round.0 ∷ []) sum in
+    let went : GoesOn p t r q' u' s' = goes_trans p q q' t u u' r s s' made.goes goes in
+    let next : suc n ≡ n + 1 = omega arith in
     record {
-      goes = goes_trans p q q' t u u' r s s' made.goes goes;
+      goes = went;
       going = going;
       requests = same ∙ made.requests;
       config = config ∙ made.config;
       limits = limits ∙ made.limits;
       lacks = lacks;
-      turns = let e : suc n ≡ n + 1 = omega arith in subst (λ (z : ℕ). Adds (AreWholeTurns z) t u') e (adds_turn n q' t u u' made.turns turn);
-      last = λ j e. adds_full (AreWholeTurns n) q' t u u' made.turns turn;
+      turns = subst (λ (z : ℕ). Adds (AreWholeTurns z) t u') next (adds_turn n q' t u u' made.turns turn);
+      full = subst (λ (z : ℕ). AddsFullTurns z p t u' r) next (adds_full n p q' t u u' r s' made.full went (same ∙ made.requests) going turn);
+      last = λ j e. ends_full (AreWholeTurns n) q' t u u' made.turns turn;
       moments = made.moments ++ c.more;
       moments_are = c.are;
       rounds_are = ap length new ∙ (snoc_length made.moments round.0 ∙ ap (λ (z : ℕ). z + 1) made.rounds_are);
@@ -195,7 +194,7 @@ rounds_lost n rounds e p q q' t u u' m k k' f g r s s' made goes same clock lost
   goes = goes_trans p q q' t u u' r s s' made.goes goes;
   requests = same ∙ made.requests;
   all = tt;
-  out = turn_not_out e (IsRunOut rounds q' t u' m k') fault;
+  out = turn_not_out e (IsRunOut rounds p q' t u' m k' r) fault;
   timed_out = was_idle (Unit {0}) e p.config.idle n p q q' t u m k k' f g r s refl made clock;
   lost = protocol_again Bool (Unit {0}) e (λ x. IsProtocolLoss x q') lost;
   errors = rounds_error e fault;
@@ -225,6 +224,7 @@ rounds_out n rounds p q t u m k f g r s whole few made =
       all = tt;
       out = record {
         turns = subst (λ (z : ℕ). Adds (AreWholeTurns z) t u) whole made.turns;
+        full = subst (λ (z : ℕ). AddsFullTurns z p t u r) whole made.full;
         moments = made.moments;
         moments_are = made.moments_are;
         rounds_are = made.rounds_are ∙ whole;

@@ -1,5 +1,5 @@
 -- Turns in which all was done that could be.
-use Rattle.std.specs.Prelude.{◌≡◌, ◌⊎◌, List, ◌++◌, Option, Some, None, length}
+use Rattle.std.specs.Prelude.{◌≡◌, ◌⊎◌, ℕ, zero, suc, false, List, [], ◌++◌, Option, Some, None, length}
 use Rattle.qh_conduct.specs.Calls.{ToldTheSame}
 use Rattle.qh_conn.specs.Sending.{NothingIsSent}
 use Rattle.qh_roles.specs.Client.{PlainClient}
@@ -9,7 +9,9 @@ use Rattle.qh_spec.specs.declared.sides.Side.{Side}
 use Rattle.qh_spec.specs.declared.sides.Side.TheVariants.{Client, Server}
 use Rattle.qh_spec.specs.Link.{sent_by}
 use Rattle.qh_spec.specs.Turns.{IsWholeTurn}
-use Rattle.qh_exchange.specs.Pair.{End, PairState}
+use Rattle.qh_spec.specs.Message.{PlainMessage}
+use Rattle.qh_spec.specs.Record.{PlainEntry}
+use Rattle.qh_exchange.specs.Pair.{End, PairState, Running}
 
 -- an end was asked for a datagram, and has none to send
 abbrev pub HasNothingToSend : Option End → Type 0
@@ -50,3 +52,10 @@ pub record EndsInFullTurn (p : PairState) (events : List Event) : Type 0 where
   pub turn : List Event
   pub are : events ≡ front ++ turn
   pub full : IsFullTurn p turn
+
+-- Behind these events so many full turns were made, one after another: each left a pair with these requests, which goes on, where the
+-- events and some entries leave it.
+abbrev pub AreFullTurns : (requests : List PlainMessage) → ℕ → (before events : List Event) → Type 0
+AreFullTurns requests zero before events = events ≡ []
+AreFullTurns requests (suc n) before events = (turn rest : List Event) × (entries : List PlainEntry) × (p : PairState) × (events ≡ turn ++ rest) × (p.client.requests ≡ requests)
+    × (p.is_over ≡ false) × Running p (before ++ turn) entries × IsFullTurn p turn × AreFullTurns requests n (before ++ turn) rest

@@ -10,7 +10,7 @@ use Rattle.qh_spec.specs.Record.{PlainEntry}
 use Rattle.qh_spec.specs.Turns.{AreWholeTurns}
 use Rattle.qh_exchange.specs.Clock.{IsClocked}
 use Rattle.qh_exchange.specs.Exchange.{IfOutOfRounds, IfProtocol, IfTimedOut}
-use Rattle.qh_exchange.specs.Full.{EndsInFullTurn}
+use Rattle.qh_exchange.specs.Full.{AreFullTurns, EndsInFullTurn}
 use Rattle.qh_exchange.specs.Pair.{PairState, Running, GoesOn, id_length}
 use Rattle.qh_exchange.specs.Sound.{EndsFairly}
 use Rattle.qh_exchange.specs.Turn.{Adds, IsProtocolLoss, WasIdle}
@@ -28,9 +28,11 @@ pub record IsAsked (id_length : ℕ) (config : ConnConfig) (limits : Limits) (re
   pub lacks : held p.client.answers ≢ length p.client.requests
   pub going : p.is_over ≡ false
 
--- exactly so many rounds were made, each a whole turn where the events are told, the last a full one, and an answer is missing
-pub record IsRunOut (rounds : ℕ) (p : PairState) (told_before told_after : Option (List Event)) (moments_before moments_after : List ℕ) : Type 0 where
+-- exactly so many rounds were made, each a whole turn where the events are told, and a full one, and an answer is missing
+pub record IsRunOut (rounds : ℕ) (old p : PairState) (told_before told_after : Option (List Event)) (moments_before moments_after : List ℕ) (served_before : List PlainEntry) : Type 0 where
   pub turns : Adds (AreWholeTurns rounds) told_before told_after
+  pub full : (earlier events : List Event) (before entries : List PlainEntry) → Running old events entries → told_before ≡ Some (earlier ++ events) → served_before ≡ before ++ entries
+      → Adds (AreFullTurns old.client.requests rounds events) told_before told_after
   pub moments : List ℕ
   pub moments_are : moments_after ≡ moments_before ++ moments
   pub rounds_are : length moments ≡ rounds
@@ -48,7 +50,7 @@ pub record RoundsMade (rounds : ℕ) (old new : PairState) (told_before told_aft
   pub goes : GoesOn old told_before served_before new told_after served_after
   pub requests : new.client.requests ≡ old.client.requests
   pub all : IfOk result (λ _. held new.client.answers ≡ length new.client.requests)
-  pub out : IfOutOfRounds result (IsRunOut rounds new told_before told_after moments_before moments_after)
+  pub out : IfOutOfRounds result (IsRunOut rounds old new told_before told_after moments_before moments_after served_before)
   pub timed_out : IfTimedOut result (WasIdle old.config.idle moments_before moments_after)
   pub lost : IfProtocol result (λ e. IsProtocolLoss e new)
   pub errors : IfErr result IsRoundsError

@@ -8,7 +8,7 @@ use Rattle.qh_spec.specs.Message.{PlainMessage}
 use Rattle.qh_spec.specs.Record.{PlainEntry}
 use Rattle.qh_spec.specs.Turns.{AreWholeTurns}
 use Rattle.qh_exchange.specs.Clock.{HasPassed}
-use Rattle.qh_exchange.specs.Full.{EndsInFullTurn}
+use Rattle.qh_exchange.specs.Full.{AreFullTurns, EndsInFullTurn}
 use Rattle.qh_exchange.specs.Pair.{End, PairState, Running}
 use Rattle.qh_exchange.specs.declared.error.ExchangeError.{ExchangeError}
 use Rattle.qh_exchange.specs.declared.error.ExchangeError.TheVariants.{Invalid, Link, OutOfRounds}
@@ -62,11 +62,12 @@ pub record WasMade (requests : List PlainMessage) (told_before told_after : Opti
   pub stands : (events more : List Event) (fresh : List PlainEntry) → told_before ≡ Some events → told_after ≡ Some (events ++ more)
       → served_after ≡ served_before ++ fresh → Running p more fresh
 
--- there were requests, exactly so many rounds were made, each a whole turn where the events are told, the last one such that nothing
--- more could be done in it, and the pair that made them holds fewer answers than requests
+-- there were requests, exactly so many rounds were made, each a whole turn where the events are told, in which all was done that could
+-- be, and the pair that made them, the last one too, holds fewer answers than requests
 pub record RanOut (rounds : ℕ) (requests : List PlainMessage) (told_before told_after : Option (List Event)) (moments_before moments_after : List ℕ) (served_before served_after : List PlainEntry) : Type 0 where
   pub some : requests ≢ []
   pub turns : Adds (AreWholeTurns rounds) told_before told_after
+  pub full : Adds (AreFullTurns requests rounds []) told_before told_after
   pub moments : List ℕ
   pub moments_are : moments_after ≡ moments_before ++ moments
   pub rounds_are : length moments ≡ rounds

@@ -116,7 +116,7 @@ impl Pair {
     /// Makes one turn, and says whether an answer is held for each request: the link begins a round; each end takes what came for
     /// it; what is due by now is done; the client asks and takes answers, and the server serves, as far as they go; each end
     /// sends. It isn't called again after an `Err`. The errors: `Link` where the link failed, `TimedOut` where an end heard nothing for its
-    /// idle time, `Protocol` where an end lost its connection otherwise, `Memory`.
+    /// idle time, `Protocol` where an end lost its connection otherwise, which none does over an honest link, `Memory`.
     pub fn turn<V: Service, L: Link>(
         &mut self,
         service: &mut V,
