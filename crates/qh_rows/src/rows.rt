@@ -129,6 +129,11 @@ fn scripts_end_so(rt: HostRuntime) -> Result<(), Fail> {
             b"out of rounds\n",
         ),
         (b"request GET https://a.test/\nfail 1\n", 7, b"link\n"),
+        (
+            b"request GET https://a.test/\nfail 3\n",
+            7,
+            b"entry 0 GET https://a.test/\nbody 0\n\nlink\n",
+        ),
         (b"request GET https://a.test/\n\nfield\n", 3, b"line 3\n"),
     ];
     for (script, status, text) in rows {
