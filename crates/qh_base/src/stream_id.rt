@@ -5,7 +5,7 @@ use crate::{Dir, Side};
 
 /// The identifier of a stream (RFC 9000, section 2.1). Any number of 64 bits names one here; those from 2^62 on have no
 /// form on the wire.
-#[derive(Clone, Copy, Debug, PartialEq, Eq, PartialOrd, Ord, Hash)]
+#[derive(Clone, Copy, PartialEq, Eq, PartialOrd, Ord, Hash)]
 pub struct StreamId(pub u64);
 
 impl StreamId {

@@ -52,7 +52,7 @@ impl Reason {
 }
 
 /// A server name, of which the first 255 bytes are kept. A contract sees it as these bytes.
-#[derive(Debug, PartialEq, Eq, Drop)]
+#[derive(Drop)]
 pub struct Name(ArrayVec<u8, 255>);
 
 impl Model for Name {

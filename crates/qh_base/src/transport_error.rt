@@ -4,7 +4,7 @@ use crate::Reason;
 use thiserror::Error;
 
 /// An error code of QUIC's transport (RFC 9000, section 20.1). The names are those of the RFC.
-#[derive(Clone, Copy, Debug, PartialEq, Eq, PartialOrd, Ord, Hash)]
+#[derive(Clone, Copy, Debug, PartialEq, Eq)]
 pub struct TransportErrorCode(pub u64);
 
 impl TransportErrorCode {

@@ -10,11 +10,9 @@ use std::collections::VecDeque;
 use std::marker::Model;
 
 mod chunks;
-#[cfg(test)]
-mod tests;
 
 /// A piece of a stream, and where it begins.
-#[derive(Debug, Drop)]
+#[derive(Drop)]
 pub struct Chunk {
     /// The offset of its first byte.
     pub offset: u64,

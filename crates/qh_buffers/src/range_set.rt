@@ -6,9 +6,6 @@ use std::alloc::Global;
 use std::marker::Model;
 use std::ops::Range;
 
-#[cfg(test)]
-mod tests;
-
 /// A set of numbers, kept as ranges in order, none empty and no two touching.
 #[derive(Drop)]
 pub struct RangeSet {

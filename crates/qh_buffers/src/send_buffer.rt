@@ -4,8 +4,6 @@ ghost use Rattle.qh_buffers.specs.SendState.{marked, first_queued};
 
 mod pieces;
 mod segments;
-#[cfg(test)]
-mod tests;
 
 use bytes::Bytes;
 use qh_base::Memory;
@@ -16,7 +14,7 @@ use std::marker::Model;
 use std::ops::Range;
 
 /// What was done with a piece of a stream.
-#[derive(Clone, Copy, Debug, PartialEq, Eq)]
+#[derive(Clone, Copy, PartialEq, Eq)]
 pub enum Mark {
     /// It was sent, and nothing is known of it yet.
     Sent,
@@ -49,7 +47,7 @@ impl Mark {
 }
 
 /// Bytes that were sent together, up to an offset.
-#[derive(Clone, Copy, Debug, PartialEq, Eq)]
+#[derive(Clone, Copy)]
 pub struct Piece {
     /// The offset behind the last of them. They begin where the piece before them ends.
     pub end: u64,

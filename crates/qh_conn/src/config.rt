@@ -6,7 +6,7 @@ use qh_space::SpaceConfig;
 use qh_streams::{PeerLimits, StreamLimits};
 
 /// What a connection begins with (RFC 9000, section 18.2). Until a hello tells the peer's limits, both ends have the same.
-#[derive(Clone, Copy, Debug, PartialEq, Eq)]
+#[derive(Clone, Copy)]
 pub struct ConnConfig {
     /// What this end announces, and how much it holds to send.
     pub limits: StreamLimits,

@@ -4,7 +4,7 @@ use qh_streams::StreamEvent;
 use std::net::SocketAddr;
 
 /// What happened, for the application (quinn-proto, `Event`).
-#[derive(Debug, PartialEq, Eq, Drop)]
+#[derive(Drop)]
 pub enum Event {
     /// The connection was lost, or this end closed it. It comes once, after all that happened to streams before.
     ConnectionLost {
@@ -34,7 +34,7 @@ pub enum ConnectionEvent {
 }
 
 /// What a connection tells the endpoint that it belongs to (quinn-proto, `EndpointEvent`).
-#[derive(Clone, Copy, Debug, PartialEq, Eq)]
+#[derive(Clone, Copy, PartialEq, Eq)]
 pub enum EndpointEvent {
     /// Nothing more is sent or taken: the connection can be forgotten.
     Drained,

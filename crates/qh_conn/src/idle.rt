@@ -6,7 +6,7 @@ use qh_recovery::RttEstimator;
 
 /// The idle time of a connection (RFC 9000, section 10.1): it runs from the last packet that was accepted, or the first
 /// ack-eliciting packet that was sent after it.
-#[derive(Clone, Copy, Debug, PartialEq, Eq)]
+#[derive(Clone, Copy)]
 pub struct IdleTimer {
     /// The idle time in force, where there is one.
     pub timeout: Option<Span>,

@@ -13,8 +13,6 @@ mod inner;
 mod laws;
 mod state;
 mod stats;
-#[cfg(test)]
-mod tests;
 mod waiting;
 
 pub use config::ConnConfig;

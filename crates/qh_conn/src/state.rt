@@ -7,7 +7,7 @@ ghost use Rattle.qh_conn.specs.Timers.{ends_at};
 use qh_base::{ApplicationClose, ConnectionClose, Moment};
 
 /// What a CONNECTION_CLOSE frame says (RFC 9000, section 19.19; quinn-proto, `Close`).
-#[derive(Debug, PartialEq, Eq, Drop)]
+#[derive(Drop)]
 pub enum Close {
     /// Of the transport (type 1c).
     Connection(ConnectionClose),
@@ -16,7 +16,7 @@ pub enum Close {
 }
 
 /// How far a connection is (RFC 9000, section 10; quinn-proto, `State`).
-#[derive(Debug, PartialEq, Eq, Drop)]
+#[derive(Drop)]
 pub enum State {
     /// Packets go both ways.
     Established,

@@ -2,7 +2,7 @@ ghost use Rattle.std.specs.Prelude.{◌≡◌};
 ghost use Rattle.qh_conn.specs.Inner.{counted};
 
 /// Datagrams of one direction (quinn-proto, `UdpStats`). A count stands still at the greatest number that there is.
-#[derive(Clone, Copy, Debug, PartialEq, Eq)]
+#[derive(Clone, Copy)]
 pub struct UdpStats {
     pub datagrams: u64,
     /// The bytes of all of them.
@@ -21,7 +21,7 @@ impl UdpStats {
 
 /// What a connection did since it was made (quinn-proto, `ConnectionStats`). A count stands still at the greatest number that
 /// there is.
-#[derive(Clone, Copy, Debug, PartialEq, Eq)]
+#[derive(Clone, Copy)]
 pub struct ConnectionStats {
     /// The datagrams that were handed out.
     pub datagrams_sent: u64,

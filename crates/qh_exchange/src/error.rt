@@ -3,7 +3,7 @@ use qh_link::LinkFault;
 use thiserror::Error;
 
 /// Why an exchange ended without all its answers.
-#[derive(Debug, PartialEq, Eq, Drop, Error)]
+#[derive(Debug, Drop, Error)]
 pub enum ExchangeError {
     /// The request at this index breaks a rule, or is one too many. Nothing was sent.
     #[error("request {index} isn't valid")]

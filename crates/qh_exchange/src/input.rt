@@ -13,7 +13,7 @@ use std::alloc::Global;
 const PIECE: usize = 4_096;
 
 /// What one read of a source gave.
-#[derive(Clone, Copy, Debug, PartialEq, Eq)]
+#[derive(Clone, Copy, PartialEq, Eq)]
 pub(crate) enum Piece {
     /// Bytes, which aren't none.
     Bytes,

@@ -9,8 +9,6 @@ mod output;
 mod pair;
 mod program;
 mod script;
-#[cfg(test)]
-mod tests;
 mod tokens;
 mod validity;
 

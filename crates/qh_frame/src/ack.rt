@@ -7,7 +7,7 @@ mod ranges;
 use qh_base::VarInt;
 
 /// An ACK frame over the bytes of its packet (RFC 9000, section 19.3).
-#[derive(Clone, Copy, Debug)]
+#[derive(Clone, Copy)]
 pub struct Ack<'a> {
     /// The greatest packet number that it acknowledges.
     pub greatest: VarInt,
@@ -22,7 +22,7 @@ pub struct Ack<'a> {
 }
 
 /// Packet numbers, from the least to the greatest.
-#[derive(Clone, Copy, Debug, PartialEq, Eq)]
+#[derive(Clone, Copy)]
 pub struct AckRange {
     pub least: u64,
     pub greatest: u64,

@@ -2,7 +2,7 @@ use crate::Ack;
 use qh_base::{ConnectionId, Dir, ResetToken, StreamId, VarInt};
 
 /// A STREAM frame over the bytes of its packet (RFC 9000, section 19.8).
-#[derive(Clone, Copy, Debug)]
+#[derive(Clone, Copy)]
 pub struct Stream<'a> {
     pub id: StreamId,
     /// Where in the stream its bytes begin.
@@ -13,7 +13,7 @@ pub struct Stream<'a> {
 }
 
 /// A frame over the bytes of its packet (RFC 9000, section 19; RFC 9221, section 4).
-#[derive(Clone, Copy, Debug)]
+#[derive(Clone, Copy)]
 pub enum Frame<'a> {
     /// Nothing (section 19.1).
     Padding,
@@ -105,7 +105,7 @@ pub enum Frame<'a> {
 }
 
 /// Bytes that no frame begins, or one whose values may not stand in it.
-#[derive(Clone, Copy, Debug, PartialEq, Eq)]
+#[derive(Clone, Copy)]
 pub struct FrameFault {
     /// The type that the bytes begin with. None where it is cut.
     pub frame: Option<u64>,

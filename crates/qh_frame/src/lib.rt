@@ -8,8 +8,6 @@ mod laws;
 mod put;
 mod read;
 mod stream;
-#[cfg(test)]
-mod tests;
 mod write;
 mod written_ack;
 

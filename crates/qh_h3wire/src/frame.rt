@@ -17,10 +17,11 @@ use crate::{Settings, SettingsError};
 use bytes::Bytes;
 use qh_base::{Code, Memory, VarInt, get_varint, put_varint};
 use std::alloc::{AllocError, Global};
-use thiserror::Error;
+use std::error::Error;
+use std::fmt;
 
 /// A frame (RFC 9114, section 7.2).
-#[derive(Debug, PartialEq, Eq, Drop)]
+#[derive(Drop)]
 pub enum Frame {
     /// A DATA frame with its payload, which is only written.
     Data(Bytes),
@@ -43,35 +44,63 @@ pub enum Frame {
 }
 
 /// Why no frame was read.
-#[derive(Clone, Copy, Debug, PartialEq, Eq, Error)]
+#[derive(Clone, Copy, Debug, PartialEq, Eq)]
 pub enum FrameError {
     /// A frame whose id is cut, or which goes on behind it.
-    #[error("a malformed frame")]
     Malformed,
     /// A frame of a type that HTTP/2 had (section 7.2.8).
-    #[error("a frame of the reserved type {0:#x}")]
     ForbiddenFrame(u64),
     /// A frame of a type that no one knows, which is to be skipped (section 9).
-    #[error("a frame of the unknown type {0:#x}")]
     UnknownFrame(u64),
     /// A frame with a value that may not stand in it. No call gives it.
-    #[error("a frame with an invalid value")]
     InvalidFrameValue,
     /// The bytes are too few. The number says how many might do.
-    #[error("a frame that is cut, of which {0} bytes are awaited")]
     Incomplete(usize),
     /// A SETTINGS frame that is refused. It isn't want of memory, which is `Memory`.
-    #[error("a SETTINGS frame that is refused: {0}")]
     Settings(SettingsError),
     /// A frame with the id of no stream. No call gives it.
-    #[error("a frame with the invalid stream id {0}")]
     InvalidStreamId(u64),
     /// A frame with the id of no push. No call gives it.
-    #[error("a frame with the invalid push id {0}")]
     InvalidPushId(u64),
     /// The allocator had no memory.
-    #[error("out of memory")]
     Memory,
+}
+
+impl fmt::Display for FrameError {
+    fn fmt<W: fmt::Write>(&self, f: &mut fmt::Formatter<W>) -> fmt::Result {
+        match self {
+            FrameError::Malformed => f.write_str("a malformed frame"),
+            FrameError::ForbiddenFrame(kind) => put_type(f, "a frame of the reserved type", *kind),
+            FrameError::UnknownFrame(kind) => put_type(f, "a frame of the unknown type", *kind),
+            FrameError::InvalidFrameValue => f.write_str("a frame with an invalid value"),
+            FrameError::Incomplete(count) => put_count(f, *count),
+            FrameError::Settings(error) => put_refusal(f, error),
+            FrameError::InvalidStreamId(id) => put_type(
+                f,
+                "a frame with the invalid stream id",
+                *id,
+            ),
+            FrameError::InvalidPushId(id) => put_type(f, "a frame with the invalid push id", *id),
+            FrameError::Memory => f.write_str("out of memory"),
+        }
+    }
+}
+
+impl Error for FrameError {}
+
+// Writes what a frame has, and the type or id.
+fn put_type<W: fmt::Write>(f: &mut fmt::Formatter<W>, text: &str, n: u64) -> fmt::Result {
+    write!(f, "{text} {n:#x}")
+}
+
+// Writes that a frame is cut, and how many bytes might do.
+fn put_count<W: fmt::Write>(f: &mut fmt::Formatter<W>, count: usize) -> fmt::Result {
+    write!(f, "a frame that is cut, of which {count} bytes are awaited")
+}
+
+// Writes why a SETTINGS frame is refused.
+fn put_refusal<W: fmt::Write>(f: &mut fmt::Formatter<W>, error: &SettingsError) -> fmt::Result {
+    write!(f, "a SETTINGS frame that is refused: {error}")
 }
 
 impl FrameError {

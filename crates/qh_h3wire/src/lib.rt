@@ -7,8 +7,6 @@ mod laws;
 mod pair;
 mod settings;
 mod stream_type;
-#[cfg(test)]
-mod tests;
 mod write_buf;
 
 pub use frame::{Frame, FrameError, payloads_mean_one_frame, written_frames_are_read};

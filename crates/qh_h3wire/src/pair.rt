@@ -7,7 +7,7 @@ use qh_base::{Memory, VarInt, get_varint, put_varint};
 
 /// Two numbers that stand one after another, and how many bytes they take: the type and the length of a frame (RFC 9114,
 /// section 7.1), or the id and the value of a setting (section 7.2.4).
-#[derive(Clone, Copy, Debug)]
+#[derive(Clone, Copy)]
 pub(crate) struct Pair {
     pub(crate) first: u64,
     pub(crate) second: u64,

@@ -11,10 +11,11 @@ use arrayvec::ArrayVec;
 use qh_base::{Memory, VarInt};
 use std::alloc::Global;
 use std::collections::BTreeSet;
-use thiserror::Error;
+use std::error::Error;
+use std::fmt;
 
 /// The settings of an end (RFC 9114, section 7.2.4).
-#[derive(Debug, PartialEq, Eq, Drop)]
+#[derive(Drop)]
 pub struct Settings {
     /// The greatest size of a field section that the end takes (section 4.2.2). From 2^62 - 1 on there is no limit.
     pub max_field_section_size: u64,
@@ -27,23 +28,42 @@ pub struct Settings {
 }
 
 /// Why the payload of a SETTINGS frame is refused. The first entry at fault decides.
-#[derive(Clone, Copy, Debug, PartialEq, Eq, Error)]
+#[derive(Clone, Copy, Debug, PartialEq, Eq)]
 pub enum SettingsError {
     /// An entry is cut.
-    #[error("a setting is cut")]
     Malformed,
     /// The id stands twice.
-    #[error("the setting {0:#x} stands twice")]
     Repeated(u64),
     /// The id is one that HTTP/2 had.
-    #[error("the setting {0:#x} is reserved")]
     Forbidden(u64),
     /// A flag, with its id, is neither 0 nor 1.
-    #[error("the setting {0:#x} can't be {1}")]
     Value(u64, u64),
     /// The allocator had no memory.
-    #[error("out of memory")]
     Memory,
+}
+
+impl fmt::Display for SettingsError {
+    fn fmt<W: fmt::Write>(&self, f: &mut fmt::Formatter<W>) -> fmt::Result {
+        match self {
+            SettingsError::Malformed => f.write_str("a setting is cut"),
+            SettingsError::Repeated(id) => put_setting(f, *id, "stands twice"),
+            SettingsError::Forbidden(id) => put_setting(f, *id, "is reserved"),
+            SettingsError::Value(id, value) => put_value(f, *id, *value),
+            SettingsError::Memory => f.write_str("out of memory"),
+        }
+    }
+}
+
+impl Error for SettingsError {}
+
+// Writes an id, and what is wrong with it.
+fn put_setting<W: fmt::Write>(f: &mut fmt::Formatter<W>, id: u64, fault: &str) -> fmt::Result {
+    write!(f, "the setting {id:#x} {fault}")
+}
+
+// Writes an id, and the value that it can't have.
+fn put_value<W: fmt::Write>(f: &mut fmt::Formatter<W>, id: u64, value: u64) -> fmt::Result {
+    write!(f, "the setting {id:#x} can't be {value}")
 }
 
 /// SETTINGS_QPACK_MAX_TABLE_CAPACITY (RFC 9204, section 5).
@@ -178,10 +198,20 @@ fn write_entries(out: &mut Vec<u8>, entries: &[(u64, u64)]) -> Result<(), Memory
     ensures ok { OnOk result (out.new.items ≡ out.old.items ++ flat_map entry_bytes entries.now) }
     ensures err { OnErr result (HasGrown out.old.items out.new.items) }
 {
-    for (id, value) in entries {
-        Pair::write(out, *id, *value)?;
+    for entry in entries {
+        write_entry(out, *entry)?;
     }
     Ok(())
+}
+
+// Appends one entry.
+fn write_entry(out: &mut Vec<u8>, entry: (u64, u64)) -> Result<(), Memory>
+    requires first { entry.0 < 2 ^ 62 }
+    requires second { entry.1 < 2 ^ 62 }
+    ensures ok { OnOk result (out.new.items ≡ out.old.items ++ entry_bytes entry) }
+    ensures err { OnErr result (HasGrown out.old.items out.new.items) }
+{
+    Pair::write(out, entry.0, entry.1)
 }
 
 // Appends the limit, where there is one.

@@ -1,5 +1,5 @@
 /// The type of a one-way stream, with which it begins (RFC 9114, section 6.2, and RFC 9204, section 4.2).
-#[derive(Clone, Copy, Debug, PartialEq, Eq, PartialOrd, Ord, Hash)]
+#[derive(Clone, Copy)]
 pub struct StreamType(pub u64);
 
 impl StreamType {

@@ -10,7 +10,7 @@ use std::marker::Model;
 
 /// What is to be written on a stream. The payload of a frame is shared with its owner, and never copied. A contract sees
 /// the bytes that remain.
-#[derive(Debug, Drop)]
+#[derive(Drop)]
 pub struct WriteBuf {
     // Types, lengths, ids and settings.
     head: Bytes,

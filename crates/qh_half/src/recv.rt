@@ -8,9 +8,6 @@ ghost use Rattle.qh_half.specs.declared.recv.IngestFault.TheVariants.{Memory as 
 ghost use Rattle.qh_half.specs.declared.fault.ReadFault.TheVariants.{Memory as Lacking};
 ghost use Rattle.qh_half.specs.declared.recv.RecvState.TheVariants.{ResetRecvd};
 
-#[cfg(test)]
-mod tests;
-
 use crate::{ClosedStream, ReadFault, ReadableFault};
 use bytes::Bytes;
 use qh_base::{Memory, VarInt};
@@ -19,7 +16,7 @@ use std::alloc::Global;
 use std::marker::Model;
 
 /// What a receiving half knows (RFC 9000, section 3.2).
-#[derive(Clone, Copy, Debug, PartialEq, Eq)]
+#[derive(Clone, Copy)]
 pub enum RecvState {
     /// Bytes come; the final size, where it is known.
     Recv(Option<u64>),
@@ -74,7 +71,7 @@ impl RecvState {
 }
 
 /// Why bytes or an end that came are refused (RFC 9000, sections 4.1 and 4.5), or aren't kept.
-#[derive(Clone, Copy, Debug, PartialEq, Eq)]
+#[derive(Clone, Copy, PartialEq, Eq)]
 pub enum IngestFault {
     /// They pass a limit that was announced: FLOW_CONTROL_ERROR.
     FlowControl,
@@ -107,7 +104,7 @@ impl From<Memory> for ReadFault {
 }
 
 /// The STOP_SENDING frame of a stream (RFC 9000, section 19.5).
-#[derive(Clone, Copy, Debug, PartialEq, Eq)]
+#[derive(Clone, Copy)]
 pub struct StopFrame {
     /// The application's code.
     pub code: VarInt,

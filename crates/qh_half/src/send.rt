@@ -7,8 +7,6 @@ ghost use Rattle.qh_buffers.specs.declared.send_buffer.Mark.TheVariants.{Sent, Q
 ghost use Rattle.qh_half.specs.Send.{PlainSend, is_done, is_ready, is_finished, is_end_queued, is_end_acked, is_reset_refused, credit, write_fault, with_bytes, finish_fault, is_reset, is_reset_queued, IsPending, IsPieceOut, IsEndOut, IsPieceAcked, IsPieceQueued, IsSettled, with_end_sent, with_end_acked, with_end_lost, with_reset_mark, with_reset_lost, chunks_after, whole_chunks, new_send, owes_reset, held, Waits, is_writable, IsHeld};
 
 mod chunks;
-#[cfg(test)]
-mod tests;
 
 use crate::{ClosedStream, FinishFault, WriteFault};
 use bytes::Bytes;
@@ -19,7 +17,7 @@ use std::marker::Model;
 use std::ops::Range;
 
 /// What a sending half does (RFC 9000, section 3.1).
-#[derive(Clone, Copy, Debug, PartialEq, Eq)]
+#[derive(Clone, Copy)]
 pub enum SendState {
     /// It takes bytes.
     Ready,
@@ -157,7 +155,7 @@ impl From<Memory> for WriteFault {
 }
 
 /// What is handed out to be sent in one STREAM frame: the offsets of the bytes, and whether the stream ends with them.
-#[derive(Clone, Debug, PartialEq, Eq, Drop)]
+#[derive(Clone, Drop)]
 pub struct Outgoing {
     /// The offsets of the bytes.
     pub offsets: Range<u64>,
@@ -166,7 +164,7 @@ pub struct Outgoing {
 }
 
 /// What was taken of chunks.
-#[derive(Clone, Copy, Debug, PartialEq, Eq)]
+#[derive(Clone, Copy)]
 pub struct Written {
     /// How many bytes were taken.
     pub bytes: usize,
@@ -175,7 +173,7 @@ pub struct Written {
 }
 
 /// What a RESET_STREAM frame says beside the stream (RFC 9000, section 19.4).
-#[derive(Clone, Copy, Debug, PartialEq, Eq)]
+#[derive(Clone, Copy)]
 pub struct ResetFrame {
     /// The application's code.
     pub code: VarInt,

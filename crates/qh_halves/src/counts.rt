@@ -7,7 +7,7 @@ use crate::AnnouncedLimit;
 pub const MAX_STREAMS: u64 = 1 << 60;
 
 /// How many streams of one direction there were.
-#[derive(Clone, Copy, Debug, PartialEq, Eq)]
+#[derive(Clone, Copy)]
 pub struct StreamCounts {
     /// How many this end opened.
     pub opened: u64,

@@ -6,7 +6,7 @@ ghost use Rattle.qh_half.specs.Recv.{is_queued_mark};
 use qh_buffers::Mark;
 
 /// A limit that was announced to the peer in a MAX frame, and what was done with that frame (RFC 9000, section 4).
-#[derive(Clone, Copy, Debug, PartialEq, Eq)]
+#[derive(Clone, Copy)]
 pub struct AnnouncedLimit {
     /// The greatest that was announced.
     pub value: u64,

@@ -21,7 +21,7 @@ use std::collections::BTreeMap;
 use std::marker::Model;
 
 /// A frame that the reader of a stream has to send.
-#[derive(Clone, Copy, Debug, PartialEq, Eq)]
+#[derive(Clone, Copy)]
 pub enum StreamControl {
     /// STOP_SENDING, with the application's code.
     StopSending(VarInt),

@@ -20,7 +20,7 @@ use std::collections::BTreeMap;
 use std::marker::Model;
 
 /// What a stream sends next.
-#[derive(Clone, Debug, PartialEq, Eq, Drop)]
+#[derive(Clone, Drop)]
 pub enum Transmission {
     /// Bytes, or an end, for a STREAM frame.
     Stream(Outgoing),

@@ -10,6 +10,3 @@ pub use link::{Link, LinkFault, MAX_DATAGRAM};
 pub use qh_spec::{Event, Select, Upset};
 pub use schedule::is_valid_upset;
 pub use script::ScriptLink;
-
-#[cfg(test)]
-mod tests;

@@ -6,8 +6,6 @@ mod acked;
 mod laws;
 mod lost;
 mod probe;
-#[cfg(test)]
-mod tests;
 
 pub use acked::on_ack_received;
 pub use laws::owed;

@@ -8,7 +8,7 @@ use qh_recovery::SentPackets;
 use qh_streams::{SentFrame, Streams};
 
 /// What a probe sends.
-#[derive(Clone, Copy, Debug, PartialEq, Eq)]
+#[derive(Clone, Copy, PartialEq, Eq)]
 pub enum Probe {
     /// STREAM frames that were sent before and aren't acknowledged: they wait again.
     Stream,

@@ -4,20 +4,17 @@ ghost use Rattle.qh_frame.specs.declared.frame.FrameFault.{FrameFault as AFrameF
 ghost use Rattle.qh_packet.specs.Frames.{AreSurveyed, IsFaultyFrame, is_ack_eliciting};
 ghost use Rattle.qh_packet.specs.declared.frames.PacketFault.TheVariants as fault;
 
-#[cfg(test)]
-mod tests;
-
 use qh_frame::{Frame, FrameFault, get_frame};
 
 /// What is known of a packet's frames before any is taken.
-#[derive(Clone, Copy, Debug, PartialEq, Eq)]
+#[derive(Clone, Copy)]
 pub struct FrameSurvey {
     /// Whether the packet wants an acknowledgement: it has a frame beside PADDING, ACK and CONNECTION_CLOSE (RFC 9002, section 2).
     pub is_ack_eliciting: bool,
 }
 
 /// Why no frame of a packet is taken.
-#[derive(Clone, Copy, Debug, PartialEq, Eq)]
+#[derive(Clone, Copy)]
 pub enum PacketFault {
     /// It has no frame (RFC 9000, section 12.4).
     Empty,

@@ -6,9 +6,6 @@ ghost use Rattle.qh_spec.specs.declared.sides.Space.TheVariants.{Data};
 ghost use Rattle.qh_packet.specs.Packet.{IsOpened, IsPacketOf, header_bytes, short_of};
 ghost use Rattle.qh_packet.specs.View.{packet_of};
 
-#[cfg(test)]
-mod tests;
-
 use crate::session::Session;
 use qh_base::{ConnectionId, Memory, Side, Space};
 use qh_recovery::expand;
@@ -17,7 +14,7 @@ use qh_recovery::expand;
 pub const TAG_LEN: usize = 32;
 
 /// A 1-RTT packet whose tag was accepted.
-#[derive(Clone, Copy, Debug)]
+#[derive(Clone, Copy)]
 pub struct OneRttPacket<'a> {
     /// Its whole number.
     pub number: u64,
@@ -81,7 +78,7 @@ pub fn open_packet<'a, S: Session>(
 }
 
 /// The parts of a 1-RTT packet (the short header of RFC 9000, section 17.3.1, without header protection).
-#[derive(Clone, Copy, Debug)]
+#[derive(Clone, Copy)]
 struct ShortPacket<'a> {
     /// The connection id of the end that it goes to.
     destination: &'a [u8],

@@ -6,9 +6,6 @@ ghost use Rattle.qh_spec.specs.Tag.{IsTag, tag_bytes, space_byte as space_byte_o
 ghost use Rattle.arrayvec.specs.ArrayVec.{array_vec_len};
 ghost use Rattle.qh_packet.specs.Session.{PlainKeys};
 
-#[cfg(test)]
-mod tests;
-
 use arrayvec::ArrayVec;
 use qh_base::{ConnectionId, Memory, Name, Side, Space};
 use std::marker::Model;
@@ -59,7 +56,7 @@ pub trait Session {
 
 /// A session without a cipher. Its tags are made of the key id, which is the client's first destination id, or after a
 /// Retry the Retry's source id.
-#[derive(Debug, Drop)]
+#[derive(Drop)]
 pub struct PlainSession {
     key_id: ConnectionId,
     server_name: Name,
@@ -75,7 +72,7 @@ impl Model for PlainSession {
 }
 
 /// What a plain session's handshake tells.
-#[derive(Debug, PartialEq, Eq, Drop)]
+#[derive(Drop)]
 pub struct PlainData {
     /// The server name that was asked for.
     pub server_name: Name,

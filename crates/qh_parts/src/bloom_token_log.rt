@@ -143,6 +143,3 @@ pub fn optimal_k_num(num_bytes: usize, expected_hits: u64) -> u32
     let k_num = (2 * bits * LN_2 + entries * UNIT) / (2 * entries * UNIT);
     k_num.clamp(1, u128::from(u32::MAX)) as u32
 }
-
-#[cfg(test)]
-mod tests;

@@ -8,7 +8,7 @@ use std::marker::Model;
 const NANOS_PER_SECOND: u128 = 1_000_000_000;
 
 /// How many bytes there were up to a moment.
-#[derive(Clone, Copy, Debug)]
+#[derive(Clone, Copy)]
 pub struct Total {
     pub bytes: u64,
     // None before the first bytes.
@@ -16,7 +16,7 @@ pub struct Total {
 }
 
 /// The total, and the one before it.
-#[derive(Clone, Copy, Debug)]
+#[derive(Clone, Copy)]
 pub struct Totals {
     pub last: Total,
     pub previous: Total,
@@ -24,7 +24,7 @@ pub struct Totals {
 
 /// The bandwidth of a path, in bytes a second, from what was sent and what was acknowledged: the greatest that was
 /// measured.
-#[derive(Clone, Copy, Debug)]
+#[derive(Clone, Copy)]
 pub struct BandwidthEstimation {
     sent: Totals,
     acked: Totals,
@@ -183,63 +183,4 @@ fn with_measurement(mut filter: MinMax, round: u64, bandwidth: u64, app_limited:
         filter.update_max(round, bandwidth);
     }
     filter
-}
-
-#[cfg(test)]
-mod tests {
-    use super::*;
-
-    const SECOND: u64 = 1_000_000_000;
-
-    fn at(half_seconds: u64) -> Moment {
-        Moment(half_seconds.saturating_mul(SECOND / 2))
-    }
-
-    #[test]
-    fn the_lesser_rate_counts(rt: HostRuntime) {
-        let mut estimation = BandwidthEstimation::new();
-        // Nothing was sent before, and then nothing acknowledged before.
-        estimation.on_sent(at(0), 1_000);
-        estimation.on_ack(at(1), 500, 1, false);
-        estimation.on_sent(at(2), 3_000);
-        assert_eq!(rt; estimation.get_estimate(), 0);
-        // 3,000 bytes a second were sent, and 1,000 acknowledged.
-        estimation.on_ack(at(2), 500, 1, false);
-        assert_eq!(rt; estimation.get_estimate(), 1_000);
-        // 4,000 were acknowledged, but the application had nothing more to send.
-        estimation.on_ack(at(3), 2_000, 2, true);
-        assert_eq!(rt; estimation.get_estimate(), 1_000);
-        estimation.on_ack(at(4), 2_000, 2, false);
-        assert_eq!(rt; estimation.get_estimate(), 3_000);
-        assert_eq!(rt; estimation.bytes_acked_this_window(), 5_000);
-        estimation.end_acks();
-        assert_eq!(rt; estimation.bytes_acked_this_window(), 0);
-        // At one moment any rate of sending counts, and no rate of acknowledging.
-        estimation.on_sent(at(4), 1_000);
-        estimation.on_sent(at(4), 1_000);
-        estimation.on_ack(at(4), 100, 3, false);
-        assert_eq!(rt; estimation.get_estimate(), 3_000);
-        estimation.on_ack(at(5), 2_500, 3, false);
-        assert_eq!(rt; estimation.get_estimate(), 5_000);
-        assert_eq!(rt; estimation.bytes_acked_this_window(), 2_600);
-    }
-
-    #[test]
-    fn rates_are_bytes_a_second(rt: HostRuntime) {
-        for (bytes, nanos, rate) in [
-            (0, SECOND, Some(0)),
-            (1_200, SECOND, Some(1_200)),
-            (1_200, SECOND / 1_000, Some(1_200_000)),
-            (3, 2 * SECOND, Some(1)),
-            (5, 0, None),
-            (u64::MAX, SECOND, Some(u64::MAX)),
-            (u64::MAX, 1, Some(u64::MAX)),
-            (u64::MAX, u64::MAX, Some(SECOND)),
-        ] {
-            assert_eq!(rt;
-                BandwidthEstimation::bw_from_delta(bytes, Span(nanos)),
-                rate
-            );
-        }
-    }
 }

@@ -7,14 +7,14 @@ use std::marker::Model;
 const WINDOW: u64 = 10;
 
 /// A measurement, and the round that it was made in.
-#[derive(Clone, Copy, Debug)]
+#[derive(Clone, Copy)]
 pub struct Sample {
     pub round: u64,
     pub value: u64,
 }
 
 /// The greatest sample of the window, and the two that may follow it.
-#[derive(Clone, Copy, Debug)]
+#[derive(Clone, Copy)]
 pub struct Samples {
     pub first: Sample,
     pub second: Sample,
@@ -23,7 +23,7 @@ pub struct Samples {
 
 /// The greatest measurement of the last ten rounds, by Kathleen Nichols' windowed filter: its three samples take
 /// constant space, and almost always tell what all the measurements would. A contract sees the samples.
-#[derive(Clone, Copy, Debug)]
+#[derive(Clone, Copy)]
 pub struct MinMax {
     samples: Samples,
 }
@@ -197,51 +197,5 @@ impl Samples {
             third: sample,
             ..self
         }
-    }
-}
-
-#[cfg(test)]
-mod tests {
-    use super::*;
-
-    // A round, a measurement in it, and what is the greatest then. Rounds don't fall.
-    const ROWS: [(u64, u64, u64); 21] = [
-        (26, 100, 100),
-        (28, 120, 120),
-        (30, 160, 160),
-        (32, 100, 160),
-        (35, 100, 160),
-        (39, 100, 160),
-        (41, 100, 100),
-        (43, 130, 130),
-        // A measurement counts for ten rounds, and not for eleven; the second and the third follow it.
-        (43, 200, 200),
-        (46, 190, 200),
-        (49, 180, 200),
-        (53, 1, 200),
-        (54, 1, 190),
-        (57, 2, 180),
-        (64, 2, 2),
-        // After a pause of more than ten rounds only the new one counts.
-        (75, 1, 1),
-        (75, 0, 1),
-        // Two at once are too old.
-        (75, 300, 300),
-        (78, 290, 300),
-        (81, 280, 300),
-        (89, 1, 280),
-    ];
-
-    #[test]
-    fn the_greatest_counts_for_ten_rounds(rt: HostRuntime) {
-        let mut filter = MinMax::new();
-        let mut round = 0u64;
-        for (at, measurement, greatest) in ROWS {
-            round = round.max(at);
-            filter.update_max(round, measurement);
-            assert_eq!(rt; filter.get(), greatest, "in round {round}");
-        }
-        filter.reset();
-        assert_eq!(rt; filter.get(), 0);
     }
 }

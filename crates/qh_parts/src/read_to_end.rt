@@ -30,7 +30,7 @@ impl<T: Drop> From<AllocFailed<T>> for PushFault {
 }
 
 /// From the least offset to the greatest end.
-#[derive(Clone, Copy, Debug)]
+#[derive(Clone, Copy)]
 pub struct Extent {
     pub start: u64,
     pub end: u64,
@@ -174,59 +174,4 @@ fn place(bytes: &mut [u8], start: u64, chunk: &Chunk)
 {
     let at = (chunk.offset - start) as usize;
     bytes[at..at + chunk.bytes.len()].copy_from_slice(&chunk.bytes);
-}
-
-#[cfg(test)]
-mod tests {
-    use super::*;
-    use bytes::Bytes;
-    use std::test::Fail;
-
-    type Piece = (u32, &'static [u8]);
-
-    // Pushes pieces into a buffer, and answers how many were too long.
-    fn push_all(
-        alloc: Global,
-        buffer: &mut ReadToEndBuffer,
-        pieces: &[Piece],
-    ) -> Result<usize, Memory> {
-        let mut refused = 0usize;
-        for (offset, piece) in pieces {
-            let chunk = Chunk {
-                offset: u64::from(*offset),
-                bytes: Bytes::copy_from_slice(alloc, piece)?,
-            };
-            match buffer.push(chunk) {
-                Ok(()) => {}
-                Err(PushFault::TooLong) => refused = refused.saturating_add(1),
-                Err(PushFault::Memory) => return Err(Memory),
-            }
-        }
-        Ok(refused)
-    }
-
-    #[test]
-    fn chunks_stand_at_their_places(rt: HostRuntime) -> Result<(), Fail> {
-        let rows: [(usize, &[Piece], usize, &[u8]); 9] = [
-            (0, &[], 0, b""),
-            (8, &[(104, b"efgh"), (100, b"abcd")], 0, b"abcdefgh"),
-            (5, &[(14, b"e"), (10, b"a")], 0, b"a\0\0\0e"),
-            // A later chunk stands over an earlier one.
-            (6, &[(0, b"abcd"), (2, b"CDEF")], 0, b"abCDEF"),
-            (6, &[(0, b"abcdef"), (2, b"CD")], 0, b"abCDef"),
-            // What is refused leaves zeros, and so does what comes after it.
-            (4, &[(4, b"efgh"), (0, b"abcd")], 1, b"\0\0\0\0efgh"),
-            (4, &[(4, b"efgh"), (0, b"a"), (5, b"F")], 2, b"\0\0\0\0efgh"),
-            (0, &[(7, b"")], 0, b""),
-            (2, &[(7, b""), (5, b"a")], 0, b"a\0"),
-        ];
-        let alloc = rt.alloc();
-        for (limit, pieces, refused, bytes) in &rows {
-            let mut buffer = ReadToEndBuffer::new(alloc, *limit);
-            assert_eq!(rt; push_all(alloc, &mut buffer, pieces)?, *refused);
-            assert_eq!(rt; buffer.chunks() + *refused, pieces.len());
-            assert_eq!(rt; buffer.finish()?.as_slice(), *bytes);
-        }
-        Ok(())
-    }
 }

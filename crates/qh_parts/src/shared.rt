@@ -39,30 +39,3 @@ impl<W: Wait> TokenLog for &SharedTokenLog<W> {
             .check_and_insert(alloc, nonce, issued, lifetime)
     }
 }
-
-#[cfg(test)]
-mod tests {
-    use super::*;
-    use std::thread;
-
-    fn enter<L: TokenLog + Drop>(mut token_log: L, alloc: Global, nonce: u128) -> bool {
-        token_log
-            .check_and_insert(alloc, nonce, Moment(5), Span(1_000))
-            .is_ok()
-    }
-
-    #[test]
-    fn shared_log(rt: HostRuntime) {
-        let alloc = rt.alloc();
-        let shared = SharedTokenLog::new(&rt, BloomTokenLog::default_log());
-        let (first, second) = (&shared, &shared);
-        assert!(rt; enter(first, alloc, 7));
-        assert!(rt; !enter(second, alloc, 7));
-        let (left, right) = thread::join(
-            &rt,
-            || enter(first, alloc, 8),
-            || enter(second, alloc, 8),
-        );
-        assert!(rt; left != right);
-    }
-}

@@ -9,7 +9,7 @@ const SAMPLING_INTERVAL: u16 = 256;
 
 /// Limits the work of a cycle to what can be done in a length of time. It measures some cycles, and limits the others by
 /// how long an item took in those. What an item is doesn't matter, as long as one takes about as long as another.
-#[derive(Debug, Drop)]
+#[derive(Drop)]
 pub struct WorkLimiter {
     desired_cycle_time: Span,
     // How many cycles with work are over, modulo 2^16.
@@ -126,65 +126,4 @@ fn smooth(before: u64, time: u64) -> u64
     }
     let eighths = 7 * u128::from(before) + u128::from(time);
     ((eighths / 8) as u64).max(1)
-}
-
-#[cfg(test)]
-mod tests {
-    use super::*;
-
-    // How many cycles there are, the items of a batch and the milliseconds that it takes, the batches of a cycle, and what
-    // is allowed then.
-    const ROWS: [(u16, u16, u64, usize, usize); 8] = [
-        (1, 12, 100, 5, 60),
-        (1, 1, 0, 60, 60),
-        (1, 2, 0, 30, 60),
-        (1, 3, 0, 20, 60),
-        (1, 5, 900, 12, 60),
-        (251, 60, 0, 1, 60),
-        (1, 96, 100, 5, 67),
-        (1, 60, 0, 2, 67),
-    ];
-
-    // Does batches of work while the cycle allows it, and answers how many.
-    fn work(limiter: &mut WorkLimiter, now: &mut Moment, items: u16, time: Span) -> usize {
-        limiter.start_cycle(*now);
-        for batches in 0..1_000usize {
-            if !limiter.allow_work(*now) {
-                limiter.finish_cycle(*now);
-                return batches;
-            }
-            limiter.record_work(usize::from(items));
-            *now = now.plus(time);
-        }
-        1_000
-    }
-
-    #[test]
-    fn work_is_limited_by_the_time_it_took(rt: HostRuntime) {
-        let mut limiter = WorkLimiter::new(Span::from_millis(500));
-        let mut now = Moment(7);
-        // A cycle without work isn't counted.
-        limiter.start_cycle(now);
-        limiter.finish_cycle(now);
-        assert_eq!(rt; limiter.allowed(), 0);
-        for (cycles, items, millis, batches, allowed) in ROWS {
-            for _cycle in 0..cycles {
-                let done = work(&mut limiter, &mut now, items, Span::from_millis(millis));
-                assert_eq!(rt; done, batches);
-            }
-            assert_eq!(rt; limiter.allowed(), allowed);
-        }
-    }
-
-    // An item takes a nanosecond at least, and a cycle allows one at least.
-    #[test]
-    fn limits_have_bounds(rt: HostRuntime) {
-        for (cycle, elapsed, allowed) in [(100, 0, 100), (100, 5, 20), (0, 5, 1), (100, 1_000, 1)] {
-            let mut limiter = WorkLimiter::new(Span(cycle));
-            limiter.start_cycle(Moment(50));
-            limiter.record_work(1);
-            limiter.finish_cycle(Moment(50).plus(Span(elapsed)));
-            assert_eq!(rt; limiter.allowed(), allowed);
-        }
-    }
 }

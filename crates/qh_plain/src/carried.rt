@@ -1,8 +1,6 @@
 //! What datagrams carry of a stream.
 
 mod run;
-#[cfg(test)]
-mod tests;
 
 ghost use Rattle.std.specs.Prelude.{◌≡◌, ◌++◌, ℕ, List, IfOk, OnOk};
 ghost use Rattle.std.specs.List.{flat_map};
@@ -18,7 +16,7 @@ use run::Run;
 use std::alloc::Global;
 
 /// What datagrams carry of one side's part of a stream, in any order, and as often as they carry it.
-#[derive(Debug, Drop)]
+#[derive(Drop)]
 pub struct CarriedStream {
     /// Bytes with their offsets.
     pub bytes: Vec<(u64, u8)>,
@@ -73,11 +71,25 @@ fn push_packets(
     ensures { OnOk result (runs.new.items ≡ runs.old.items ++ flat_map (runs_of sender) packets.now) }
 {
     for packet in packets {
-        if is_from(packet, sender) {
-            push_frames(alloc, runs, packet.frames())?;
-        }
+        push_packet(alloc, runs, packet, sender)?;
     }
     Ok(())
+}
+
+/// Appends the STREAM frames of a packet, if it is a 1-RTT packet of the sender.
+fn push_packet(
+    alloc: Global,
+    runs: &mut Vec<Run>,
+    packet: &Packet,
+    sender: Side,
+) -> Result<(), Memory>
+    ensures { OnOk result (runs.new.items ≡ runs.old.items ++ runs_of sender packet.now) }
+{
+    if is_from(packet, sender) {
+        push_frames(alloc, runs, packet.frames())
+    } else {
+        Ok(())
+    }
 }
 
 /// Whether it is a 1-RTT packet of the sender.
@@ -95,10 +107,17 @@ fn push_frames(alloc: Global, runs: &mut Vec<Run>, frames: &[Frame]) -> Result<(
     ensures { OnOk result (runs.new.items ≡ runs.old.items ++ flat_map runs_in frames.now) }
 {
     for frame in frames {
-        let found = Run::of(alloc, frame)?;
-        push_found(runs, found)?;
+        push_frame(alloc, runs, frame)?;
     }
     Ok(())
+}
+
+/// Appends the STREAM frame that a frame is, if it is one.
+fn push_frame(alloc: Global, runs: &mut Vec<Run>, frame: &Frame) -> Result<(), Memory>
+    ensures { OnOk result (runs.new.items ≡ runs.old.items ++ runs_in frame.now) }
+{
+    let found = Run::of(alloc, frame)?;
+    push_found(runs, found)
 }
 
 /// Keeps the run, where one was found.

@@ -7,16 +7,13 @@ ghost use Rattle.qh_spec.specs.HttpFrame.{HttpFrame as AFrame, AreHttpFrames};
 ghost use Rattle.qh_spec.specs.Spelling.{known_kinds, known_frames};
 ghost use Rattle.qh_plain.specs.Frames.{Parts, AreParts, number_at, frame_at, data_payloads, after_data, last_at, parts_at};
 
-#[cfg(test)]
-mod tests;
-
 use crate::sections::counted;
 use qh_base::{Memory, get_varint};
 use std::alloc::Global;
 use std::marker::Model;
 
 /// A frame (RFC 9114, section 7.1).
-#[derive(Debug, Drop)]
+#[derive(Drop)]
 pub struct HttpFrame {
     kind: u64,
     payload: Vec<u8>,
@@ -107,7 +104,7 @@ fn number(bytes: &[u8]) -> Option<(u64, &[u8])>
 }
 
 /// The parts of a message (section 4.1).
-#[derive(Debug, Drop)]
+#[derive(Drop)]
 pub struct MessageParts {
     /// The payload of the first HEADERS frame, a field section.
     pub section: Vec<u8>,

@@ -2,8 +2,6 @@
 
 mod placed;
 mod spelling;
-#[cfg(test)]
-mod tests;
 mod whole;
 
 pub use spelling::spells;

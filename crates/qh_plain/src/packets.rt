@@ -4,8 +4,6 @@ mod body;
 mod frame;
 mod header;
 mod tag;
-#[cfg(test)]
-mod tests;
 mod value;
 
 ghost use Rattle.std.specs.Prelude.{◌≡◌, ◌++◌, IfOk, IfSome, IfNone, OnOk};

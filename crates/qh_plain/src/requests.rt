@@ -16,8 +16,6 @@ use qh_service::{Head, Message};
 use room::{Room, after_head, after_map};
 
 mod room;
-#[cfg(test)]
-mod tests;
 
 // The greatest number of fields in a section.
 const MAX_FIELDS: u64 = 1024;

@@ -7,8 +7,6 @@ ghost use Rattle.qh_spec.specs.Section.{IsSection, AreLines};
 mod integer;
 mod line;
 mod table;
-#[cfg(test)]
-mod tests;
 
 pub(crate) use line::counted;
 use line::{Line, first_line};
@@ -17,7 +15,7 @@ use std::alloc::Global;
 use std::marker::Model;
 
 /// A field line: a name and a value, as bytes.
-#[derive(Debug, Drop)]
+#[derive(Drop)]
 pub struct FieldLine {
     name: Vec<u8>,
     value: Vec<u8>,

@@ -13,7 +13,7 @@ use std::alloc::{AllocFailed, Global};
 use thiserror::Error;
 
 /// The fields of a section, in order.
-#[derive(Debug, Drop, PartialEq, Eq)]
+#[derive(Drop, PartialEq)]
 pub struct Decoded {
     pub fields: Vec<HeaderField>,
     /// The section's size (RFC 9114, section 4.2.2): of each field the lengths of its name and value and 32, at most

@@ -10,7 +10,7 @@ use std::alloc::Global;
 use std::marker::Model;
 
 /// The bytes of a name or a value. A contract sees them as a list.
-#[derive(Debug, Drop)]
+#[derive(Drop)]
 pub struct Octets {
     bytes: Vec<u8>,
 }
@@ -92,7 +92,7 @@ impl Eq for Octets {
 }
 
 /// A field line: a name and a value. A contract sees it as both lists of bytes.
-#[derive(Debug, Drop)]
+#[derive(Drop)]
 pub struct HeaderField {
     pub name: Octets,
     pub value: Octets,

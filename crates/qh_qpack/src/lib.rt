@@ -11,8 +11,6 @@ mod line;
 mod prefix_int;
 mod prefix_string;
 mod static_;
-#[cfg(test)]
-mod tests;
 
 pub use decoder::{Decoded, DecoderError, decode_stateless};
 pub use encoder::encode_stateless;

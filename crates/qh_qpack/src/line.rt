@@ -11,7 +11,7 @@ use qh_base::Memory;
 use std::alloc::Global;
 
 /// A field line whose bytes lie in the section or in the static table.
-#[derive(Clone, Copy, Debug)]
+#[derive(Clone, Copy)]
 pub(crate) struct Line<'a> {
     pub(crate) name: &'a [u8],
     pub(crate) value: &'a [u8],

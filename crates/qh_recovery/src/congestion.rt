@@ -1,9 +1,6 @@
 ghost use Rattle.std.specs.Prelude.{◌≡◌, ◌<◌, ◌≤◌, ℕ};
 ghost use Rattle.qh_recovery.specs.Window.{new_controller, is_in_slow_start, acked, lost, allows};
 
-#[cfg(test)]
-mod tests;
-
 /// The size, in bytes, of the datagrams by which the window grows (RFC 9002, section 7.2; RFC 9000, section 14).
 const DATAGRAM_SIZE: u64 = 1_200;
 
@@ -11,7 +8,7 @@ const DATAGRAM_SIZE: u64 = 1_200;
 const MINIMUM_WINDOW: u64 = 2_400;
 
 /// How many bytes may be in flight (RFC 9002, section 7, with the NewReno of its appendix B).
-#[derive(Clone, Copy, Debug, PartialEq, Eq)]
+#[derive(Clone, Copy)]
 pub struct WindowController {
     /// The window, in bytes.
     pub window: u64,
@@ -24,7 +21,7 @@ pub struct WindowController {
 }
 
 /// What of a window others may see.
-#[derive(Clone, Copy, Debug, PartialEq, Eq)]
+#[derive(Clone, Copy)]
 pub struct ControllerMetrics {
     /// The window, in bytes.
     pub congestion_window: u64,

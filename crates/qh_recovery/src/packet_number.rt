@@ -1,9 +1,6 @@
 ghost use Rattle.std.specs.Prelude.{◌≡◌, ℕ, ◌+◌, ◌/◌, ◌<◌, ◌≤◌, ◌%◌, ◌^◌};
 ghost use Rattle.qh_recovery.specs.PacketNumber.{IsCandidate, IsExpanded, IsNearest};
 
-#[cfg(test)]
-mod tests;
-
 /// Packet numbers are below this one (RFC 9000, section 12.3).
 const PACKET_NUMBERS: u64 = 1 << 62;
 

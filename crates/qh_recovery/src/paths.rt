@@ -3,9 +3,6 @@ ghost use Rattle.qh_recovery.specs.Rtt.{new_estimator, smoothed_by, varied, samp
 
 use qh_base::Span;
 
-#[cfg(test)]
-mod tests;
-
 /// The granularity of the clock, in nanoseconds (RFC 9002, section 6.1.2).
 const GRANULARITY: u64 = 1_000_000;
 
@@ -13,7 +10,7 @@ const GRANULARITY: u64 = 1_000_000;
 const MAX_ACK_DELAY: u64 = 25_000_000;
 
 /// What is known of a path's round-trip time (RFC 9002, section 5).
-#[derive(Clone, Copy, Debug, PartialEq, Eq)]
+#[derive(Clone, Copy)]
 pub struct RttEstimator {
     /// The last sample, or before a sample the initial time.
     pub latest: Span,

@@ -11,9 +11,6 @@ use std::alloc::Global;
 use std::collections::BTreeMap;
 use std::marker::Model;
 
-#[cfg(test)]
-mod tests;
-
 /// What is kept of a packet that is out.
 #[derive(Drop)]
 pub struct SentPacket<F> {

@@ -33,7 +33,7 @@ impl Model for Incoming {
 }
 
 /// How far a message is on its way in.
-#[derive(Clone, Copy, Debug, PartialEq, Eq)]
+#[derive(Clone, Copy, PartialEq, Eq)]
 pub enum ReadState {
     /// More is to come.
     Blocked,

@@ -6,8 +6,6 @@ mod client;
 mod incoming;
 mod outgoing;
 mod server;
-#[cfg(test)]
-mod tests;
 
 pub use client::{Client, RequestState, RequestStream};
 pub use incoming::{Incoming, ReadState};

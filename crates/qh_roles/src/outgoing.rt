@@ -34,7 +34,7 @@ impl Model for Outgoing {
 }
 
 /// How far a message is on its way out.
-#[derive(Clone, Copy, Debug, PartialEq, Eq)]
+#[derive(Clone, Copy, PartialEq, Eq)]
 pub enum WriteState {
     /// Bytes are left, which the limits don't permit yet.
     Blocked,

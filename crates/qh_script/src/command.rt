@@ -8,7 +8,7 @@ ghost use Rattle.qh_script.specs.Line.{IsNumber};
 use crate::line::read_below;
 
 /// What the words of the program ask for.
-#[derive(Clone, Copy, Debug, PartialEq, Eq)]
+#[derive(Clone, Copy)]
 pub enum Command {
     /// Run the script that is read.
     Exchange,

@@ -6,7 +6,7 @@ use std::alloc::Global;
 use std::marker::Model;
 
 /// The settings of an exchange. Both ends know them.
-#[derive(Debug, Drop)]
+#[derive(Drop)]
 pub struct Config {
     /// How many requests there may be.
     pub max_requests: u64,

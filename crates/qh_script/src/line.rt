@@ -10,8 +10,6 @@ mod keywords;
 mod messages;
 mod numbers;
 mod parts;
-#[cfg(test)]
-mod tests;
 mod upsets;
 mod words;
 
@@ -60,7 +58,7 @@ pub enum Line<'a> {
 }
 
 /// Why a line wasn't taken.
-#[derive(Clone, Copy, Debug, PartialEq, Eq)]
+#[derive(Clone, Copy, PartialEq, Eq)]
 pub enum LineError {
     /// It isn't of any form.
     Refused,

@@ -230,6 +230,3 @@ fn put_text(out: &mut Vec<u8>, text: &str) -> Result<(), Memory>
     out.extend_from_slice(text.as_bytes())?;
     Ok(())
 }
-
-#[cfg(test)]
-mod tests;

@@ -7,8 +7,6 @@ mod apply;
 mod last;
 mod lines;
 mod settings;
-#[cfg(test)]
-mod tests;
 mod untaken;
 
 use crate::{Config, default_config, fits};
@@ -45,7 +43,7 @@ impl Model for Script {
 }
 
 /// Why a script wasn't read.
-#[derive(Clone, Copy, Debug, PartialEq, Eq)]
+#[derive(Clone, Copy)]
 pub enum ScriptError {
     /// This line, counted from 1, is refused: 0 for a text that is too long, one past the lines where the settings don't
     /// fit or no limits are given.

@@ -8,8 +8,6 @@ ghost use Rattle.qh_script.specs.Script.{WhenRefused, RefusesLines};
 ghost use Rattle.qh_script.specs.Tokens.{limits_of, token_of, tokens_of, line_of, RefusesTokens};
 
 mod line;
-#[cfg(test)]
-mod tests;
 
 use crate::script::{MAX_SCRIPT, ScriptError, Untaken, cut_line};
 use line::{TokenLine, read_token_line};
@@ -18,7 +16,7 @@ use std::alloc::Global;
 use std::marker::Model;
 
 /// The limits of a token log.
-#[derive(Clone, Copy, Debug, PartialEq, Eq)]
+#[derive(Clone, Copy)]
 pub struct TokenLimits {
     /// How many bytes its two filters may take, at most 2^30.
     pub max_bytes: usize,
@@ -27,7 +25,7 @@ pub struct TokenLimits {
 }
 
 /// A token that is looked at.
-#[derive(Clone, Copy, Debug, PartialEq, Eq)]
+#[derive(Clone, Copy)]
 pub struct TokenCommand {
     pub nonce: u64,
     /// When it was issued, before 2^63 nanoseconds.

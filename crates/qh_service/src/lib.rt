@@ -9,6 +9,3 @@ mod size;
 pub use echo::Echo;
 pub use message::{Head, Message};
 pub use service::{Entry, Limits, Service};
-
-#[cfg(test)]
-mod tests;

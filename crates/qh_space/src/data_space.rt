@@ -12,7 +12,7 @@ use qh_streams::{PeerLimits, SentFrame, StreamLimits, Streams};
 use std::alloc::Global;
 
 /// What a space begins with.
-#[derive(Clone, Copy, Debug, PartialEq, Eq)]
+#[derive(Clone, Copy)]
 pub struct SpaceConfig {
     /// What this end announces, and how much it holds to send.
     pub limits: StreamLimits,

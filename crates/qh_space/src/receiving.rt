@@ -21,9 +21,6 @@ use qh_loss::{detect_lost_packets, on_ack_received};
 use qh_streams::{StreamFault, StreamFrame};
 use std::alloc::Global;
 
-#[cfg(test)]
-mod tests;
-
 impl DataSpace {
     /// A packet with this number is taken, which is new (RFC 9000, section 12.3). It is to be acknowledged at once where it wants
     /// that.

@@ -11,9 +11,6 @@ use qh_recovery::SentPacket;
 use qh_streams::SentFrame;
 use std::alloc::Global;
 
-#[cfg(test)]
-mod tests;
-
 /// Packet numbers are below this one (RFC 9000, section 12.3).
 const PACKET_NUMBERS: u64 = 1 << 62;
 

@@ -17,7 +17,7 @@ pub enum Event {
 }
 
 /// Which of the sends on a link. They are counted from 1, whichever end sends.
-#[derive(Clone, Copy, Debug, PartialEq, Eq)]
+#[derive(Clone, Copy)]
 pub enum Select {
     /// The one with this number.
     One(u64),

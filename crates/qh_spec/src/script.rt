@@ -1,5 +1,5 @@
 /// What a line of a word and a number sets in a script.
-#[derive(Clone, Copy, Debug, PartialEq, Eq)]
+#[derive(Clone, Copy, PartialEq, Eq)]
 pub enum Setting {
     /// The greatest size of a field section.
     Section,

@@ -1,5 +1,5 @@
 /// An end of a connection.
-#[derive(Clone, Copy, Debug, PartialEq, Eq, PartialOrd, Ord, Hash)]
+#[derive(Clone, Copy, PartialEq, Eq)]
 pub enum Side {
     /// The end that opened the connection.
     Client,
@@ -8,7 +8,7 @@ pub enum Side {
 }
 
 /// Whether a stream carries bytes both ways or from its initiator alone (RFC 9000, section 2.1).
-#[derive(Clone, Copy, Debug, PartialEq, Eq, PartialOrd, Ord, Hash)]
+#[derive(Clone, Copy, PartialEq, Eq)]
 pub enum Dir {
     /// Both ends send.
     Bi,
@@ -17,7 +17,7 @@ pub enum Dir {
 }
 
 /// A packet number space (RFC 9000, section 12.3). There is no Handshake space: the session has no handshake keys.
-#[derive(Clone, Copy, Debug, PartialEq, Eq, PartialOrd, Ord, Hash)]
+#[derive(Clone, Copy, PartialEq, Eq)]
 pub enum Space {
     /// That of Initial packets.
     Initial,

@@ -3,7 +3,7 @@ use std::alloc::AllocError;
 use thiserror::Error;
 
 /// Why a frame of the peer's is refused.
-#[derive(Debug, PartialEq, Eq, Drop, Error)]
+#[derive(Debug, Drop, Error)]
 pub enum StreamFault {
     /// The frame is at fault: the connection ends with this error.
     #[error("the peer is at fault")]

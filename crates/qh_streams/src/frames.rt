@@ -6,7 +6,7 @@ use qh_base::{Dir, StreamId, VarInt};
 
 /// The limits that this end announces, and how much it holds to send. An announced limit is at most 2^62 - 1, a count of
 /// streams at most 2^60: a greater value counts as that one.
-#[derive(Clone, Copy, Debug, PartialEq, Eq)]
+#[derive(Clone, Copy)]
 pub struct StreamLimits {
     /// So many bytes more than were read may come, on all streams.
     pub receive_window: u64,
@@ -21,7 +21,7 @@ pub struct StreamLimits {
 }
 
 /// The first limits of the peer (RFC 9000, section 18.2).
-#[derive(Clone, Copy, Debug, PartialEq, Eq)]
+#[derive(Clone, Copy)]
 pub struct PeerLimits {
     /// Of the bytes of all streams.
     pub max_data: VarInt,
@@ -55,7 +55,7 @@ impl PeerLimits {
 }
 
 /// A frame of the peer's that speaks of streams (RFC 9000, sections 19.4, 19.5 and 19.8 to 19.11).
-#[derive(Debug, PartialEq, Eq, Drop)]
+#[derive(Drop)]
 pub enum StreamFrame {
     Stream {
         id: StreamId,
@@ -84,7 +84,7 @@ pub enum StreamFrame {
 }
 
 /// What was written in one frame: it is spent when the frame is acknowledged or lost.
-#[derive(Clone, Debug, PartialEq, Eq, Drop)]
+#[derive(Clone, Drop)]
 pub enum SentFrame {
     Stream { id: StreamId, piece: Outgoing },
     ResetStream { id: StreamId, reset: ResetFrame },
@@ -95,7 +95,7 @@ pub enum SentFrame {
 }
 
 /// What happened to streams.
-#[derive(Clone, Copy, Debug, PartialEq, Eq)]
+#[derive(Clone, Copy)]
 pub enum StreamEvent {
     /// The peer opened streams: `accept` gives them.
     Opened { dir: Dir },

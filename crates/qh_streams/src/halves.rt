@@ -34,7 +34,7 @@ pub struct RecvHalf<'a> {
 }
 
 /// What a reader of a stream got to.
-#[derive(Clone, Copy, Debug, PartialEq, Eq)]
+#[derive(Clone, Copy)]
 pub enum ChunksState {
     /// Bytes, the end or a reset may come.
     Readable,

@@ -7,8 +7,6 @@ mod frames;
 mod halves;
 mod laws;
 mod streams;
-#[cfg(test)]
-mod tests;
 
 pub use fault::StreamFault;
 pub use frames::{PeerLimits, SentFrame, StreamEvent, StreamFrame, StreamLimits};

@@ -11,8 +11,6 @@ mod coming;
 mod events;
 mod opening;
 mod settling;
-#[cfg(test)]
-mod tests;
 mod writing;
 
 use crate::{PeerLimits, StreamEvent, StreamLimits};

@@ -8,7 +8,7 @@ use std::alloc::Global;
 use std::marker::Model;
 
 /// A source over bytes in memory, one call of which may fail.
-#[derive(Debug, Drop)]
+#[derive(Drop)]
 pub struct MemSource {
     bytes: Vec<u8>,
     read: usize,
@@ -73,7 +73,7 @@ impl Source for MemSource {
 }
 
 /// A sink into memory whose room was taken once, one call of which may fail.
-#[derive(Debug, Drop)]
+#[derive(Drop)]
 pub struct MemSink {
     bytes: Vec<u8>,
     room: usize,
@@ -153,74 +153,5 @@ fn next_call(fails_in: Option<u64>) -> Option<u64>
     match fails_in {
         Some(calls) if calls > 1 => Some(calls - 1),
         _ => None,
-    }
-}
-
-#[cfg(test)]
-mod tests {
-    use super::*;
-    use std::test::Fail;
-
-    // Reads to the end through the bound, and counts the calls that failed.
-    fn read_all<S: Source>(source: &mut S, out: &mut Vec<u8>) -> Result<u64, Memory> {
-        let mut failed = 0u64;
-        let mut buf = [0; 4];
-        for _call in 0..100u8 {
-            match source.read(&mut buf) {
-                Ok(0) => break,
-                Ok(n) => out.extend_from_slice(&buf[..n])?,
-                Err(Failed) => failed = failed.saturating_add(1),
-            }
-        }
-        Ok(failed)
-    }
-
-    // Writes a text piece by piece through the bound, and counts the calls that failed.
-    fn write_all<K: Sink>(sink: &mut K, text: &[u8]) -> u64 {
-        let mut failed = 0u64;
-        let mut rest = text;
-        for _call in 0..100u8 {
-            match sink.write(&rest[..rest.len().min(4)]) {
-                Ok(0) => break,
-                Ok(n) => rest = rest.get(n..).unwrap_or(&[]),
-                Err(Failed) => failed = failed.saturating_add(1),
-            }
-        }
-        failed
-    }
-
-    #[test]
-    fn a_source_fails_once_and_goes_on(rt: HostRuntime) -> Result<(), Fail> {
-        for (fail_at, failed) in [
-            (None, 0),
-            (Some(0), 0),
-            (Some(1), 1),
-            (Some(3), 1),
-            (Some(9), 0),
-        ] {
-            let bytes = b"ten bytes!".to_vec(rt.alloc())?;
-            let mut out = Vec::new(rt.alloc());
-            assert_eq!(rt;
-                read_all(&mut MemSource::new(bytes, fail_at), &mut out)?,
-                failed
-            );
-            assert_eq!(rt; out.as_slice(), b"ten bytes!".as_slice());
-        }
-        Ok(())
-    }
-
-    #[test]
-    fn a_sink_takes_what_it_has_room_for(rt: HostRuntime) -> Result<(), Fail> {
-        for (room, fail_at, kept, failed) in [
-            (10, None, 10, 0),
-            (7, None, 7, 0),
-            (0, None, 0, 0),
-            (10, Some(2), 10, 1),
-        ] {
-            let mut sink = MemSink::new(rt.alloc(), room, fail_at)?;
-            assert_eq!(rt; write_all(&mut sink, b"ten bytes!"), failed);
-            assert_eq!(rt; sink.bytes(), &b"ten bytes!"[..kept]);
-        }
-        Ok(())
     }
 }

@@ -7,7 +7,7 @@ use qh_base::Memory;
 use std::collections::VecDeque;
 
 /// Bytes that were taken together, up to an offset.
-#[derive(Debug, Drop)]
+#[derive(Drop)]
 pub(super) struct Segment {
     pub(super) end: u64,
     pub(super) bytes: Bytes,

@@ -10,7 +10,7 @@ use std::alloc::Global;
 use std::marker::Model;
 
 /// A STREAM frame (RFC 9000, section 19.8). A contract sees it as `StreamFrame`.
-#[derive(Debug, Drop)]
+#[derive(Drop)]
 pub(super) struct Run {
     id: u64,
     offset: u64,

@@ -10,7 +10,7 @@ use std::alloc::Global;
 use std::marker::Model;
 
 /// What a packet says: its space, its sender and its whole number by its tag, and its frames.
-#[derive(Debug, Drop)]
+#[derive(Drop)]
 pub struct Packet {
     space: Space,
     sender: Side,
@@ -104,7 +104,7 @@ impl Packet {
 }
 
 /// What stands behind a header.
-#[derive(Clone, Copy, Debug)]
+#[derive(Clone, Copy)]
 struct Parts<'a> {
     number: &'a [u8],
     frames: &'a [u8],

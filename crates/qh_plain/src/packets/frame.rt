@@ -9,7 +9,7 @@ use std::alloc::Global;
 use std::marker::Model;
 
 /// A frame of QUIC: its type, and its fields in order (RFC 9000, section 12.4).
-#[derive(Debug, Drop)]
+#[derive(Drop)]
 pub struct Frame {
     kind: u64,
     values: Vec<FieldValue>,

@@ -5,7 +5,7 @@ ghost use Rattle.qh_spec.specs.QuicFrames.{Text, ShortCounted as AShortCounted, 
 use super::value::{counted, fixed, short_counted};
 
 /// An Initial packet by its lengths, and what follows it in its datagram.
-#[derive(Clone, Copy, Debug)]
+#[derive(Clone, Copy)]
 pub(super) struct InitialForm<'a> {
     pub(super) first: u8,
     pub(super) body: &'a [u8],

@@ -9,7 +9,7 @@ ghost use Rattle.qh_plain.specs.Packets.{IsLaidOut, HasKey};
 use qh_base::{Side, Space};
 
 /// What a packet's tag tells.
-#[derive(Clone, Copy, Debug)]
+#[derive(Clone, Copy)]
 pub(super) struct Tag {
     pub(super) sender: Side,
     pub(super) space: Space,
@@ -17,7 +17,7 @@ pub(super) struct Tag {
 }
 
 /// The places of a tag.
-#[derive(Clone, Copy, Debug)]
+#[derive(Clone, Copy)]
 struct Layout<'a> {
     front: &'a [u8],
     sender: u8,

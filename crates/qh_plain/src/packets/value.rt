@@ -9,7 +9,7 @@ use std::alloc::Global;
 use std::marker::Model;
 
 /// Numbers in a row. A contract sees them as the list.
-#[derive(Debug, Drop)]
+#[derive(Drop)]
 pub struct Numbers {
     items: Vec<u64>,
 }
@@ -31,7 +31,7 @@ impl Numbers {
     }
 }
 
-#[derive(Debug, Drop)]
+#[derive(Drop)]
 enum Content {
     Number(u64),
     Text(Bytes),
@@ -39,7 +39,7 @@ enum Content {
 }
 
 /// What stands in a field of a frame: a number below 2^62, bytes, or numbers.
-#[derive(Debug, Drop)]
+#[derive(Drop)]
 pub struct FieldValue {
     content: Content,
 }
@@ -89,7 +89,7 @@ impl FieldValue {
 }
 
 /// What a field is made of (the notation of RFC 9000, section 1.3).
-#[derive(Clone, Copy, Debug)]
+#[derive(Clone, Copy)]
 pub(super) enum Part {
     /// A number in any form.
     Number,

@@ -9,7 +9,7 @@ use super::integer::prefixed;
 use super::table;
 
 /// A field line whose bytes lie in the section or in the static table.
-#[derive(Clone, Copy, Debug)]
+#[derive(Clone, Copy)]
 pub(crate) struct Line<'a> {
     pub(crate) name: &'a [u8],
     pub(crate) value: &'a [u8],

@@ -7,9 +7,6 @@ use qh_buffers::RangeSet;
 use std::alloc::Global;
 use std::marker::Model;
 
-#[cfg(test)]
-mod tests;
-
 /// How many numbers are looked at: the greatest that was accepted, and 128 below it.
 const WINDOW_SIZE: u64 = 129;
 

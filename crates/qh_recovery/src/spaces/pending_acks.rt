@@ -8,9 +8,6 @@ use qh_frame::{AckRange, put_ack};
 use std::alloc::Global;
 use std::marker::Model;
 
-#[cfg(test)]
-mod tests;
-
 /// So many ranges are kept, and stand in an ACK frame.
 const MAX_ACK_BLOCKS: usize = 32;
 

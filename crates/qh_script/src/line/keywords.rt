@@ -10,7 +10,7 @@ ghost use Rattle.qh_script.specs.Line.{keyword_word, upset_word};
 use qh_spec::Setting;
 
 /// What the first word of a line asks for.
-#[derive(Clone, Copy, Debug, PartialEq, Eq)]
+#[derive(Clone, Copy)]
 pub(crate) enum Keyword {
     Request,
     Field,
@@ -24,7 +24,7 @@ pub(crate) enum Keyword {
 }
 
 /// What is asked of the link.
-#[derive(Clone, Copy, Debug, PartialEq, Eq)]
+#[derive(Clone, Copy, PartialEq, Eq)]
 pub(crate) enum UpsetKind {
     Lose,
     Twice,

@@ -2,7 +2,7 @@ use qh_base::Memory;
 use std::alloc::{AllocError, AllocFailed};
 
 /// Why a line isn't taken.
-#[derive(Clone, Copy, Debug, PartialEq, Eq)]
+#[derive(Clone, Copy, PartialEq, Eq)]
 pub(crate) enum Untaken {
     /// It is no line, or none that counts where it stands.
     Refused,

@@ -15,7 +15,7 @@ use qh_base::{Moment, Span};
 const MAX_BYTES: u64 = 1 << 30;
 
 /// What a line says.
-#[derive(Clone, Copy, Debug, PartialEq, Eq)]
+#[derive(Clone, Copy)]
 pub(super) enum TokenLine {
     /// Nothing.
     Empty,

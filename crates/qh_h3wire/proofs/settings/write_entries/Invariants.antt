@@ -4,5 +4,5 @@ use Rattle.qh_h3wire.specs.Settings.{entry_bytes}
 use Rattle.qh_h3wire.proofs.settings.write_entries.Given as goal
 
 -- the entries so far
-abbrev pub invariant-loop-id : goal.invariant-loop-id
-invariant-loop-id l = l.out.items ≡ l.fn.out.items ++ flat_map entry_bytes (take l.id-index l.entries)
+abbrev pub invariant-loop-entry : goal.invariant-loop-entry
+invariant-loop-entry l = l.out.items ≡ l.fn.out.items ++ flat_map entry_bytes (take l.entry-index l.entries)

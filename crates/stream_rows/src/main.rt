@@ -1,0 +1,151 @@
+//! Answers rows about the two ends of a connection, or about two ends with streams alone: a heading and the rows below it are a
+//! story of what is called at either end, what happens to datagrams, and what the ends answer.
+#![tactic(auto)]
+
+mod answers;
+mod application;
+mod bulk;
+mod calls;
+mod frames;
+mod link;
+mod orders;
+mod packets;
+mod pair;
+mod role;
+mod settings;
+mod streams;
+
+use answers::put_ok;
+use pair::Pair;
+use qh_base::{Side, StdSink, StdSource};
+use role::Role;
+use row_text::{RowFault, Table, Words, put_number, put_text, run};
+use settings::{Settings, USUAL};
+use std::alloc::Global;
+use std::process::ExitCode;
+use streams::StreamsPair;
+
+// What the rows of a story speak of.
+#[derive(Clone, Copy)]
+enum Kind {
+    Connection,
+    Streams,
+}
+
+#[derive(Drop)]
+struct Stories {
+    kind: Kind,
+    pair: Pair,
+    role: Role,
+    streams: StreamsPair,
+}
+
+impl Table for Stories {
+    fn answer(&mut self, alloc: Global, row: &str, out: &mut Vec<u8>) -> Result<(), RowFault> {
+        let mut words = Words::new(row);
+        let is_known = match words.next() {
+            "client" => self.answer_end(alloc, Side::Client, &mut words, out)?,
+            "server" => self.answer_end(alloc, Side::Server, &mut words, out)?,
+            word => self.answer_both(alloc, word, &mut words, out)?,
+        };
+        if is_known && words.is_at_end() {
+            Ok(())
+        } else {
+            Err(RowFault::Form)
+        }
+    }
+}
+
+impl Stories {
+    // Answers a row of one end, if it is one. Whether it is.
+    fn answer_end(
+        &mut self,
+        alloc: Global,
+        side: Side,
+        words: &mut Words<'_>,
+        out: &mut Vec<u8>,
+    ) -> Result<bool, RowFault> {
+        let word = words.next();
+        match self.kind {
+            Kind::Connection => Ok(
+                application::answer(alloc, self.pair.end(side), word, words, out)?
+                    || self.pair.answer_end(alloc, side, word, words, out)?,
+            ),
+            Kind::Streams => Ok(
+                application::answer(alloc, self.streams.end(side), word, words, out)?
+                    || self.streams.answer_end(alloc, side, word, words, out)?,
+            ),
+        }
+    }
+
+    // Answers a row of both ends, if it is one. Whether it is.
+    fn answer_both(
+        &mut self,
+        alloc: Global,
+        word: &str,
+        words: &mut Words<'_>,
+        out: &mut Vec<u8>,
+    ) -> Result<bool, RowFault> {
+        match word {
+            "new" => self.begin(alloc, Kind::Connection, words, out)?,
+            "streams" => self.begin(alloc, Kind::Streams, words, out)?,
+            "echo" => bulk::echo(alloc, &mut self.pair, words, out)?,
+            "bulk" => bulk::answer(alloc, words, out)?,
+            "serve" => self.serve(alloc, out)?,
+            _ => return self.pair.answer(alloc, word, words, out),
+        }
+        Ok(true)
+    }
+
+    // Makes fresh ends.
+    fn begin(
+        &mut self,
+        alloc: Global,
+        kind: Kind,
+        words: &mut Words<'_>,
+        out: &mut Vec<u8>,
+    ) -> Result<(), RowFault> {
+        let settings = Settings::of(words)?;
+        self.kind = kind;
+        match kind {
+            Kind::Connection => self.connect(alloc, &settings)?,
+            Kind::Streams => self.streams = StreamsPair::new(alloc, &settings),
+        }
+        put_ok(out)
+    }
+
+    // Makes fresh ends of a connection.
+    fn connect(&mut self, alloc: Global, settings: &Settings) -> Result<(), RowFault> {
+        self.pair = Pair::new(alloc, settings)?;
+        self.role = Role::new(alloc);
+        Ok(())
+    }
+
+    // Lets the server's role go on.
+    fn serve(&mut self, alloc: Global, out: &mut Vec<u8>) -> Result<(), RowFault> {
+        let served = self.role.serve(alloc, &mut self.pair.server)?;
+        put_text(out, "served ")?;
+        put_number(out, served)?;
+        Ok(())
+    }
+}
+
+fn main(rt: HostRuntime) -> ExitCode {
+    let alloc = rt.alloc();
+    let Ok(mut stories) = usual_stories(alloc) else {
+        return ExitCode::from(9);
+    };
+    let mut source = StdSource::new(rt.stdin());
+    let mut sink = StdSink::new(rt.stdout());
+    ExitCode::from(run(alloc, &mut source, &mut sink, &mut stories))
+}
+
+// Usual ends of both kinds.
+fn usual_stories(alloc: Global) -> Result<Stories, RowFault> {
+    Ok(Stories {
+        kind: Kind::Connection,
+        pair: Pair::new(alloc, &USUAL)?,
+        role: Role::new(alloc),
+        streams: StreamsPair::new(alloc, &USUAL),
+    })
+}

@@ -1,0 +1,181 @@
+//! What ends begin with, and the small words of rows: streams, directions, codes.
+use qh_base::{Dir, Span, StreamId, VarInt};
+use qh_conn::ConnConfig;
+use qh_streams::{PeerLimits, StreamLimits};
+use row_text::{RowFault, Words};
+
+/// What both ends of a pair begin with.
+#[derive(Clone, Copy)]
+pub(crate) struct Settings {
+    pub(crate) limits: StreamLimits,
+    pub(crate) idle: u64,
+    pub(crate) rtt: u64,
+    pub(crate) window: u64,
+    peer: PeerSettings,
+}
+
+// The first limits of the peer.
+#[derive(Clone, Copy)]
+struct PeerSettings {
+    data: u64,
+    local: u64,
+    remote: u64,
+    one_way: u64,
+    bidi: u64,
+    uni: u64,
+}
+
+/// What ends begin with where a row says nothing else.
+pub(crate) const USUAL: Settings = Settings {
+    limits: StreamLimits {
+        receive_window: 100_000,
+        stream_window: 100_000,
+        send_window: 100_000,
+        max_bidi: 10,
+        max_uni: 10,
+    },
+    idle: 10_000_000_000,
+    rtt: 20_000_000,
+    window: 12_000,
+    peer: PeerSettings {
+        data: 100_000,
+        local: 100_000,
+        remote: 100_000,
+        one_way: 100_000,
+        bidi: 10,
+        uni: 10,
+    },
+};
+
+impl Settings {
+    /// The usual settings, with those that the rest of a row names, each behind its word.
+    pub(crate) fn of(words: &mut Words<'_>) -> Result<Settings, RowFault> {
+        let mut settings = USUAL;
+        for _ in 0..100u8 {
+            if words.is_at_end() {
+                return Ok(settings);
+            }
+            let name = words.next();
+            let value = words.number()?;
+            if !settings.limit(name, value) && !settings.peer.limit(name, value) {
+                return Err(RowFault::Form);
+            }
+        }
+        Err(RowFault::Form)
+    }
+
+    // Sets one of this end's, and the peer's like it. Whether there is such a word.
+    fn limit(&mut self, name: &str, value: u64) -> bool {
+        match name {
+            "receive" => self.set_receive(value),
+            "stream" => self.set_stream(value),
+            "send" => self.limits.send_window = value,
+            "bidi" => self.set_bidi(value),
+            "uni" => self.set_uni(value),
+            "idle" => self.idle = value,
+            "rtt" => self.rtt = value,
+            "window" => self.window = value,
+            _ => return false,
+        }
+        true
+    }
+
+    /// So many bytes may come before they are read, at this end and at the peer.
+    pub(crate) fn set_receive(&mut self, value: u64) {
+        self.limits.receive_window = value;
+        self.peer.data = value;
+    }
+
+    /// So many bytes of a stream may come before they are read, at this end and at the peer.
+    pub(crate) fn set_stream(&mut self, value: u64) {
+        self.limits.stream_window = value;
+        self.peer.local = value;
+        self.peer.remote = value;
+        self.peer.one_way = value;
+    }
+
+    /// So many two-way streams may be open, of this end's and of the peer's.
+    pub(crate) fn set_bidi(&mut self, value: u64) {
+        self.limits.max_bidi = value;
+        self.peer.bidi = value;
+    }
+
+    fn set_uni(&mut self, value: u64) {
+        self.limits.max_uni = value;
+        self.peer.uni = value;
+    }
+
+    /// What a connection begins with.
+    pub(crate) fn config(&self) -> ConnConfig {
+        ConnConfig {
+            limits: self.limits,
+            idle: match self.idle {
+                0 => None,
+                idle => Some(Span(idle)),
+            },
+            initial_rtt: Span(self.rtt),
+            initial_window: self.window,
+        }
+    }
+
+    /// The first limits of the peer.
+    pub(crate) fn peer(&self) -> PeerLimits {
+        let peer = self.peer;
+        PeerLimits {
+            max_data: bounded(peer.data),
+            bidi_local: bounded(peer.local),
+            bidi_remote: bounded(peer.remote),
+            uni: bounded(peer.one_way),
+            max_bidi: peer.bidi,
+            max_uni: peer.uni,
+        }
+    }
+}
+
+impl PeerSettings {
+    // Sets one of the peer's alone. Whether there is such a word.
+    fn limit(&mut self, name: &str, value: u64) -> bool {
+        match name {
+            "peer-receive" => self.data = value,
+            "peer-local" => self.local = value,
+            "peer-remote" => self.remote = value,
+            "peer-one-way" => self.one_way = value,
+            "peer-bidi" => self.bidi = value,
+            "peer-uni" => self.uni = value,
+            _ => return false,
+        }
+        true
+    }
+}
+
+// The value, or the greatest that a frame can bear.
+fn bounded(value: u64) -> VarInt {
+    VarInt::from_u64(value.min(VarInt::MAX_VALUE)).unwrap_or(VarInt::from_u32(0))
+}
+
+/// The next word as a stream's id.
+pub(crate) fn stream_of(words: &mut Words<'_>) -> Result<StreamId, RowFault> {
+    Ok(StreamId(words.number()?))
+}
+
+/// The next word as a number below 2^62.
+pub(crate) fn varint_of(words: &mut Words<'_>) -> Result<VarInt, RowFault> {
+    VarInt::from_u64(words.number()?).ok_or(RowFault::Form)
+}
+
+/// The next word as a direction.
+pub(crate) fn dir_of(words: &mut Words<'_>) -> Result<Dir, RowFault> {
+    match words.next() {
+        "bi" => Ok(Dir::Bi),
+        "uni" => Ok(Dir::Uni),
+        _ => Err(RowFault::Form),
+    }
+}
+
+/// The word for a direction.
+pub(crate) fn name_of_dir(dir: Dir) -> &'static str {
+    match dir {
+        Dir::Bi => "bi",
+        Dir::Uni => "uni",
+    }
+}
