@@ -44,6 +44,9 @@ fn answer_all(alloc: Global, text: &[u8], out: &mut Vec<u8>) -> Result<(), RowFa
     let mut row = Row::new(alloc);
     let mut left = text;
     for _line in 0..text.len() {
+        if left.is_empty() {
+            break;
+        }
         let (line, behind) = cut_line(left);
         left = behind;
         if let [b'=', b' ', name @ ..] = line {
@@ -51,9 +54,6 @@ fn answer_all(alloc: Global, text: &[u8], out: &mut Vec<u8>) -> Result<(), RowFa
             row = Row::named(alloc, name)?;
         } else {
             row.take_line(alloc, line)?;
-        }
-        if left.is_empty() {
-            break;
         }
     }
     row.answer(alloc, out)
