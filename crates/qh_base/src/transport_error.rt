@@ -43,6 +43,21 @@ impl TransportErrorCode {
 
     /// An Initial packet of a client with a token that isn't valid.
     pub const INVALID_TOKEN: TransportErrorCode = TransportErrorCode(0x0b);
+
+    /// The application closed the connection, or made it fail.
+    pub const APPLICATION_ERROR: TransportErrorCode = TransportErrorCode(0x0c);
+
+    /// More handshake bytes out of order than are kept.
+    pub const CRYPTO_BUFFER_EXCEEDED: TransportErrorCode = TransportErrorCode(0x0d);
+
+    /// A fault in an update of keys.
+    pub const KEY_UPDATE_ERROR: TransportErrorCode = TransportErrorCode(0x0e);
+
+    /// The keys have reached the limit of what they may protect.
+    pub const AEAD_LIMIT_REACHED: TransportErrorCode = TransportErrorCode(0x0f);
+
+    /// No path is left that can carry QUIC.
+    pub const NO_VIABLE_PATH: TransportErrorCode = TransportErrorCode(0x10);
 }
 
 /// A fault against the transport protocol that this end found.

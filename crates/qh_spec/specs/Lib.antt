@@ -1,11 +1,13 @@
 pub mod Acknowledged
 pub mod Carried
+pub mod Codes
 pub mod Config
 pub mod Datagram
 pub mod Echoed
 pub mod EventRows
 pub mod Fault
 pub mod Fields
+pub mod FrameTypes
 pub mod FrameViews
 pub mod Growth
 pub mod Headline

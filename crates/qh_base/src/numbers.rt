@@ -1,0 +1,73 @@
+ghost use Rattle.std.specs.Prelude.{◌≡◌};
+ghost use Rattle.qh_spec.specs.Codes as codes;
+ghost use Rattle.qh_spec.specs.FrameTypes as frame_types;
+
+use crate::{Code, FrameType, TransportErrorCode};
+
+/// The codes and types have the numbers of the RFCs.
+pub fn numbers_are_assigned()
+    ensures transport { (TransportErrorCode.NO_ERROR.0 ≡ codes.no_error)
+        × (TransportErrorCode.INTERNAL_ERROR.0 ≡ codes.internal_error)
+        × (TransportErrorCode.CONNECTION_REFUSED.0 ≡ codes.connection_refused)
+        × (TransportErrorCode.FLOW_CONTROL_ERROR.0 ≡ codes.flow_control_error)
+        × (TransportErrorCode.STREAM_LIMIT_ERROR.0 ≡ codes.stream_limit_error)
+        × (TransportErrorCode.STREAM_STATE_ERROR.0 ≡ codes.stream_state_error)
+        × (TransportErrorCode.FINAL_SIZE_ERROR.0 ≡ codes.final_size_error)
+        × (TransportErrorCode.FRAME_ENCODING_ERROR.0 ≡ codes.frame_encoding_error)
+        × (TransportErrorCode.TRANSPORT_PARAMETER_ERROR.0 ≡ codes.transport_parameter_error)
+        × (TransportErrorCode.CONNECTION_ID_LIMIT_ERROR.0 ≡ codes.connection_id_limit_error)
+        × (TransportErrorCode.PROTOCOL_VIOLATION.0 ≡ codes.protocol_violation)
+        × (TransportErrorCode.INVALID_TOKEN.0 ≡ codes.invalid_token)
+        × (TransportErrorCode.APPLICATION_ERROR.0 ≡ codes.application_error)
+        × (TransportErrorCode.CRYPTO_BUFFER_EXCEEDED.0 ≡ codes.crypto_buffer_exceeded)
+        × (TransportErrorCode.KEY_UPDATE_ERROR.0 ≡ codes.key_update_error)
+        × (TransportErrorCode.AEAD_LIMIT_REACHED.0 ≡ codes.aead_limit_reached)
+        × (TransportErrorCode.NO_VIABLE_PATH.0 ≡ codes.no_viable_path) }
+    ensures http { (Code.H3_NO_ERROR.0 ≡ codes.h3_no_error)
+        × (Code.H3_GENERAL_PROTOCOL_ERROR.0 ≡ codes.h3_general_protocol_error)
+        × (Code.H3_INTERNAL_ERROR.0 ≡ codes.h3_internal_error)
+        × (Code.H3_STREAM_CREATION_ERROR.0 ≡ codes.h3_stream_creation_error)
+        × (Code.H3_CLOSED_CRITICAL_STREAM.0 ≡ codes.h3_closed_critical_stream)
+        × (Code.H3_FRAME_UNEXPECTED.0 ≡ codes.h3_frame_unexpected)
+        × (Code.H3_FRAME_ERROR.0 ≡ codes.h3_frame_error)
+        × (Code.H3_EXCESSIVE_LOAD.0 ≡ codes.h3_excessive_load)
+        × (Code.H3_ID_ERROR.0 ≡ codes.h3_id_error)
+        × (Code.H3_SETTINGS_ERROR.0 ≡ codes.h3_settings_error)
+        × (Code.H3_MISSING_SETTINGS.0 ≡ codes.h3_missing_settings)
+        × (Code.H3_REQUEST_REJECTED.0 ≡ codes.h3_request_rejected)
+        × (Code.H3_REQUEST_CANCELLED.0 ≡ codes.h3_request_cancelled)
+        × (Code.H3_REQUEST_INCOMPLETE.0 ≡ codes.h3_request_incomplete)
+        × (Code.H3_MESSAGE_ERROR.0 ≡ codes.h3_message_error)
+        × (Code.H3_CONNECT_ERROR.0 ≡ codes.h3_connect_error)
+        × (Code.H3_VERSION_FALLBACK.0 ≡ codes.h3_version_fallback) }
+    ensures http_datagrams { Code.H3_DATAGRAM_ERROR.0 ≡ codes.h3_datagram_error }
+    ensures qpack { (Code.QPACK_DECOMPRESSION_FAILED.0 ≡ codes.qpack_decompression_failed)
+        × (Code.QPACK_ENCODER_STREAM_ERROR.0 ≡ codes.qpack_encoder_stream_error)
+        × (Code.QPACK_DECODER_STREAM_ERROR.0 ≡ codes.qpack_decoder_stream_error) }
+    ensures frames { (FrameType.PADDING.0 ≡ frame_types.padding)
+        × (FrameType.PING.0 ≡ frame_types.ping)
+        × (FrameType.ACK.0 ≡ frame_types.ack)
+        × (FrameType.ACK_ECN.0 ≡ frame_types.ack_ecn)
+        × (FrameType.RESET_STREAM.0 ≡ frame_types.reset_stream)
+        × (FrameType.STOP_SENDING.0 ≡ frame_types.stop_sending)
+        × (FrameType.CRYPTO.0 ≡ frame_types.crypto)
+        × (FrameType.NEW_TOKEN.0 ≡ frame_types.new_token)
+        × (FrameType.STREAM.0 ≡ frame_types.stream)
+        × (FrameType.MAX_DATA.0 ≡ frame_types.max_data)
+        × (FrameType.MAX_STREAM_DATA.0 ≡ frame_types.max_stream_data)
+        × (FrameType.MAX_STREAMS_BIDI.0 ≡ frame_types.max_streams_bidi)
+        × (FrameType.MAX_STREAMS_UNI.0 ≡ frame_types.max_streams_uni)
+        × (FrameType.DATA_BLOCKED.0 ≡ frame_types.data_blocked)
+        × (FrameType.STREAM_DATA_BLOCKED.0 ≡ frame_types.stream_data_blocked)
+        × (FrameType.STREAMS_BLOCKED_BIDI.0 ≡ frame_types.streams_blocked_bidi)
+        × (FrameType.STREAMS_BLOCKED_UNI.0 ≡ frame_types.streams_blocked_uni)
+        × (FrameType.NEW_CONNECTION_ID.0 ≡ frame_types.new_connection_id)
+        × (FrameType.RETIRE_CONNECTION_ID.0 ≡ frame_types.retire_connection_id)
+        × (FrameType.PATH_CHALLENGE.0 ≡ frame_types.path_challenge)
+        × (FrameType.PATH_RESPONSE.0 ≡ frame_types.path_response)
+        × (FrameType.CONNECTION_CLOSE.0 ≡ frame_types.connection_close)
+        × (FrameType.APPLICATION_CLOSE.0 ≡ frame_types.application_close)
+        × (FrameType.HANDSHAKE_DONE.0 ≡ frame_types.handshake_done)
+        × (FrameType.DATAGRAM.0 ≡ frame_types.datagram)
+        × (FrameType.DATAGRAM_WITH_LENGTH.0 ≡ frame_types.datagram_with_length) }
+{}
