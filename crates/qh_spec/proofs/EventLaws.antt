@@ -12,7 +12,7 @@ use Rattle.qh_spec.specs.declared.link.Event.TheVariants.{Sent, Given, Dry, Roun
 use Rattle.qh_spec.specs.Link.{if_same_side, sent_by, given_to, moments_of, other}
 use Rattle.qh_spec.specs.Honest.{IsHonest}
 
-if_same_side-append : {X : Type 0} (s t : Side) (xs ys zs : List X) → if_same_side s t (xs ++ zs) (ys ++ zs) ≡ if_same_side s t xs ys ++ zs
+pub if_same_side-append : {X : Type 0} (s t : Side) (xs ys zs : List X) → if_same_side s t (xs ++ zs) (ys ++ zs) ≡ if_same_side s t xs ys ++ zs
 if_same_side-append Client Client xs ys zs = refl
 if_same_side-append Client Server xs ys zs = refl
 if_same_side-append Server Client xs ys zs = refl

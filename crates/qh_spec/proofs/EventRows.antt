@@ -1,5 +1,5 @@
 -- Lists of events that are honest, prompt or whole turns, and lists that aren't.
-use Rattle.std.proofs.Common.{◌≡◌, ◌<◌, ◌^◌, inl, inr, ℕ, List, [], ◌∷◌, ◌++◌, refl, sym, ap, ◌∙◌, subst, arith}
+use Rattle.std.proofs.Common.{◌≡◌, inl, inr, ℕ, List, [], ◌∷◌, ◌++◌, refl, sym, ap, ◌∙◌, subst, arith}
 use Rattle.std.proofs.lemmas.Option.{slice_get_within}
 use Rattle.qh_spec.specs.declared.sides.Side.{Side}
 use Rattle.qh_spec.specs.declared.sides.Side.TheVariants.{Client, Server}
@@ -7,7 +7,7 @@ use Rattle.qh_spec.specs.declared.link.Event.{Event}
 use Rattle.qh_spec.specs.declared.link.Event.TheVariants.{Sent, Given, Dry, Round, Fault}
 use Rattle.qh_spec.specs.EventRows.{prompt_events, early_events, echoed_events, turn_events, turned_events, entry_on}
 use Rattle.qh_spec.specs.Growth.{Grew}
-use Rattle.qh_spec.specs.Honest.{IsTimed, IsHonest}
+use Rattle.qh_spec.specs.Honest.{IsHonest}
 use Rattle.qh_spec.specs.Link.{given_to}
 use Rattle.qh_spec.specs.Lists.{In}
 use Rattle.qh_spec.specs.Message.{PlainMessage}
@@ -113,17 +113,3 @@ wrong_stream g =
 
 pub served_twice : (m : PlainMessage) (d e : PlainEntry) → Grew [] (d ∷ e ∷ []) (m ∷ []) → ⊥
 served_twice m d e g = let few = grew_few [] (d ∷ e ∷ []) (m ∷ []) g in omega (arith, few)
-
-in_bound : (n : ℕ) → In n (0 ∷ 1000000 ∷ []) → n < 2 ^ 62
-in_bound n (inl e) = omega (arith, e)
-in_bound n (inr (inl e)) = omega (arith, e)
-in_bound n (inr (inr e)) = absurd e
-
-pub timed_is : IsTimed prompt_events
-timed_is = record { order = (omega arith, tt); bound = in_bound }
-
-pub timed_is_not : IsTimed (Round 5 ∷ Round 4 ∷ []) → ⊥
-timed_is_not t = let h = t.order.0 in omega (arith, h)
-
-pub late_is_not : IsTimed (Round (2 ^ 62) ∷ []) → ⊥
-late_is_not t = let h = t.bound (2 ^ 62) (inl refl) in omega (arith, h)

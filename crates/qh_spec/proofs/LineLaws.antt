@@ -300,6 +300,20 @@ meaning word text _ (retry w is) = at_word (codes "retry") word text _ w refl re
 meaning word text _ (grease w is) = at_word (codes "grease") word text _ w refl refl
 meaning word text _ (disturb u is) = upset_meaning word text u is
 
+no_word : (word behind : List ℕ) → [] ≡ word ++ 32 ∷ behind → ⊥
+no_word [] behind e = absurd cc
+no_word (b ∷ word) behind e = absurd cc
+
+-- a word of a setting and a number say nothing else
+pub set_only : (x : Setting) (n : ℕ) (l : Line) → n < 2 ^ 64 → IsLine (setting_word x ++ 32 ∷ decimal n) l → l ≡ Set x n
+set_only x n _ bound (empty e) = absurd (no_word (setting_word x) (decimal n) (sym e))
+set_only x n l bound (worded word behind _ is says) =
+    let m = meaning word behind l says in
+    let cut = split_first (setting_word x) word (decimal n) behind (solid_set x) m.solid is in
+    let means : Means (AsSet x) behind l =
+    subst (λ (k : Kind). Means k behind l) (kind_set x) (subst (λ (z : List ℕ). Means (kind z) behind l) (sym cut.0) m.means) in
+    means.says ∙ ap (Set x) (decimal_injective means.n n means.bound bound (sym means.is ∙ sym cut.1))
+
 request_one : (text : List ℕ) (l m : Line) → MeansRequest text l → MeansRequest text m → l ≡ m
 request_one text l m p q =
     let cut = split_first p.method q.method p.uri q.uri (solid_token p.method p.token.1) (solid_token q.method q.token.1) (sym p.is ∙ q.is) in
@@ -363,10 +377,6 @@ says_one word text other rest l m p q e =
     let cut = split_first word other text rest a.solid b.solid e in
     let moved = subst (λ (z : List ℕ). Means (kind z) text l) cut.0 a.means in
     means_one (kind other) rest l m (subst (λ (z : List ℕ). Means (kind other) z l) cut.1 moved) b.means
-
-no_word : (word behind : List ℕ) → [] ≡ word ++ 32 ∷ behind → ⊥
-no_word [] behind e = absurd cc
-no_word (b ∷ word) behind e = absurd cc
 
 -- a text is one line
 pub line_one : (text : List ℕ) (l m : Line) → IsLine text l → IsLine text m → l ≡ m

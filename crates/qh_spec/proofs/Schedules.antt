@@ -45,7 +45,7 @@ sent_first : (s : Side) (d : List ℕ) (es : List Event) → In d (sent_by s (Se
 sent_first Client d es = inl refl
 sent_first Server d es = inl refl
 
-sent_later : (s t : Side) (d b : List ℕ) (es : List Event) → In d (sent_by s es) → In d (sent_by s (Sent t b ∷ es))
+pub sent_later : (s t : Side) (d b : List ℕ) (es : List Event) → In d (sent_by s es) → In d (sent_by s (Sent t b ∷ es))
 sent_later Client Client d b es i = inr i
 sent_later Client Server d b es i = i
 sent_later Server Client d b es i = i

@@ -49,7 +49,7 @@ says_bounded word text _ (retry w is) = tt
 says_bounded word text _ (grease w is) = tt
 says_bounded word text _ (disturb u is) = upset_bounded word text u is
 
-line_bounded : (text : List ℕ) (l : Line) → IsLine text l → IsBounded l
+pub line_bounded : (text : List ℕ) (l : Line) → IsLine text l → IsBounded l
 line_bounded text _ (empty is) = tt
 line_bounded text l (worded word behind _ is says) = says_bounded word behind l says
 

@@ -18,7 +18,7 @@ pub word_alone : (b : ℕ) (text : List ℕ) (l : Line) → is_solid (b ∷ text
 word_alone b text _ s (empty e) = absurd cc
 word_alone b text l s (worded word behind _ is says) = not_solid word behind (subst (λ (z : List ℕ). is_solid z ≡ true) is s)
 
-default_fits : Fits default_config
+pub default_fits : Fits default_config
 unfolding default_config
 default_fits = record {
   sizes = search rules;
@@ -92,18 +92,17 @@ target_is = (
   },
 )
 
-abbrev with_get : Script
+abbrev pub with_get : Script
 with_get = record empty_script { requests = get_message ∷ [] }
 
-taken_get : IsTaken (codes "request GET https://a.test/") empty_script with_get
+pub get_line : IsLine (codes "request GET https://a.test/") (Request (codes "GET") a_target)
 unfolding is_token_byte
-taken_get = record {
-  line = Request (codes "GET") a_target;
-  is =
-      worded (codes "request") (codes "GET https://a.test/") (Request (codes "GET") a_target) refl
-      (request (codes "GET") (codes "https://a.test/") a_target refl refl (omega arith, AllPass-from_test is_token_byte (codes "GET") refl) target_is);
-  makes = refl;
-}
+get_line =
+    worded (codes "request") (codes "GET https://a.test/") (Request (codes "GET") a_target) refl
+    (request (codes "GET") (codes "https://a.test/") a_target refl refl (omega arith, AllPass-from_test is_token_byte (codes "GET") refl) target_is)
+
+pub taken_get : IsTaken (codes "request GET https://a.test/") empty_script with_get
+taken_get = record { line = Request (codes "GET") a_target; is = get_line; makes = refl }
 
 pub get_is : IsScript (codes "request GET https://a.test/") with_get
 get_is = record { short = omega arith; taken = (with_get, taken_get, refl); fits = default_fits }

@@ -4,7 +4,7 @@ use Rattle.std.specs.Prelude.{MatchBool}
 use Rattle.std.proofs.lemmas.Bool.{cases_Bool}
 use Rattle.std.proofs.lemmas.Bool.Decides.{eqb_tells}
 use Rattle.qh_spec.specs.HttpFrame.{HttpFrame, IsHttpFrame, http_frame}
-use Rattle.qh_spec.specs.QuicFrame.{StreamFrame, IsStreamFrame, HasStreamFrame, stream_frame, has_bit}
+use Rattle.qh_spec.specs.QuicFrame.{StreamFrame, IsStreamFrame, stream_frame, has_bit}
 use Rattle.qh_spec.specs.Varint.{IsVarint, varint, one}
 use Rattle.qh_spec.specs.WireRows.{hi_run}
 use Rattle.qh_spec.proofs.Cuts.{varints_agree}
@@ -26,14 +26,14 @@ four_parts a b c d rest =
     append_assoc a (b ++ (c ++ d)) rest ∙ ap (λ (z : List ℕ). a ++ z) (append_assoc b (c ++ d) rest ∙ ap (λ (z : List ℕ). b ++ z) (append_assoc c d rest))
 
 -- a STREAM frame
-pub stream_written : (f : StreamFrame) (rest : List ℕ) → HasStreamFrame f → IsStreamFrame (stream_frame f ++ rest) f rest
-stream_written f rest h =
+pub stream_written : (f : StreamFrame) (rest : List ℕ) → f.id < 2 ^ 62 → f.offset < 2 ^ 62 → length f.payload < 2 ^ 62 → IsStreamFrame (stream_frame f ++ rest) f rest
+stream_written f rest id_fits offset_fits payload_fits =
     let id : List ℕ = varint f.id in
     let offset : List ℕ = varint f.offset in
     let count : List ℕ = varint (length f.payload) in
-    let id_is = varint_spelled f.id h.id in
-    let offset_is = varint_spelled f.offset h.offset in
-    let length_is = varint_spelled (length f.payload) h.payload in
+    let id_is = varint_spelled f.id id_fits in
+    let offset_is = varint_spelled f.offset offset_fits in
+    let length_is = varint_spelled (length f.payload) payload_fits in
     elim (eqb_tells f.offset 0) [
       | inl none ↦
           let t = none.0 in

@@ -12,6 +12,11 @@ abbrev pub prompt_events : List Event
 prompt_events =
     Round 0 ∷ Sent Client (7 ∷ []) ∷ Round 1000000 ∷ Given Server (7 ∷ []) ∷ Dry Server ∷ []
 
+-- the same, with rounds that begin one and two milliseconds past 0
+abbrev pub scheduled_events : List Event
+scheduled_events =
+    Round 1000000 ∷ Sent Client (7 ∷ []) ∷ Round 2000000 ∷ Given Server (7 ∷ []) ∷ Dry Server ∷ []
+
 -- the server was given it in the same round
 abbrev pub early_events : List Event
 early_events = Round 0 ∷ Sent Client (7 ∷ []) ∷ Given Server (7 ∷ []) ∷ []

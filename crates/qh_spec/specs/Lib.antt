@@ -2,6 +2,7 @@ pub mod Acknowledged
 pub mod Carried
 pub mod Codes
 pub mod Config
+pub mod ConfigRows
 pub mod Datagram
 pub mod Echoed
 pub mod EventRows
@@ -31,6 +32,7 @@ pub mod Same
 pub mod Schedule
 pub mod Script
 pub mod ScriptLine
+pub mod ScriptRows
 pub mod Section
 pub mod Service
 pub mod Size

@@ -1,5 +1,5 @@
 -- Frames of QUIC (RFC 9000, section 19). So far the STREAM frame (section 19.8) alone.
-use Rattle.std.specs.Prelude.{◌≡◌, ℕ, ◌+◌, ◌/◌, ◌%◌, ◌^◌, ◌<◌, Bool, ◌==◌, MatchBool, List, [], ◌∷◌, ◌++◌, length, if◌then◌else◌}
+use Rattle.std.specs.Prelude.{◌≡◌, ℕ, ◌+◌, ◌/◌, ◌%◌, Bool, ◌==◌, MatchBool, List, [], ◌∷◌, ◌++◌, length, if◌then◌else◌}
 use Rattle.qh_spec.specs.Varint.{IsVarint, varint}
 
 -- bytes of a stream at their offset, and whether the stream ends with them
@@ -28,12 +28,6 @@ pub record IsStreamFrame (bytes : List ℕ) (f : StreamFrame) (rest : List ℕ) 
   pub offset_is : MatchBool (has_bit 4 kind) (IsVarint offset_bytes f.offset) ((offset_bytes ≡ []) × (f.offset ≡ 0))
   pub length_is : MatchBool (has_bit 2 kind) (IsVarint length_bytes (length f.payload)) ((length_bytes ≡ []) × (rest ≡ []))
   pub fin_is : f.fin ≡ has_bit 1 kind
-
--- what has a spelling
-pub record HasStreamFrame (f : StreamFrame) : Type 0 where
-  pub id : f.id < 2 ^ 62
-  pub offset : f.offset < 2 ^ 62
-  pub payload : length f.payload < 2 ^ 62
 
 -- the type that is written: with a length always, and with an offset where it isn't 0
 abbrev pub stream_kind : StreamFrame → ℕ

@@ -10,6 +10,8 @@ pub mod refusals;
 pub mod reports;
 pub mod requests;
 pub mod scripts;
+pub mod services;
+pub mod settings;
 pub mod tokens;
 pub mod transcripts;
 pub mod wholes;

@@ -9,13 +9,15 @@ ghost use Rattle.qh_spec.specs.Fields.{Field};
 ghost use Rattle.qh_spec.specs.FrameViews.{stream_of, MayBeInitial, AreInitialFrames};
 ghost use Rattle.qh_spec.specs.HttpFrame.{HttpFrame, IsHttpFrame, AreHttpFrames, http_frame, headers_frame};
 ghost use Rattle.qh_spec.specs.PrefixInteger.{IsPrefixed, prefixed};
-ghost use Rattle.qh_spec.specs.QuicFrame.{StreamFrame, IsStreamFrame, HasStreamFrame, stream_frame};
+ghost use Rattle.qh_spec.specs.QuicFrame.{StreamFrame, IsStreamFrame, stream_frame};
 ghost use Rattle.qh_spec.specs.QuicFrames.{Value, QuicFrame, IsQuicFrame, AreQuicFrames};
 ghost use Rattle.qh_spec.specs.Section.{IsSection, section_bytes};
 ghost use Rattle.qh_spec.specs.StaticTable.{static_table};
+ghost use Rattle.qh_spec.specs.StreamId.{stream_id};
 ghost use Rattle.qh_spec.specs.Tag.{IsTag};
 ghost use Rattle.qh_spec.specs.Varint.{IsVarint, varint};
 ghost use Rattle.qh_spec.specs.WireRows.{get_section, get_fields, forged, forged_packet, initial_packet, two_packets, misnumbered, refused_part, carrying_hi, hi_run, hi_frame, ack_bytes, ack_frame};
+ghost use Rattle.qh_spec.specs.declared.sides.Dir.TheVariants.{Bi, Uni};
 ghost use Rattle.qh_spec.specs.declared.sides.Side.TheVariants.{Client, Server};
 ghost use Rattle.qh_spec.specs.declared.sides.Side.{Side};
 ghost use Rattle.qh_spec.specs.declared.sides.Space.{Space};
@@ -38,7 +40,7 @@ pub fn frames()
     ensures one { (bytes x y : List ℕ) (f g : QuicFrame) → IsQuicFrame bytes f x → IsQuicFrame bytes g y → (f ≡ g) × (x ≡ y) }
     ensures stream { (bytes rest : List ℕ) (f : QuicFrame) (s : StreamFrame) → IsQuicFrame bytes f rest → stream_of f ≡ Some s → IsStreamFrame bytes s rest }
     ensures stream_back { (bytes rest : List ℕ) (s : StreamFrame) → IsStreamFrame bytes s rest → (f : QuicFrame) × IsQuicFrame bytes f rest × (stream_of f ≡ Some s) }
-    ensures stream_written { (f : StreamFrame) (rest : List ℕ) → HasStreamFrame f → IsStreamFrame (stream_frame f ++ rest) f rest }
+    ensures stream_written { (f : StreamFrame) (rest : List ℕ) → f.id < 2 ^ 62 → f.offset < 2 ^ 62 → length f.payload < 2 ^ 62 → IsStreamFrame (stream_frame f ++ rest) f rest }
     ensures stream_row { IsStreamFrame (15 ∷ 4 ∷ 3 ∷ 2 ∷ 104 ∷ 105 ∷ []) hi_run [] }
     ensures near_stream_row { (s : StreamFrame) (rest : List ℕ) → IsStreamFrame (15 ∷ 4 ∷ 3 ∷ 3 ∷ 104 ∷ 105 ∷ []) s rest → ⊥ }
     ensures near_row { (f : QuicFrame) (rest : List ℕ) → IsQuicFrame (31 ∷ []) f rest → ⊥ }
@@ -46,6 +48,13 @@ pub fn frames()
     ensures initial_row { (values : List Value) → MayBeInitial (record { kind = 1; values = values }) }
     ensures near_initial_row { (f : QuicFrame) → 7 < f.kind → f.kind < 28 → MayBeInitial f → ⊥ }
     ensures initial_frames_row { AreInitialFrames initial_packet.frames × (AreInitialFrames forged_packet.frames → ⊥) }
+{}
+
+/// The first stream of each initiator and direction has an id from 0 to 3, and the second one from 4 to 7 (RFC 9000, section
+/// 2.1, table 1).
+pub fn streams()
+    ensures first { (stream_id Client Bi 0 ≡ 0) × (stream_id Server Bi 0 ≡ 1) × (stream_id Client Uni 0 ≡ 2) × (stream_id Server Uni 0 ≡ 3) }
+    ensures second { (stream_id Client Bi 1 ≡ 4) × (stream_id Server Bi 1 ≡ 5) × (stream_id Client Uni 1 ≡ 6) × (stream_id Server Uni 1 ≡ 7) }
 {}
 
 /// No spelling of a frame begins another's, bytes have one list of frames, and what is written is a frame (RFC 9114,

@@ -1,4 +1,4 @@
-use Rattle.qh_spec.proofs.EventRows.{prompt_is, early_is_not, timed_is, timed_is_not, late_is_not, echoed_is_not, turn_is, turned_is_not}
+use Rattle.qh_spec.proofs.EventRows.{prompt_is, early_is_not, echoed_is_not, turn_is, turned_is_not}
 use Rattle.qh_spec.proofs.laws.links.rows.Goals as goal
 
 pub returns-clause-prompt : goal.returns-clause-prompt
@@ -6,15 +6,6 @@ returns-clause-prompt c = prompt_is
 
 pub returns-clause-early : goal.returns-clause-early
 returns-clause-early c = early_is_not
-
-pub returns-clause-timed : goal.returns-clause-timed
-returns-clause-timed c = timed_is
-
-pub returns-clause-falling : goal.returns-clause-falling
-returns-clause-falling c = timed_is_not
-
-pub returns-clause-late : goal.returns-clause-late
-returns-clause-late c = late_is_not
 
 pub returns-clause-echoed : goal.returns-clause-echoed
 returns-clause-echoed c = echoed_is_not
