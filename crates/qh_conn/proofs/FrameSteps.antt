@@ -1,5 +1,5 @@
 -- The frames of a packet, taken one after another.
-use Rattle.std.proofs.Common.{◌≡◌, ◌⊎◌, ℕ, List, [], ◌∷◌, ◌++◌, Option, Some, None, length, sym, ap, ◌∙◌, inl, inr, subst, append_assoc, arith}
+use Rattle.std.proofs.Common.{◌≡◌, ℕ, List, [], ◌∷◌, ◌++◌, Option, Some, None, length, sym, ap, ◌∙◌, inl, inr, subst, append_assoc, arith}
 use Rattle.std.specs.List.{AllByRecursion}
 use Rattle.qh_base.specs.declared.connection_error.ConnectionError.{ConnectionError}
 use Rattle.qh_base.specs.declared.connection_error.ConnectionError.TheVariants.{TransportError as Fault}
@@ -17,7 +17,7 @@ use Rattle.qh_space.specs.Space.{IsSpace}
 use Rattle.qh_space.specs.declared.data_space.DataSpace.{DataSpace}
 use Rattle.qh_spec.proofs.FrameLaws.{quic_frame_agrees}
 use Rattle.qh_spec.specs.QuicFrames.{QuicFrame, AreQuicFrames}
-use Rattle.qh_streams.specs.Streams.{IsRefusal}
+use Rattle.qh_streams.specs.Streams.{IsRefusal, IsRefusedBy}
 use Rattle.qh_streams.specs.declared.fault.StreamFault.{StreamFault}
 use Rattle.qh_streams.specs.declared.fault.StreamFault.TheVariants.{Transport, Memory as Wanting}
 
@@ -88,8 +88,8 @@ taken_closed now bytes rest behind old mid new f e h b free step = (h.taken ++ f
 
 -- one is refused
 pub taken_refused : (now : ℕ) (bytes rest behind : List ℕ) (old mid new : DataSpace) (f : Frame) (fault : StreamFault) (e : TransportError) → AreTakenUpTo now bytes rest old mid
-    → Begins rest (plain_of f) behind → (fault ≡ Wanting) ⊎ IsRefusal fault (frame_refusal mid f) → new ≡ mid → fault ≡ Transport e → HasTaken now bytes old new (Some (Fault e))
-taken_refused now bytes rest behind old mid new f fault e h b (inl wanting) same is = absurd (let both : Wanting ≡ Transport e = sym wanting ∙ is in cc)
+    → Begins rest (plain_of f) behind → IsRefusedBy fault (frame_refusal mid f) → new ≡ mid → fault ≡ Transport e → HasTaken now bytes old new (Some (Fault e))
+taken_refused now bytes rest behind old mid new f fault e h b (inl wanting) same is = absurd (let both : Wanting ≡ Transport e = sym wanting.0 ∙ is in cc)
 taken_refused now bytes rest behind old mid new f fault e h b (inr r) same is = (
   h.taken ++ [],
   subst (λ (s : DataSpace). AreFramesTaken now bytes old s (h.taken ++ []) (Some (Fault e))) (sym same)

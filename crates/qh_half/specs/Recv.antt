@@ -1,5 +1,5 @@
 -- The receiving half of a stream (RFC 9000, section 3.2).
-use Rattle.std.specs.Prelude.{◌≡◌, ℕ, ◌+◌, ◌-◌, ◌<◌, ◌≤◌, ◌==◌, ◌^◌, nat_lt, min, max, Bool, MatchBool, true, false, ◌&&◌, ◌||◌, not, length, Option, Some, None, is_some, Result, Ok, Err, if◌then◌else◌}
+use Rattle.std.specs.Prelude.{◌≡◌, ◌⊎◌, ℕ, ◌+◌, ◌-◌, ◌<◌, ◌≤◌, ◌==◌, ◌^◌, nat_lt, min, max, Bool, MatchBool, true, false, ◌&&◌, ◌||◌, not, length, Option, Some, None, is_some, Result, Ok, Err, if◌then◌else◌}
 use Rattle.qh_buffers.specs.declared.assembler.Chunk.{Chunk}
 use Rattle.qh_buffers.specs.Ranges.{count_of}
 use Rattle.qh_buffers.specs.Assembler.{PlainAssembler, empty_assembler, IsInserted, HasNothing, IsGiven, IsFrontPiece, IsLeastPiece, to_give, was_given, read_to}
@@ -10,7 +10,7 @@ use Rattle.qh_half.specs.declared.recv.StopFrame.{StopFrame}
 use Rattle.qh_half.specs.declared.recv.RecvState.{RecvState}
 use Rattle.qh_half.specs.declared.recv.RecvState.TheVariants.{Recv, ResetRecvd}
 use Rattle.qh_half.specs.declared.recv.IngestFault.{IngestFault}
-use Rattle.qh_half.specs.declared.recv.IngestFault.TheVariants.{FlowControl, FinalSize}
+use Rattle.qh_half.specs.declared.recv.IngestFault.TheVariants.{FlowControl, FinalSize, Memory as Wanting}
 use Rattle.qh_half.specs.declared.fault.ReadableFault.{ReadableFault}
 use Rattle.qh_half.specs.declared.fault.ReadableFault.TheVariants.{ClosedStream, IllegalOrderedRead}
 use Rattle.qh_half.specs.declared.fault.ReadFault.{ReadFault}
@@ -81,6 +81,10 @@ contradicts_size r to is_end = contradicts (final_size r.state) r.end to is_end
 abbrev pub ingest_fault : PlainRecv → (to : ℕ) → (is_end : Bool) → (received max_data : ℕ) → Option IngestFault
 ingest_fault r to is_end received max_data =
     if passes_limit r received max_data to then Some FlowControl else if contradicts_size r to is_end then Some FinalSize else None
+
+-- the answer for bytes that aren't taken: why they are refused or, where nothing is wrong with them, want of memory
+abbrev pub IsFaultOf : IngestFault → Option IngestFault → Type 0
+IsFaultOf e refusal = ((e ≡ Wanting) × (refusal ≡ None)) ⊎ (refusal ≡ Some e)
 
 -- ---- what comes
 

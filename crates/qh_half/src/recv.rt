@@ -1,10 +1,9 @@
 ghost use Rattle.std.specs.Prelude.{◌≡◌, ◌⊎◌, ℕ, Bool, ◌+◌, ◌-◌, ◌<◌, ◌≤◌, ◌^◌, ◌==◌, min, length, Option, Some, None, true, false, Err, OnOk, OnErr, IfOk, IfErr, IfSome, MatchOption, if◌then◌else◌};
 ghost use Rattle.qh_buffers.specs.Assembler.{end_of, IsInserted};
-ghost use Rattle.qh_half.specs.Recv.{new_recv, ingest_fault, contradicts, readable_fault, with_order, with_size, keeps_bytes, IsRead, IsReadAnswer, WaitsForMore, IsStopped, with_reset_given, limit_of, final_size, reset_code, bytes_read, IsIngested, IsResetBy, is_closed, is_at_end, is_done, is_limit_due, counted, owes_limit, owes_stop, is_stop_due, is_frame_due, wants_more, acked_stop, lost_stop, new_stop};
+ghost use Rattle.qh_half.specs.Recv.{new_recv, ingest_fault, contradicts, readable_fault, with_order, with_size, keeps_bytes, IsFaultOf, IsRead, IsReadAnswer, WaitsForMore, IsStopped, with_reset_given, limit_of, final_size, reset_code, bytes_read, IsIngested, IsResetBy, is_closed, is_at_end, is_done, is_limit_due, counted, owes_limit, owes_stop, is_stop_due, is_frame_due, wants_more, acked_stop, lost_stop, new_stop};
 ghost use Rattle.std.specs.Option.{option_map};
 ghost use Rattle.qh_buffers.specs.SendBuffer.{lost_mark};
 ghost use Rattle.qh_buffers.specs.declared.send_buffer.Mark.TheVariants.{Sent, Queued, Acked};
-ghost use Rattle.qh_half.specs.declared.recv.IngestFault.TheVariants.{Memory as Wanting};
 ghost use Rattle.qh_half.specs.declared.fault.ReadFault.TheVariants.{Memory as Lacking};
 ghost use Rattle.qh_half.specs.declared.recv.RecvState.TheVariants.{ResetRecvd};
 
@@ -168,7 +167,7 @@ impl Recv {
         requires { (received ≤ max_data) × (max_data < 2 ^ 62) }
         ensures ok { IfOk result (IsIngested self.old self.new piece fin) }
         ensures taken { OnOk result (ingest_fault self.old (piece.offset + length piece.bytes) fin received max_data ≡ None) }
-        ensures fault { IfErr result (λ e. (e ≡ Wanting) ⊎ (ingest_fault self.old (piece.offset + length piece.bytes) fin received max_data ≡ Some e)) }
+        ensures fault { IfErr result (λ e. IsFaultOf e (ingest_fault self.old (piece.offset + length piece.bytes) fin received max_data)) }
         ensures err { OnErr result (self.new ≡ self.old) }
     {
         let to = end_of(&piece);
@@ -464,8 +463,8 @@ impl Recv {
         self.is_stopped || self.is_given
     }
 
-    /// Why bytes up to an offset, or an end there, are refused.
-    fn ingest_fault(
+    /// Why bytes up to an offset, or an end there, are refused, as `ingest` tells it.
+    pub fn ingest_fault(
         &self,
         to: u64,
         is_end: bool,

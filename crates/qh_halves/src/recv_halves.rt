@@ -1,13 +1,12 @@
-ghost use Rattle.std.specs.Prelude.{◌≡◌, ◌⊎◌, ℕ, ◌+◌, ◌-◌, ◌*◌, ◌<◌, ◌≤◌, ◌^◌, ◌==◌, ◌||◌, min, List, [], length, Option, Some, None, true, false, Err, OnOk, OnErr, IfOk, IfErr, IfSome, MatchResult, is_some, if◌then◌else◌};
+ghost use Rattle.std.specs.Prelude.{◌≡◌, ◌⊎◌, ℕ, Bool, ◌+◌, ◌-◌, ◌*◌, ◌<◌, ◌≤◌, ◌^◌, ◌==◌, ◌||◌, min, List, [], length, Option, Some, None, true, false, Err, OnOk, OnErr, IfOk, IfErr, IfSome, MatchResult, is_some, if◌then◌else◌};
 ghost use Rattle.std.specs.Ordering.{nat_cmp};
 ghost use Rattle.std.specs.BTreeMap.{insert_entry};
 ghost use Rattle.std.specs.Map.{keys_of};
 ghost use Rattle.std.specs.List.Sorted.{IsStrictlySortedBy};
 ghost use Rattle.qh_buffers.specs.declared.send_buffer.Mark.TheVariants.{Sent, Acked};
 ghost use Rattle.qh_half.specs.declared.fault.ReadFault.TheVariants.{Memory as Lacking};
-ghost use Rattle.qh_half.specs.declared.recv.IngestFault.TheVariants.{Memory as Wanting};
 ghost use Rattle.qh_halves.specs.Limit.{is_due, acked_at, lost_at, owes_value};
-ghost use Rattle.qh_half.specs.Recv.{PlainRecv, new_recv, is_frame_due};
+ghost use Rattle.qh_half.specs.Recv.{PlainRecv, new_recv, ingest_fault, is_frame_due, IsFaultOf};
 ghost use Rattle.qh_halves.specs.RecvHalves.{recv_at, recv_half_in, data_limit, IsRecvHalf, IsRecvStep, IsRecvAbsent, ingest_fault_at, IsPieceTaken, IsResetTaken, readable_fault_at, is_closed_at, Reads, Begins, IsBegunRead, is_wanting, Stops, TakesReset, NoneIsDue, GivesControl, IsLimitAcked, IsLimitLost, IsStopAcked, IsStopLost, half_owes_limit, half_owes_stop, half_is_wanted, due_entry, is_credit_due, AreRecvAdded, PlainRecvHalves, IsSettled, IsHalfWritten, IsNoneDue};
 ghost use Rattle.qh_halves.specs.Counts.{is_in_range};
 ghost use Rattle.qh_halves.specs.Pending.{has, AreInOrder};
@@ -176,7 +175,7 @@ impl RecvHalves {
     pub fn ingest(&mut self, id: u64, piece: Chunk, fin: bool) -> Result<(), IngestFault>
         ensures ok { OnOk result (IsPieceTaken self.old self.new id piece fin ⊎ IsRecvAbsent self.old self.new id) }
         ensures taken { OnOk result (ingest_fault_at self.old id (piece.offset + length piece.bytes) fin ≡ None) }
-        ensures fault { IfErr result (λ e. (e ≡ Wanting) ⊎ (ingest_fault_at self.old id (piece.offset + length piece.bytes) fin ≡ Some e)) }
+        ensures fault { IfErr result (λ e. IsFaultOf e (ingest_fault_at self.old id (piece.offset + length piece.bytes) fin)) }
         ensures err { OnErr result (self.new ≡ self.old) }
     {
         let Some(half) = self.halves.get_mut(&id) else {
@@ -190,6 +189,25 @@ impl RecvHalves {
         self.credited = self.credited.saturating_add(after - before);
         settle(&mut self.halves, &mut self.due, id, is_done, false);
         Ok(())
+    }
+
+    /// Why bytes of a stream up to an offset, or an end there, are refused, as `ingest` tells it.
+    pub fn ingest_fault(&self, id: u64, to: u64, is_end: bool) -> Option<IngestFault>
+        ensures { result ≡ ingest_fault_at self.now id to is_end }
+    {
+        let half = self.halves.get(&id)?;
+        half.ingest_fault(to, is_end, self.received, self.announced.value)
+    }
+
+    /// Why bytes of a stream up to an offset, or an end there, are refused if they are its first.
+    pub fn first_ingest_fault(&self, to: u64) -> Option<IngestFault>
+        ensures { (is_end : Bool) → result ≡ ingest_fault (new_recv (min self.now.stream_window (2 ^ 62 - 1))) to is_end self.now.received self.now.announced.value }
+    {
+        let limit = first_limit(self.stream_window).into_inner();
+        if limit < to || self.announced.value - self.received < to {
+            return Some(IngestFault::FlowControl);
+        }
+        None
     }
 
     /// A reset of a stream came, with its final size. Where the stream has no half it is dropped.

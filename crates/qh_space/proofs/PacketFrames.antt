@@ -4,6 +4,7 @@ use Rattle.std.proofs.lemmas.Bool.{cases_lt, lt-ltb, le-ltb}
 use Rattle.std.proofs.lemmas.List.{length-append}
 use Rattle.qh_frame.specs.FrameBytes.{frame_bytes}
 use Rattle.qh_frame.specs.Plain.{frame}
+use Rattle.qh_spec.specs.FrameTypes as frame_types
 use Rattle.qh_spec.specs.QuicFrames.{QuicFrame, Text}
 use Rattle.qh_spec.specs.Varint.{varint}
 use Rattle.qh_space.specs.Sending.{bytes_if, ping_bytes, response_bytes}
@@ -97,7 +98,7 @@ module _ (room left : ℕ) (old new : PlainStreams) (out_old out_mid out_new due
 pub none_due : (ping : Bool) (response : Option (List ℕ)) → length (bytes_if ping ping_bytes ++ response_bytes response) ≡ 0 → (ping ≡ false) × (response ≡ None)
 none_due true response e =
     let sum = length-append ping_bytes (response_bytes response) in
-    let some = frame_some (frame 1 []) in
+    let some = frame_some (frame frame_types.ping []) in
     absurd (omega (arith, sum, some, e))
 none_due false None e = (refl, refl)
-none_due false (Some echoed) e = let some = frame_some (frame 27 (Text echoed ∷ [])) in absurd (omega (arith, some, e))
+none_due false (Some echoed) e = let some = frame_some (frame frame_types.path_response (Text echoed ∷ [])) in absurd (omega (arith, some, e))

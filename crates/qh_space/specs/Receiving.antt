@@ -7,12 +7,15 @@ use Rattle.qh_frame.specs.Plain.{ack_of}
 use Rattle.qh_frame.specs.declared.ack.Ack.{Ack}
 use Rattle.qh_frame.specs.declared.frame.Frame.{Frame}
 use Rattle.qh_frame.specs.declared.frame.Frame.TheVariants as kind
+use Rattle.qh_frame.specs.declared.frame.Stream.{Stream}
 use Rattle.qh_loss.specs.Settled.{IsAckTaken, AreLostTaken}
 use Rattle.qh_recovery.specs.Rtt.{sampled, loss_delay}
 use Rattle.qh_recovery.specs.SentPackets.{packet_at}
 use Rattle.qh_recovery.specs.declared.paths.RttEstimator.{RttEstimator}
 use Rattle.qh_recovery.specs.declared.sent_packets.SentPacket.{SentPacket}
 use Rattle.qh_space.specs.declared.data_space.DataSpace.{DataSpace}
+use Rattle.qh_spec.specs.Codes as codes
+use Rattle.qh_spec.specs.FrameTypes as frame_types
 use Rattle.qh_spec.specs.declared.sides.Side.{Side}
 use Rattle.qh_spec.specs.declared.sides.Side.TheVariants.{Client, Server}
 use Rattle.qh_streams.specs.Streams.{PlainStreams, Refusal, refused, refusal_of, IsReceived}
@@ -30,8 +33,13 @@ coming_of (kind.MaxStreamData id limit) = Some (coming.MaxStreamData id limit)
 coming_of (kind.MaxStreams dir count) = Some (coming.MaxStreams dir count)
 coming_of other = None
 
+-- a STREAM frame, of whose bytes a copy is made
+pub record IsStream (f : Frame) : Type 0 where
+  pub stream : Stream
+  pub is : f ≡ kind.Stream stream
+
 abbrev pub refused_at_server : Side → (frame : ℕ) → Option Refusal
-refused_at_server Server frame = refused 10 frame
+refused_at_server Server frame = refused codes.protocol_violation frame
 refused_at_server Client frame = None
 
 abbrev pub coming_refusal : PlainStreams → Option StreamFrame → Option Refusal
@@ -41,10 +49,10 @@ coming_refusal s None = None
 -- Why a frame is refused: an ACK of a number that was never sent (section 13.1), NEW_TOKEN and HANDSHAKE_DONE at a server
 -- (sections 19.7 and 19.20), DATAGRAM, which isn't on (RFC 9221, section 3), and the refusals of the streams.
 abbrev pub frame_refusal : DataSpace → Frame → Option Refusal
-frame_refusal s (kind.Ack a) = if nat_lt a.greatest s.next_number then None else refused 10 2
-frame_refusal s (kind.NewToken token) = refused_at_server s.streams.side 7
-frame_refusal s kind.HandshakeDone = refused_at_server s.streams.side 30
-frame_refusal s (kind.Datagram payload) = refused 10 49
+frame_refusal s (kind.Ack a) = if nat_lt a.greatest s.next_number then None else refused codes.protocol_violation frame_types.ack
+frame_refusal s (kind.NewToken token) = refused_at_server s.streams.side frame_types.new_token
+frame_refusal s kind.HandshakeDone = refused_at_server s.streams.side frame_types.handshake_done
+frame_refusal s (kind.Datagram payload) = refused codes.protocol_violation frame_types.datagram_with_length
 frame_refusal s f = coming_refusal s.streams (coming_of f)
 
 -- a round-trip time was measured where the packet with the greatest acknowledged number was out (RFC 9002, section 5.1)

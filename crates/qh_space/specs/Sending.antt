@@ -7,6 +7,7 @@ use Rattle.qh_recovery.specs.SentPackets.{bytes_in_flight}
 use Rattle.qh_recovery.specs.Window.{allows}
 use Rattle.qh_recovery.specs.declared.sent_packets.SentPacket.{SentPacket}
 use Rattle.qh_space.specs.declared.data_space.DataSpace.{DataSpace}
+use Rattle.qh_spec.specs.FrameTypes as frame_types
 use Rattle.qh_spec.specs.QuicFrames.{Text}
 use Rattle.qh_streams.specs.Streams.{PlainStreams, head_bound, IsIdle, IsLostAtOnce, IsReadBack, IsWrittenBy}
 use Rattle.qh_streams.specs.declared.frames.SentFrame.{SentFrame}
@@ -22,17 +23,17 @@ bytes_if false bytes = []
 
 -- a PING (RFC 9000, section 19.2)
 abbrev pub ping_bytes : List ℕ
-ping_bytes = frame_bytes (frame 1 [])
+ping_bytes = frame_bytes (frame frame_types.ping [])
 
 -- a PATH_RESPONSE, where one is due (RFC 9000, section 19.18)
 abbrev pub response_bytes : Option (List ℕ) → List ℕ
 response_bytes None = []
-response_bytes (Some echoed) = frame_bytes (frame 27 (Text echoed ∷ []))
+response_bytes (Some echoed) = frame_bytes (frame frame_types.path_response (Text echoed ∷ []))
 
 -- a PATH_RESPONSE that is due is read back as that frame
 abbrev pub ReadsBack : Option (List ℕ) → Type 0
 ReadsBack None = Unit {0}
-ReadsBack (Some echoed) = IsReadBack (frame 27 (Text echoed ∷ []))
+ReadsBack (Some echoed) = IsReadBack (frame frame_types.path_response (Text echoed ∷ []))
 
 -- the PING and the PATH_RESPONSE that are due
 abbrev pub due_bytes : DataSpace → List ℕ

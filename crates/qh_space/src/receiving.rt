@@ -1,19 +1,20 @@
-ghost use Rattle.std.specs.Prelude.{◌≡◌, ◌⊎◌, ◌<◌, ◌≤◌, ◌^◌, ◌∷◌, ◌||◌, ℕ, List, None, false, true, if◌then◌else◌, OnOk, OnErr, IfOk, IfErr};
+ghost use Rattle.std.specs.Prelude.{◌≡◌, ◌<◌, ◌≤◌, ◌^◌, ◌∷◌, ◌||◌, ℕ, List, None, false, true, if◌then◌else◌, OnOk, OnErr, IfOk, IfErr};
 ghost use Rattle.qh_frame.specs.Plain.{ack_of};
 ghost use Rattle.qh_loss.specs.Owed.{AreOwed};
 ghost use Rattle.qh_loss.specs.Settled.{IsAckTaken};
 ghost use Rattle.qh_recovery.specs.Accepted.{Remembers};
 ghost use Rattle.qh_recovery.specs.PendingAcks.{IsJoined};
 ghost use Rattle.qh_recovery.specs.SentPackets.{packet_at};
-ghost use Rattle.qh_space.specs.Receiving.{IsFrameTaken, IsAckReceived, IsLossTaken, IsClosedBy, coming_of, frame_refusal, greatest_of, measured, refused_at_server, some_type};
+ghost use Rattle.qh_space.specs.Receiving.{IsFrameTaken, IsAckReceived, IsLossTaken, IsClosedBy, coming_of, frame_refusal, greatest_of, measured, IsStream, refused_at_server, some_type};
 ghost use Rattle.qh_space.specs.Space.{IsSpace};
-ghost use Rattle.qh_streams.specs.Streams.{IsRefusal, refused};
-ghost use Rattle.qh_streams.specs.declared.fault.StreamFault.TheVariants.{Memory as Wanting};
+ghost use Rattle.qh_spec.specs.Codes as codes;
+ghost use Rattle.qh_spec.specs.FrameTypes as frame_types;
+ghost use Rattle.qh_streams.specs.Streams.{IsRefusal, IsRefusedBy, refused};
 
 use crate::DataSpace;
 use bytes::Bytes;
 use qh_base::{
-    ApplicationClose, ConnectionClose, ConnectionError, Memory, Moment, Reason, Side,
+    ApplicationClose, ConnectionClose, ConnectionError, FrameType, Memory, Moment, Reason, Side,
     TransportError, TransportErrorCode, VarInt,
 };
 use qh_frame::{Ack, Frame};
@@ -38,7 +39,7 @@ impl DataSpace {
     }
 
     /// Takes a frame of the peer's. Answers the error with which the peer closes by it, where it does. A fault says why it is
-    /// refused, with its code and the type of the frame.
+    /// refused, with its code and the type of the frame. Memory is answered only for a frame that isn't at fault.
     pub fn take_frame(
         &mut self,
         alloc: Global,
@@ -48,15 +49,34 @@ impl DataSpace {
         requires { IsSpace self.old }
         ensures ok { IfOk result (λ closed. IsFrameTaken now.0 self.old self.new frame.now closed) }
         ensures taken { OnOk result (frame_refusal self.old frame.now ≡ None) }
-        ensures fault { IfErr result (λ e. (e ≡ Wanting) ⊎ IsRefusal e (frame_refusal self.old frame.now)) }
+        ensures fault { IfErr result (λ e. IsRefusedBy e (frame_refusal self.old frame.now)) }
         ensures err { OnErr result (self.new ≡ self.old) }
         ensures space { IsSpace self.new }
     {
-        if let Some(coming) = coming_frame(alloc, frame)? {
+        let Ok(coming) = coming_frame(alloc, frame) else {
+            self.check_stream(frame)?;
+            return Err(StreamFault::Memory);
+        };
+        if let Some(coming) = coming {
             self.streams.received(alloc, coming)?;
             return Ok(None);
         }
         self.take_other(frame, now)
+    }
+
+    // Refuses a STREAM frame that is at fault.
+    fn check_stream(&self, frame: &Frame<'_>) -> Result<(), StreamFault>
+        requires { IsStream frame.now }
+        ensures ok { OnOk result (frame_refusal self.now frame.now ≡ None) }
+        ensures fault { IfErr result (λ e. IsRefusal e (frame_refusal self.now frame.now)) }
+    {
+        match frame {
+            Frame::Stream(stream) => {
+                self.streams
+                    .check_stream(stream.id, stream.offset, stream.payload, stream.fin)
+            }
+            _ => Ok(()),
+        }
     }
 
     // Takes a frame that doesn't speak of streams.
@@ -76,9 +96,9 @@ impl DataSpace {
         match frame {
             Frame::Ack(ack) => self.take_ack(ack, now)?,
             Frame::PathChallenge(bytes) => self.path_response = Some(*bytes),
-            Frame::NewToken { .. } => self.refuse_at_server(7)?,
-            Frame::HandshakeDone => self.refuse_at_server(30)?,
-            Frame::Datagram { .. } => return Err(violation(49)),
+            Frame::NewToken { .. } => self.refuse_at_server(FrameType::NEW_TOKEN)?,
+            Frame::HandshakeDone => self.refuse_at_server(FrameType::HANDSHAKE_DONE)?,
+            Frame::Datagram { .. } => return Err(violation(FrameType::DATAGRAM_WITH_LENGTH)),
             _ => return Ok(closed_by(frame)),
         }
         Ok(None)
@@ -89,13 +109,13 @@ impl DataSpace {
         requires { IsSpace self.old }
         ensures ok { OnOk result (IsAckReceived now.0 self.old self.new ack.now) }
         ensures taken { OnOk result (ack.now.greatest < self.old.next_number) }
-        ensures fault { IfErr result (λ e. IsRefusal e (refused 10 2) × (self.old.next_number ≤ ack.now.greatest)) }
+        ensures fault { IfErr result (λ e. IsRefusal e (refused codes.protocol_violation frame_types.ack) × (self.old.next_number ≤ ack.now.greatest)) }
         ensures err { OnErr result (self.new ≡ self.old) }
         ensures space { IsSpace self.new }
     {
         let greatest = ack.greatest.into_inner();
         if greatest >= self.next_number {
-            return Err(violation(2));
+            return Err(violation(FrameType::ACK));
         }
         self.measure(greatest, now);
         self.acknowledge(ack);
@@ -150,9 +170,9 @@ impl DataSpace {
     }
 
     // A server takes no such frame.
-    fn refuse_at_server(&self, frame: u64) -> Result<(), StreamFault>
-        ensures ok { OnOk result (refused_at_server self.now.streams.side frame ≡ None) }
-        ensures fault { IfErr result (λ e. IsRefusal e (refused_at_server self.now.streams.side frame)) }
+    fn refuse_at_server(&self, frame: FrameType) -> Result<(), StreamFault>
+        ensures ok { OnOk result (refused_at_server self.now.streams.side frame.0 ≡ None) }
+        ensures fault { IfErr result (λ e. IsRefusal e (refused_at_server self.now.streams.side frame.0)) }
     {
         match self.streams.side() {
             Side::Server => Err(violation(frame)),
@@ -172,19 +192,20 @@ fn greatest_of(largest_acked: Option<u64>, number: u64) -> u64
 }
 
 // PROTOCOL_VIOLATION by a frame of this type.
-fn violation(frame: u64) -> StreamFault
-    ensures { IsRefusal result (refused 10 frame) }
+fn violation(frame: FrameType) -> StreamFault
+    ensures { IsRefusal result (refused codes.protocol_violation frame.0) }
 {
     StreamFault::Transport(TransportError {
         code: TransportErrorCode::PROTOCOL_VIOLATION,
-        frame: Some(frame),
+        frame: Some(frame.0),
         reason: Reason::of(b""),
     })
 }
 
 // The frame that speaks of streams, with a copy of the bytes that it bears.
 fn coming_frame(alloc: Global, frame: &Frame<'_>) -> Result<Option<StreamFrame>, Memory>
-    ensures { IfOk result (λ o. o ≡ coming_of frame.now) }
+    ensures ok { IfOk result (λ o. o ≡ coming_of frame.now) }
+    ensures err { OnErr result (IsStream frame.now) }
 {
     Ok(Some(match frame {
         Frame::Stream(stream) => StreamFrame::Stream {

@@ -6,15 +6,14 @@ use Rattle.std.proofs.lemmas.List.{append-nil}
 use Rattle.qh_base.specs.declared.stream_id.StreamId.{StreamId}
 use Rattle.qh_buffers.specs.declared.assembler.Chunk.{Chunk}
 use Rattle.qh_streams.specs.declared.fault.StreamFault.{StreamFault}
-use Rattle.qh_streams.specs.declared.fault.StreamFault.TheVariants.{Transport, Memory as Wanting}
 use Rattle.qh_half.specs.declared.recv.IngestFault.{IngestFault}
-use Rattle.qh_half.specs.declared.recv.IngestFault.TheVariants.{Memory as NoMemory}
+use Rattle.qh_half.specs.declared.recv.IngestFault.TheVariants.{FlowControl, FinalSize, Memory as NoMemory}
 use Rattle.qh_streams.specs.declared.frames.StreamEvent.{StreamEvent}
 use Rattle.qh_streams.specs.declared.frames.StreamEvent.TheVariants.{Readable}
 use Rattle.qh_halves.specs.Counts.{is_own, is_bi, has_recv}
-use Rattle.qh_half.specs.Recv.{PlainRecv, new_recv, is_done, IsIngested, IsResetBy}
-use Rattle.qh_halves.specs.RecvHalves.{PlainRecvHalves, recv_at, unless_done, half_ingest_fault, half_is_wanted, IsRecvStep, IsRecvAbsent, IsPieceTaken, IsResetTaken}
-use Rattle.qh_streams.specs.Streams.{PlainStreams, was_opened, is_live, counted_closed, arrives_with, counts_of, new_recv_half, recv_or_new, readable_events, HasArrived, IsWithinCount, IsRefusal, ingest_refusal, IsPieceReceived, IsResetReceived, IsReceived, HasUnblocked, KeepsOut}
+use Rattle.qh_half.specs.Recv.{PlainRecv, new_recv, is_done, ingest_fault, passes_limit, contradicts_size, IsFaultOf, IsIngested, IsResetBy}
+use Rattle.qh_halves.specs.RecvHalves.{PlainRecvHalves, recv_at, unless_done, half_ingest_fault, ingest_fault_at, half_is_wanted, IsRecvStep, IsRecvAbsent, IsPieceTaken, IsResetTaken}
+use Rattle.qh_streams.specs.Streams.{PlainStreams, was_opened, is_live, counted_closed, arrives_with, counts_of, new_recv_half, recv_or_new, readable_events, HasArrived, IsWithinCount, IsRefusal, IsRefusedBy, ingest_refusal, size_refusal, IsPieceReceived, IsResetReceived, IsReceived, HasUnblocked, KeepsOut}
 use Rattle.qh_halves.specs.SendHalves.{PlainSendHalves, IsStep, IsAbsent, HasLimit, KeepsSpans}
 use Rattle.qh_streams.specs.declared.frames.StreamFrame.TheVariants.{Stream, ResetStream, MaxStreamData}
 use Rattle.qh_streams.specs.Streams.IsReceived.{stream, reset, max_stream_data}
@@ -45,15 +44,43 @@ stepped_out s t new is side_is bi_is uni_is spans f out = rw is (out_kept (later
 
 -- ---- faults
 
-no_refusal : (f : StreamFault) → IsRefusal f None → ⊥
-no_refusal (Transport e) r = r
-no_refusal Wanting r = r
+pub refused_so : (fault : IngestFault) (answer : StreamFault) (frame : ℕ) (refusal : Option IngestFault) → IsRefusedBy answer (ingest_refusal (Some fault) frame)
+    → IsFaultOf fault refusal → IsRefusedBy answer (ingest_refusal refusal frame)
+refused_so fault answer frame refusal so (inl wanting) = let so_wanting = rw wanting.0 at so in rw wanting.1 so_wanting
+refused_so fault answer frame refusal so (inr is) = rw is so
 
-pub refused_so : (fault : IngestFault) (answer : StreamFault) (frame : ℕ) (refusal : Option IngestFault) → (answer ≡ Wanting) ⊎ IsRefusal answer (ingest_refusal (Some fault) frame)
-    → (fault ≡ NoMemory) ⊎ (refusal ≡ Some fault) → (answer ≡ Wanting) ⊎ IsRefusal answer (ingest_refusal refusal frame)
-refused_so fault answer frame refusal (inl none) why = inl none
-refused_so fault answer frame refusal (inr so) (inl none) = let r = rw none at so in absurd (no_refusal answer r)
-refused_so fault answer frame refusal (inr so) (inr is) = inr (rw is so)
+no_memory : (passes contradicts : Bool) → (if passes then Some FlowControl else if contradicts then Some FinalSize else None) ≡ Some NoMemory → ⊥
+no_memory true contradicts e = cc
+no_memory false true e = cc
+no_memory false false e = cc
+
+-- bytes aren't refused for want of memory
+never_wanting : (o : Option PlainRecv) (to : ℕ) (is_end : Bool) (received max_data : ℕ) → half_ingest_fault o to is_end received max_data ≡ Some NoMemory → ⊥
+never_wanting None to is_end received max_data e = cc
+never_wanting (Some r) to is_end received max_data e = no_memory (passes_limit r received max_data to) (contradicts_size r to is_end) e
+
+some_refusal : (fault : IngestFault) (answer : StreamFault) (frame : ℕ) → (fault ≡ NoMemory → ⊥) → IsRefusedBy answer (ingest_refusal (Some fault) frame) → IsRefusal answer (ingest_refusal (Some fault) frame)
+some_refusal FlowControl answer frame other (inl wanting) = let none = wanting.1 in absurd (cc)
+some_refusal FlowControl answer frame other (inr so) = so
+some_refusal FinalSize answer frame other (inl wanting) = let none = wanting.1 in absurd (cc)
+some_refusal FinalSize answer frame other (inr so) = so
+some_refusal NoMemory answer frame other so = absurd (other refl)
+
+module _ (s : PlainStreams) (id to : ℕ) (is_end : Bool) where
+  abbrev size_fault : Option IngestFault
+  size_fault = half_ingest_fault (recv_or_new s id) to is_end s.recv.received s.recv.announced.value
+
+  pub fault_there : was_opened s id ≡ true → ingest_fault_at s.recv id to is_end ≡ size_fault
+  fault_there opened = rw opened refl
+
+  pub fault_of_new : was_opened s id ≡ false → has_recv s.side id ≡ true
+      → ingest_fault (new_recv (min s.recv.stream_window (2 ^ 62 - 1))) to is_end s.recv.received s.recv.announced.value ≡ size_fault
+  fault_of_new fresh reads = rw (fresh, reads) refl
+
+  pub size_refused : (fault : IngestFault) (answer : StreamFault) (frame : ℕ) → Some fault ≡ size_fault → IsRefusedBy answer (ingest_refusal (Some fault) frame) → IsRefusal answer (size_refusal s id to is_end frame)
+  size_refused fault answer frame is so =
+      let never = never_wanting (recv_or_new s id) to is_end s.recv.received s.recv.announced.value in
+      rw (sym is) (some_refusal fault answer frame (λ wanting. never (sym is ∙ ap Some wanting)) so)
 
 -- ---- a stream that was there
 

@@ -9,6 +9,8 @@ use Rattle.qh_base.specs.declared.stream_id.StreamId.{StreamId}
 use Rattle.qh_spec.specs.declared.sides.Side.{Side}
 use Rattle.qh_spec.specs.declared.sides.Dir.{Dir}
 use Rattle.qh_spec.specs.declared.sides.Dir.TheVariants.{Bi, Uni}
+use Rattle.qh_spec.specs.Codes as codes
+use Rattle.qh_spec.specs.FrameTypes as frame_types
 use Rattle.qh_spec.specs.QuicFrame.{StreamFrame as CarriedStream}
 use Rattle.qh_spec.specs.QuicFrames.{QuicFrame, Num, IsQuicFrame}
 use Rattle.qh_frame.specs.FrameBytes.{frame_bytes}
@@ -174,14 +176,14 @@ or_refusal (Some r) second = Some r
 -- for one of the peer's past the count that was announced
 abbrev pub id_refusal : PlainStreams → (id : ℕ) → (has_half : Bool) → (frame : ℕ) → Option Refusal
 id_refusal s id has_half frame =
-    if not has_half then refused 5 frame
-    else if is_own s.side id then (if was_opened s id then None else refused 5 frame)
-    else (if nat_lt (index_of id) (counts_of s (is_bi id)).announced.value then None else refused 4 frame)
+    if not has_half then refused codes.stream_state_error frame
+    else if is_own s.side id then (if was_opened s id then None else refused codes.stream_state_error frame)
+    else (if nat_lt (index_of id) (counts_of s (is_bi id)).announced.value then None else refused codes.stream_limit_error frame)
 
 -- FLOW_CONTROL_ERROR and FINAL_SIZE_ERROR
 abbrev pub ingest_refusal : Option IngestFault → (frame : ℕ) → Option Refusal
-ingest_refusal (Some FlowControl) frame = refused 3 frame
-ingest_refusal (Some FinalSize) frame = refused 6 frame
+ingest_refusal (Some FlowControl) frame = refused codes.flow_control_error frame
+ingest_refusal (Some FinalSize) frame = refused codes.final_size_error frame
 ingest_refusal _ frame = None
 
 -- the receiving half of a stream, once it is there
@@ -193,18 +195,22 @@ size_refusal s id to is_end frame = ingest_refusal (half_ingest_fault (recv_or_n
 
 -- why a frame is refused, by the first that fits
 abbrev pub refusal_of : PlainStreams → StreamFrame → Option Refusal
-refusal_of s (coming.Stream id offset payload fin) = or_refusal (id_refusal s id.0 (has_recv s.side id.0) 8) (size_refusal s id.0 (offset + length payload) fin 8)
-refusal_of s (coming.ResetStream id code size) = or_refusal (id_refusal s id.0 (has_recv s.side id.0) 4) (size_refusal s id.0 size true 4)
-refusal_of s (coming.StopSending id code) = id_refusal s id.0 (has_send s.side id.0) 5
+refusal_of s (coming.Stream id offset payload fin) = or_refusal (id_refusal s id.0 (has_recv s.side id.0) frame_types.stream) (size_refusal s id.0 (offset + length payload) fin frame_types.stream)
+refusal_of s (coming.ResetStream id code size) = or_refusal (id_refusal s id.0 (has_recv s.side id.0) frame_types.reset_stream) (size_refusal s id.0 size true frame_types.reset_stream)
+refusal_of s (coming.StopSending id code) = id_refusal s id.0 (has_send s.side id.0) frame_types.stop_sending
 refusal_of s (coming.MaxData limit) = None
-refusal_of s (coming.MaxStreamData id limit) = id_refusal s id.0 (has_send s.side id.0) 17
-refusal_of s (coming.MaxStreams Bi count) = if nat_lt (2 ^ 60) count then refused 7 18 else None
-refusal_of s (coming.MaxStreams Uni count) = if nat_lt (2 ^ 60) count then refused 7 19 else None
+refusal_of s (coming.MaxStreamData id limit) = id_refusal s id.0 (has_send s.side id.0) frame_types.max_stream_data
+refusal_of s (coming.MaxStreams Bi count) = if nat_lt (2 ^ 60) count then refused codes.frame_encoding_error frame_types.max_streams_bidi else None
+refusal_of s (coming.MaxStreams Uni count) = if nat_lt (2 ^ 60) count then refused codes.frame_encoding_error frame_types.max_streams_uni else None
 
 -- the fault has this code and frame type
 abbrev pub IsRefusal : StreamFault → Option Refusal → Type 0
 IsRefusal (Transport e) (Some r) = (e.code.0 ≡ r.code) × (e.frame ≡ Some r.frame)
 IsRefusal _ _ = ⊥
+
+-- the answer for a frame that isn't taken: why it is refused or, where nothing is wrong with it, want of memory
+abbrev pub IsRefusedBy : StreamFault → Option Refusal → Type 0
+IsRefusedBy e refusal = ((e ≡ Memory) × (refusal ≡ None)) ⊎ IsRefusal e refusal
 
 -- a stream that was there has news for its reader
 abbrev pub readable_events : PlainStreams → StreamId → List StreamEvent
@@ -300,11 +306,11 @@ half_bytes (Some h) piece = bytes_between h.buffer piece.offsets.start piece.off
 -- the frame as it is written (RFC 9000, section 19)
 abbrev pub written_frame : PlainStreams → SentFrame → QuicFrame
 written_frame s (sent.Stream id piece) = stream_form (record { id = id.0; offset = piece.offsets.start; payload = half_bytes (send_at s.send id.0) piece; fin = piece.fin })
-written_frame s (sent.ResetStream id reset_frame) = frame 4 (Num id.0 ∷ Num reset_frame.code ∷ Num reset_frame.final_size ∷ [])
-written_frame s (sent.StopSending id code) = frame 5 (Num id.0 ∷ Num code ∷ [])
-written_frame s (sent.MaxData limit) = frame 16 (Num limit ∷ [])
-written_frame s (sent.MaxStreamData id limit) = frame 17 (Num id.0 ∷ Num limit ∷ [])
-written_frame s (sent.MaxStreams dir count) = frame (by_dir dir 18 19) (Num count ∷ [])
+written_frame s (sent.ResetStream id reset_frame) = frame frame_types.reset_stream (Num id.0 ∷ Num reset_frame.code ∷ Num reset_frame.final_size ∷ [])
+written_frame s (sent.StopSending id code) = frame frame_types.stop_sending (Num id.0 ∷ Num code ∷ [])
+written_frame s (sent.MaxData limit) = frame frame_types.max_data (Num limit ∷ [])
+written_frame s (sent.MaxStreamData id limit) = frame frame_types.max_stream_data (Num id.0 ∷ Num limit ∷ [])
+written_frame s (sent.MaxStreams dir count) = frame (by_dir dir frame_types.max_streams_bidi frame_types.max_streams_uni) (Num count ∷ [])
 
 -- a frame's head is at most so long (RFC 9000, section 19.8)
 abbrev pub head_bound : ℕ

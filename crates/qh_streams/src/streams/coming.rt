@@ -1,12 +1,14 @@
-ghost use Rattle.std.specs.Prelude.{◌≡◌, ◌⊎◌, ◌+◌, length, OnErr, OnOk, IfErr, MatchOption, None, true, false};
-ghost use Rattle.qh_streams.specs.declared.fault.StreamFault.TheVariants.{Memory as Wanting};
+ghost use Rattle.std.specs.Prelude.{◌≡◌, ◌+◌, ◌<◌, ◌^◌, length, OnErr, OnOk, IfErr, MatchOption, None, true, false};
 ghost use Rattle.qh_streams.specs.declared.frames.StreamFrame.TheVariants.{Stream, ResetStream, StopSending, MaxStreamData, MaxStreams};
 ghost use Rattle.qh_halves.specs.Counts.{has_send, has_recv};
-ghost use Rattle.qh_streams.specs.Streams.{refusal_of, id_refusal, ingest_refusal, size_refusal, was_opened, IsPieceReceived, IsResetReceived, IsRefusal, IsReceived, IsWithinCount, HasUnblocked, KeepsOut};
+ghost use Rattle.qh_spec.specs.FrameTypes as frame_types;
+ghost use Rattle.qh_streams.specs.Streams.{refusal_of, id_refusal, ingest_refusal, size_refusal, was_opened, IsPieceReceived, IsResetReceived, IsRefusal, IsRefusedBy, IsReceived, IsWithinCount, HasUnblocked, KeepsOut};
 
 use crate::{StreamEvent, StreamFault, StreamFrame, Streams};
 use bytes::Bytes;
-use qh_base::{Dir, Memory, Reason, StreamId, TransportError, TransportErrorCode, VarInt};
+use qh_base::{
+    Dir, FrameType, Memory, Reason, StreamId, TransportError, TransportErrorCode, VarInt,
+};
 use qh_buffers::Chunk;
 use qh_half::IngestFault;
 use qh_halves::MAX_STREAMS;
@@ -25,11 +27,12 @@ impl From<Memory> for StreamFault {
 
 impl Streams {
     /// A frame of the peer's came. Frames of a half that is done are dropped. A fault says why the frame is refused, with its
-    /// code and the type of the frame (RFC 9000, sections 4, 19 and 20.1): then nothing changes.
+    /// code and the type of the frame (RFC 9000, sections 4, 19 and 20.1): then nothing changes. Memory is answered only for a
+    /// frame that isn't at fault.
     pub fn received(&mut self, alloc: Global, frame: StreamFrame) -> Result<(), StreamFault>
         ensures ok { OnOk result (IsReceived self.old self.new frame) }
         ensures taken { OnOk result (refusal_of self.old frame ≡ None) }
-        ensures fault { IfErr result (λ e. (e ≡ Wanting) ⊎ IsRefusal e (refusal_of self.old frame)) }
+        ensures fault { IfErr result (λ e. IsRefusedBy e (refusal_of self.old frame)) }
         ensures err { OnErr result (self.new ≡ self.old) }
         ensures keeps_out { KeepsOut self.old self.new }
     {
@@ -57,6 +60,22 @@ impl Streams {
         }
     }
 
+    /// Refuses a STREAM frame exactly if it is at fault, as `received` does, and takes no memory for that.
+    pub fn check_stream(
+        &self,
+        id: StreamId,
+        offset: VarInt,
+        payload: &[u8],
+        fin: bool,
+    ) -> Result<(), StreamFault>
+        ensures ok { OnOk result (refusal_of self.now (Stream id offset payload.now fin) ≡ None) }
+        ensures fault { IfErr result (λ e. IsRefusal e (refusal_of self.now (Stream id offset payload.now fin))) }
+    {
+        self.check(id, self.reads(id), FrameType::STREAM)?;
+        let to = offset.into_inner() + payload.len() as u64;
+        self.check_size(id, to, fin, FrameType::STREAM)
+    }
+
     // A STREAM frame came.
     fn received_stream(
         &mut self,
@@ -68,11 +87,11 @@ impl Streams {
     ) -> Result<(), StreamFault>
         ensures ok { OnOk result (IsReceived self.old self.new (Stream id offset payload fin)) }
         ensures taken { OnOk result (refusal_of self.old (Stream id offset payload fin) ≡ None) }
-        ensures fault { IfErr result (λ e. (e ≡ Wanting) ⊎ IsRefusal e (refusal_of self.old (Stream id offset payload fin))) }
+        ensures fault { IfErr result (λ e. IsRefusedBy e (refusal_of self.old (Stream id offset payload fin))) }
         ensures err { OnErr result (self.new ≡ self.old) }
         ensures keeps_out { KeepsOut self.old self.new }
     {
-        self.check(id, self.reads(id), 0x08)?;
+        self.check(id, self.reads(id), FrameType::STREAM)?;
         let piece = Chunk {
             offset: offset.into_inner(),
             bytes: payload,
@@ -86,20 +105,22 @@ impl Streams {
 
     // A piece came of a stream that is there.
     fn take_piece(&mut self, id: StreamId, piece: Chunk, fin: bool) -> Result<(), StreamFault>
-        requires { was_opened self.old id.0 ≡ true }
+        requires opened { was_opened self.old id.0 ≡ true }
+        requires offset { piece.offset < 2 ^ 62 }
         ensures ok { OnOk result (IsPieceReceived self.old self.new id piece fin) }
-        ensures taken { OnOk result (size_refusal self.old id.0 (piece.offset + length piece.bytes) fin 8 ≡ None) }
-        ensures fault { IfErr result (λ e. (e ≡ Wanting) ⊎ IsRefusal e (size_refusal self.old id.0 (piece.offset + length piece.bytes) fin 8)) }
+        ensures taken { OnOk result (size_refusal self.old id.0 (piece.offset + length piece.bytes) fin frame_types.stream ≡ None) }
+        ensures fault { IfErr result (λ e. IsRefusedBy e (size_refusal self.old id.0 (piece.offset + length piece.bytes) fin frame_types.stream)) }
         ensures err { OnErr result (self.new ≡ self.old) }
         ensures keeps_out { KeepsOut self.old self.new }
     {
         let was_live = self.is_live(id);
         let is_told = self.recv.is_wanted(id.0);
         if self.events.try_reserve(self.send.len() + 1).is_err() {
+            self.check_size(id, end_of(&piece), fin, FrameType::STREAM)?;
             return Err(StreamFault::Memory);
         }
         if let Err(fault) = self.recv.ingest(id.0, piece, fin) {
-            return Err(ingest_fault(fault, 0x08));
+            return Err(ingest_fault(fault, FrameType::STREAM));
         }
         if is_told {
             let _ = self.events.push_back(StreamEvent::Readable { id });
@@ -116,19 +137,23 @@ impl Streams {
         piece: Chunk,
         fin: bool,
     ) -> Result<(), StreamFault>
+        requires offset { piece.offset < 2 ^ 62 }
         requires new { was_opened self.old id.0 ≡ false }
         requires within { IsWithinCount self.old id.0 }
         requires reads { has_recv self.old.side id.0 ≡ true }
         ensures ok { OnOk result (IsPieceReceived self.old self.new id piece fin) }
-        ensures taken { OnOk result (size_refusal self.old id.0 (piece.offset + length piece.bytes) fin 8 ≡ None) }
-        ensures fault { IfErr result (λ e. (e ≡ Wanting) ⊎ IsRefusal e (size_refusal self.old id.0 (piece.offset + length piece.bytes) fin 8)) }
+        ensures taken { OnOk result (size_refusal self.old id.0 (piece.offset + length piece.bytes) fin frame_types.stream ≡ None) }
+        ensures fault { IfErr result (λ e. IsRefusedBy e (size_refusal self.old id.0 (piece.offset + length piece.bytes) fin frame_types.stream)) }
         ensures err { OnErr result (self.new ≡ self.old) }
         ensures keeps_out { KeepsOut self.old self.new }
     {
-        let arrived = self.arrive(alloc, id)?;
+        let Ok(arrived) = self.arrive(alloc, id) else {
+            self.check_size(id, end_of(&piece), fin, FrameType::STREAM)?;
+            return Err(StreamFault::Memory);
+        };
         if let Err(fault) = self.recv.ingest(id.0, piece, fin) {
             self.depart(id, arrived);
-            return Err(ingest_fault(fault, 0x08));
+            return Err(ingest_fault(fault, FrameType::STREAM));
         }
         Ok(())
     }
@@ -143,11 +168,11 @@ impl Streams {
     ) -> Result<(), StreamFault>
         ensures ok { OnOk result (IsReceived self.old self.new (ResetStream id code final_size)) }
         ensures taken { OnOk result (refusal_of self.old (ResetStream id code final_size) ≡ None) }
-        ensures fault { IfErr result (λ e. (e ≡ Wanting) ⊎ IsRefusal e (refusal_of self.old (ResetStream id code final_size))) }
+        ensures fault { IfErr result (λ e. IsRefusedBy e (refusal_of self.old (ResetStream id code final_size))) }
         ensures err { OnErr result (self.new ≡ self.old) }
         ensures keeps_out { KeepsOut self.old self.new }
     {
-        self.check(id, self.reads(id), 0x04)?;
+        self.check(id, self.reads(id), FrameType::RESET_STREAM)?;
         if self.was_opened(id) {
             self.take_reset(id, code, final_size)
         } else {
@@ -164,18 +189,19 @@ impl Streams {
     ) -> Result<(), StreamFault>
         requires { was_opened self.old id.0 ≡ true }
         ensures ok { OnOk result (IsResetReceived self.old self.new id code final_size) }
-        ensures taken { OnOk result (size_refusal self.old id.0 final_size true 4 ≡ None) }
-        ensures fault { IfErr result (λ e. (e ≡ Wanting) ⊎ IsRefusal e (size_refusal self.old id.0 final_size true 4)) }
+        ensures taken { OnOk result (size_refusal self.old id.0 final_size true frame_types.reset_stream ≡ None) }
+        ensures fault { IfErr result (λ e. IsRefusedBy e (size_refusal self.old id.0 final_size true frame_types.reset_stream)) }
         ensures err { OnErr result (self.new ≡ self.old) }
         ensures keeps_out { KeepsOut self.old self.new }
     {
         let was_live = self.is_live(id);
         let is_told = self.recv.is_wanted(id.0);
         if self.events.try_reserve(self.send.len() + 1).is_err() {
+            self.check_size(id, final_size.into_inner(), true, FrameType::RESET_STREAM)?;
             return Err(StreamFault::Memory);
         }
         if let Err(fault) = self.recv.received_reset(id.0, code, final_size) {
-            return Err(ingest_fault(fault, 0x04));
+            return Err(ingest_fault(fault, FrameType::RESET_STREAM));
         }
         if is_told {
             let _ = self.events.push_back(StreamEvent::Readable { id });
@@ -196,15 +222,18 @@ impl Streams {
         requires within { IsWithinCount self.old id.0 }
         requires reads { has_recv self.old.side id.0 ≡ true }
         ensures ok { OnOk result (IsResetReceived self.old self.new id code final_size) }
-        ensures taken { OnOk result (size_refusal self.old id.0 final_size true 4 ≡ None) }
-        ensures fault { IfErr result (λ e. (e ≡ Wanting) ⊎ IsRefusal e (size_refusal self.old id.0 final_size true 4)) }
+        ensures taken { OnOk result (size_refusal self.old id.0 final_size true frame_types.reset_stream ≡ None) }
+        ensures fault { IfErr result (λ e. IsRefusedBy e (size_refusal self.old id.0 final_size true frame_types.reset_stream)) }
         ensures err { OnErr result (self.new ≡ self.old) }
         ensures keeps_out { KeepsOut self.old self.new }
     {
-        let arrived = self.arrive(alloc, id)?;
+        let Ok(arrived) = self.arrive(alloc, id) else {
+            self.check_size(id, final_size.into_inner(), true, FrameType::RESET_STREAM)?;
+            return Err(StreamFault::Memory);
+        };
         if let Err(fault) = self.recv.received_reset(id.0, code, final_size) {
             self.depart(id, arrived);
-            return Err(ingest_fault(fault, 0x04));
+            return Err(ingest_fault(fault, FrameType::RESET_STREAM));
         }
         Ok(())
     }
@@ -218,11 +247,11 @@ impl Streams {
     ) -> Result<(), StreamFault>
         ensures ok { OnOk result (IsReceived self.old self.new (StopSending id code)) }
         ensures taken { OnOk result (refusal_of self.old (StopSending id code) ≡ None) }
-        ensures fault { IfErr result (λ e. (e ≡ Wanting) ⊎ IsRefusal e (refusal_of self.old (StopSending id code))) }
+        ensures fault { IfErr result (λ e. IsRefusedBy e (refusal_of self.old (StopSending id code))) }
         ensures err { OnErr result (self.new ≡ self.old) }
         ensures keeps_out { KeepsOut self.old self.new }
     {
-        self.check(id, self.sends(id), 0x05)?;
+        self.check(id, self.sends(id), FrameType::STOP_SENDING)?;
         let arrived = self.arrive(alloc, id)?;
         if self.events.try_reserve(self.send.len() + 1).is_err() {
             self.depart(id, arrived);
@@ -243,11 +272,11 @@ impl Streams {
     ) -> Result<(), StreamFault>
         ensures ok { OnOk result (IsReceived self.old self.new (MaxStreamData id limit)) }
         ensures taken { OnOk result (refusal_of self.old (MaxStreamData id limit) ≡ None) }
-        ensures fault { IfErr result (λ e. (e ≡ Wanting) ⊎ IsRefusal e (refusal_of self.old (MaxStreamData id limit))) }
+        ensures fault { IfErr result (λ e. IsRefusedBy e (refusal_of self.old (MaxStreamData id limit))) }
         ensures err { OnErr result (self.new ≡ self.old) }
         ensures keeps_out { KeepsOut self.old self.new }
     {
-        self.check(id, self.sends(id), 0x11)?;
+        self.check(id, self.sends(id), FrameType::MAX_STREAM_DATA)?;
         let arrived = self.arrive(alloc, id)?;
         if self.note_unblocked(id, limit).is_err() {
             self.depart(id, arrived);
@@ -276,15 +305,15 @@ impl Streams {
     fn received_max_streams(&mut self, dir: Dir, count: VarInt) -> Result<(), StreamFault>
         ensures ok { OnOk result (IsReceived self.old self.new (MaxStreams dir count)) }
         ensures taken { OnOk result (refusal_of self.old (MaxStreams dir count) ≡ None) }
-        ensures fault { IfErr result (λ e. (e ≡ Wanting) ⊎ IsRefusal e (refusal_of self.old (MaxStreams dir count))) }
+        ensures fault { IfErr result (λ e. IsRefusedBy e (refusal_of self.old (MaxStreams dir count))) }
         ensures err { OnErr result (self.new ≡ self.old) }
         ensures keeps_out { KeepsOut self.old self.new }
     {
         let count = count.into_inner();
         if count > MAX_STREAMS {
             let frame = match dir {
-                Dir::Bi => 0x12,
-                Dir::Uni => 0x13,
+                Dir::Bi => FrameType::MAX_STREAMS_BIDI,
+                Dir::Uni => FrameType::MAX_STREAMS_UNI,
             };
             return Err(refused(TransportErrorCode::FRAME_ENCODING_ERROR, frame));
         }
@@ -300,10 +329,10 @@ impl Streams {
     }
 
     // Refuses a stream that has no such half, or wasn't opened and can't be.
-    fn check(&self, id: StreamId, has_half: bool, frame: u64) -> Result<(), StreamFault>
-        ensures ok { OnOk result (id_refusal self.now id.0 has_half frame ≡ None) }
+    fn check(&self, id: StreamId, has_half: bool, frame: FrameType) -> Result<(), StreamFault>
+        ensures ok { OnOk result (id_refusal self.now id.0 has_half frame.0 ≡ None) }
         ensures within { OnOk result (IsWithinCount self.now id.0) }
-        ensures fault { IfErr result (λ e. IsRefusal e (id_refusal self.now id.0 has_half frame)) }
+        ensures fault { IfErr result (λ e. IsRefusal e (id_refusal self.now id.0 has_half frame.0)) }
     {
         if !has_half || (self.is_own(id) && !self.was_opened(id)) {
             return Err(refused(TransportErrorCode::STREAM_STATE_ERROR, frame));
@@ -312,6 +341,29 @@ impl Streams {
             return Err(refused(TransportErrorCode::STREAM_LIMIT_ERROR, frame));
         }
         Ok(())
+    }
+
+    // Refuses bytes up to an offset, or an end there, that pass a limit or contradict the stream's size.
+    fn check_size(
+        &self,
+        id: StreamId,
+        to: u64,
+        is_end: bool,
+        frame: FrameType,
+    ) -> Result<(), StreamFault>
+        requires { was_opened self.now id.0 ≡ false → has_recv self.now.side id.0 ≡ true }
+        ensures ok { OnOk result (size_refusal self.now id.0 to is_end frame.0 ≡ None) }
+        ensures fault { IfErr result (λ e. IsRefusal e (size_refusal self.now id.0 to is_end frame.0)) }
+    {
+        let fault = if self.was_opened(id) {
+            self.recv.ingest_fault(id.0, to, is_end)
+        } else {
+            self.recv.first_ingest_fault(to)
+        };
+        match fault {
+            Some(fault) => Err(ingest_fault(fault, frame)),
+            None => Ok(()),
+        }
     }
 
     // This end reads the stream.
@@ -329,20 +381,28 @@ impl Streams {
     }
 }
 
+// The offset behind a piece.
+fn end_of(piece: &Chunk) -> u64
+    requires { piece.now.offset < 2 ^ 62 }
+    ensures { result ≡ piece.now.offset + length piece.now.bytes }
+{
+    piece.offset + piece.bytes.len() as u64
+}
+
 // What is told of a refused frame.
-fn refused(code: TransportErrorCode, frame: u64) -> StreamFault
-    ensures { IsRefusal result (Some (record { code = code.0; frame = frame })) }
+fn refused(code: TransportErrorCode, frame: FrameType) -> StreamFault
+    ensures { IsRefusal result (Some (record { code = code.0; frame = frame.0 })) }
 {
     StreamFault::Transport(TransportError {
         code,
-        frame: Some(frame),
+        frame: Some(frame.0),
         reason: Reason::of(b""),
     })
 }
 
 // What is told of bytes or an end that are refused.
-fn ingest_fault(fault: IngestFault, frame: u64) -> StreamFault
-    ensures { (result ≡ Wanting) ⊎ IsRefusal result (ingest_refusal (Some fault) frame) }
+fn ingest_fault(fault: IngestFault, frame: FrameType) -> StreamFault
+    ensures { IsRefusedBy result (ingest_refusal (Some fault) frame.0) }
 {
     match fault {
         IngestFault::FlowControl => refused(TransportErrorCode::FLOW_CONTROL_ERROR, frame),

@@ -23,6 +23,12 @@ invariant_of-self-2 c =
     (λ undone frame. inr (due_at_piece was next c.args.piece c.args.fin fresh c.self.inside.stream_window taken frame))
     (received_within was (c.args.piece.offset + length c.args.piece.bytes) next.end fresh c.args.fin c.self.inside.received c.self.inside.announced.value c.in_ok-fresh.ensures.taken taken.end_is taken.fresh_is c.self.invariant.received_below)
 
+pub returns-in_err-fresh-clause-fault : goal.returns-in_err-fresh-clause-fault
+returns-in_err-fresh-clause-fault c =
+    let half = c.in-Some.ensures in
+    let p = err_from_is_err_and c.from_residual.result c.from_residual.ensures.1 in
+    rw (p.1, p.2, ← c.self.view_is, ← half.value) c.in_err-fresh.ensures.fault
+
 pub returns-in_err-fresh-clause-err : goal.returns-in_err-fresh-clause-err
 returns-in_err-fresh-clause-err c =
     let half = c.in-Some.ensures in

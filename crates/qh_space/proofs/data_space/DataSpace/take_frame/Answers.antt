@@ -4,7 +4,7 @@ use Rattle.qh_space.proofs.StreamsStep.{received_owed}
 use Rattle.qh_space.proofs.data_space.DataSpace.take_frame.Goals as goal
 
 pub returns-in-Some-clause-ok : goal.returns-in-Some-clause-ok
-returns-in-Some-clause-ok c = streams _ _ (sym c.in_ok-coming.ensures ∙ c.in-Some.is) c.in_ok-received.ensures.ok refl
+returns-in-Some-clause-ok c = streams _ _ (sym c.in-Ok.ensures.ok ∙ c.in-Some.is) c.in_ok-received.ensures.ok refl
 
 pub returns-in-Some-clause-space : goal.returns-in-Some-clause-space
 returns-in-Some-clause-space c = record {

@@ -22,7 +22,7 @@ invariant_of-self-else-is_told c =
     halves_kept c.self.invariant (send_same refl) (piece_kept c.in_default.ensures.ok) refl refl refl (omega (arith, room, c.len.ensures, c.try_reserve.new.self.ok.0))
 
 opened : (c : goal.After-count_closed) → was_opened (seen c.self.inside) c.args.id.0 ≡ true
-opened c = rw (← c.self.view_is) at c.requires
+opened c = rw (← c.self.view_is) at c.requires.opened
 
 mid_is : (c : goal.After-count_closed) → c.if-is_told.self ≡ with_news (seen c.self.inside) c.ingest.new.self c.args.id
 mid_is c =
