@@ -10,11 +10,12 @@ use Rattle.qh_spec.specs.Spelling.{known_kinds}
 use Rattle.qh_spec.specs.Varint.{IsVarint}
 use Rattle.qh_h3wire.proofs.Pairs.{Spelled, pair_spelled, pair_again, rest_is, rest_bytes}
 use Rattle.qh_h3wire.proofs.SettingsRead.{at_means, at_fault}
-use Rattle.qh_h3wire.specs.Frame.{IsDataHeader, MeansFrame, headers, cancel_push, settings, push_promise, goaway, max_push_id, IfFrame, IfHeaders, IfDataLen, IfForbidden, IfUnknown, IfMalformed, IfSettingsError, IfIncomplete, IsMeant, reserved_kinds, IsReservedFrame, IsUnknownFrame, id_kinds, IsMalformedFrame, IsFaultySettings, HasNoFrame, IsRead}
+use Rattle.qh_h3wire.specs.Frame.{IsDataHeader, MeansFrame, headers, cancel_push, settings, push_promise, goaway, max_push_id, IfFrame, IfHeaders, IfDataLen, IfForbidden, IfUnknown, IfMalformed, IfSettingsError, IfIncomplete, IsMeant, reserved_kinds, IsReservedFrame, IsUnknownFrame, id_kinds, IsMalformedFrame, IsFaultySettings, HasNoFrame, HasSoundSettings, IsRead}
 use Rattle.qh_h3wire.specs.FrameAt.{id_of, with_id, with_settings, promise_from, is_reserved_kind, of_other_kind, whole_frame, frame_after, frame_from, frame_at}
 use Rattle.qh_h3wire.specs.Pair.{pair_at}
 use Rattle.qh_h3wire.specs.Settings.{PlainSettings}
 use Rattle.qh_h3wire.specs.SettingsAt.{settings_at}
+use Rattle.qh_h3wire.specs.SettingsReading.{HasSoundFront}
 use Rattle.qh_h3wire.specs.declared.frame.Frame.{Frame}
 use Rattle.qh_h3wire.specs.declared.frame.Frame.TheVariants.{Headers, CancelPush, Goaway, MaxPushId, DataLen}
 use Rattle.qh_h3wire.specs.declared.frame.FrameError.{FrameError}
@@ -98,6 +99,16 @@ cut_payload bytes p h k l = record {
       let same = same_pair p (record { first = 0; second = m; size = length is.kind_bytes + length is.length_bytes }) (pair_at bytes) h (data_pair bytes n m is) in
       k (ap (λ (z : Pair). z.first) same);
 }
+
+-- a SETTINGS frame in front has the payload that the two numbers tell
+pub sound_settings : (bytes : List ℕ) (p : Pair) → pair_at bytes ≡ Some p → (p.first ≡ 4 → HasSoundFront (take p.second (drop p.size bytes))) → HasSoundSettings bytes
+sound_settings bytes p h on k payload is =
+    let r = frame_pair bytes k (record { kind = 4; payload = payload }) is in
+    let same = same_pair p (record { first = 4; second = length payload; size = length is.kind_bytes + length is.length_bytes }) (pair_at bytes) h r.0 in
+    let rest : drop p.size bytes ≡ payload ++ drop k bytes = ap (λ (z : Pair). drop z.size bytes) same ∙ r.1 in
+    let count : p.second ≡ length payload = ap (λ (z : Pair). z.second) same in
+    let whole : take p.second (drop p.size bytes) ≡ payload = ap (take p.second) rest ∙ take_at payload (drop k bytes) p.second (sym count) in
+    subst HasSoundFront whole (on (ap (λ (z : Pair). z.first) same))
 
 -- all that an answer and the bytes that it used tell
 pub record Facts (e : Result Frame FrameError × ℕ) (bytes : List ℕ) : Type 0 where

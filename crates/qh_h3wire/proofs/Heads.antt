@@ -1,6 +1,6 @@
 -- Reading fields one by one.
-use Rattle.std.proofs.Common.{◌≡◌, ◌≢◌, inl, inr, ℕ, suc, ◌+◌, ◌<◌, ◌≤◌, true, List, [], ◌∷◌, ◌++◌, length, take, drop, get_or, Some, None, refl, sym, ap, ◌∙◌, subst, arith, append-nil, append_assoc}
-use Rattle.std.specs.Prelude.{codes, slice_index}
+use Rattle.std.proofs.Common.{◌≡◌, ◌≢◌, inl, inr, ℕ, suc, ◌+◌, ◌<◌, ◌≤◌, true, List, [], ◌∷◌, ◌++◌, length, take, drop, get_or, Some, refl, sym, ap, ◌∙◌, subst, arith, append-nil, append_assoc}
+use Rattle.std.specs.Prelude.{codes, slice_index, Result, Ok, Err, OnOk, IfErr}
 use Rattle.std.specs.Option.{option_map}
 use Rattle.std.proofs.lemmas.List.{take_all}
 use Rattle.http_header.specs.FieldName.{IsHeaderName}
@@ -12,7 +12,8 @@ use Rattle.qh_spec.specs.Meaning.{IsReadable, method, scheme, authority, path, s
 use Rattle.qh_spec.specs.Refusal as told
 use Rattle.qh_spec.specs.Refusal.{HeaderFault, fields_map, IsOneTooMany, IsTaken, IsFieldFault, AreTaken, IsRefused}
 use Rattle.qh_h3wire.specs.HeadFields.{with_fields, with_parsed}
-use Rattle.qh_h3wire.specs.Header.{IsHeaderOf}
+use Rattle.qh_h3wire.specs.Header.{trailer_header, IsHeaderOf}
+use Rattle.qh_h3wire.specs.HeadReading.{AreRead, RefusesLine, TakesLine, RefusesLines}
 use Rattle.qh_h3wire.specs.HeaderFault.{IfFault, IsParsed, RefusesField, RefusesMore, HasRoomFor}
 use Rattle.qh_h3wire.specs.PlainHeader.{PlainHeader}
 use Rattle.qh_h3wire.specs.declared.headers.HeaderError.{HeaderError}
@@ -76,15 +77,15 @@ room_kept front f (Status n) h r o = named f.name n-name h.0 refl o.0
 room_kept front f (Plain n v) h r o = r (subst (λ (z : List ℕ). RefusesAppend (fields_map front) z) (sym h.2) o.1)
 
 -- and else is refused
-read_fault : (front : List Field) (f : Field) (e : HeaderError) → RefusesField e f → IfFault e (IsFieldFault front f)
-read_fault front f InvalidHeaderName r = inl r
-read_fault front f InvalidHeaderValue r = r
-read_fault front f InvalidRequest r = absurd r
-read_fault front f MissingMethod r = absurd r
-read_fault front f MissingStatus r = absurd r
-read_fault front f MissingAuthority r = absurd r
-read_fault front f ContradictedAuthority r = absurd r
-read_fault front f Memory r = tt
+pub unread : (front : List Field) (f : Field) (e : HeaderError) → RefusesField e f → RefusesLine e front f
+unread front f InvalidHeaderName r = inl r
+unread front f InvalidHeaderValue r = r
+unread front f InvalidRequest r = absurd r
+unread front f MissingMethod r = absurd r
+unread front f MissingStatus r = absurd r
+unread front f MissingAuthority r = absurd r
+unread front f ContradictedAuthority r = absurd r
+unread front f Memory r = r
 
 no_room : (front : List Field) (f : Field) (p : ParsedField) → IsParsed f p → RefusesMore InvalidHeaderName (fields_map front) p → IsFieldFault front f told.InvalidHeaderName
 no_room front f (Plain n v) h r = inr (plain h.0 h.1, (h.0, subst (λ (z : List ℕ). RefusesAppend (fields_map front) z) h.2 r))
@@ -94,20 +95,15 @@ no_room front f (Authority a) h r = absurd r
 no_room front f (Path d) h r = absurd r
 no_room front f (Status n) h r = absurd r
 
-room_fault : (front : List Field) (f : Field) (p : ParsedField) (e : HeaderError) → IsParsed f p → RefusesMore e (fields_map front) p → IfFault e (IsFieldFault front f)
-room_fault front f p InvalidHeaderName h r = no_room front f p h r
-room_fault front f p InvalidHeaderValue h r = absurd r
-room_fault front f p InvalidRequest h r = absurd r
-room_fault front f p MissingMethod h r = absurd r
-room_fault front f p MissingStatus h r = absurd r
-room_fault front f p MissingAuthority h r = absurd r
-room_fault front f p ContradictedAuthority h r = absurd r
-room_fault front f p Memory h r = tt
-
--- the fields so far are kept, and give this
-pub record AreRead (fs : List Field) (h : PlainHeader) : Type 0 where
-  pub taken : AreTaken [] fs
-  pub is : IsHeaderOf fs h
+unkept : (front : List Field) (f : Field) (p : ParsedField) (e : HeaderError) → IsParsed f p → RefusesMore e (fields_map front) p → RefusesLine e front f
+unkept front f p InvalidHeaderName h r = no_room front f p h r
+unkept front f p InvalidHeaderValue h r = absurd r
+unkept front f p InvalidRequest h r = absurd r
+unkept front f p MissingMethod h r = absurd r
+unkept front f p MissingStatus h r = absurd r
+unkept front f p MissingAuthority h r = absurd r
+unkept front f p ContradictedAuthority h r = absurd r
+unkept front f p Memory h r = inl (readable_of f p h)
 
 other : (f : Field) (own name : List ℕ) → f.name ≡ own → slice_index own 2 ≢ slice_index name 2 → f.name ≢ name
 other f own name e n same = apart f.name own name e same n
@@ -170,36 +166,62 @@ header_more fs f (Plain n v) h i r = record {
       ∙ sym (map_plain fs f (is_plain f.name i.0));
 }
 
-pub none_read : AreRead [] (with_fields [] (record { method = None; scheme = None; authority = None; path = None; status = None }))
+pub none_read : AreRead [] (trailer_header [])
 none_read = record { taken = tt; is = record { method = refl; scheme = refl; authority = refl; path = refl; status = refl; fields_are = refl } }
 
--- one field more was read and kept
-pub one_read : (fs : List Field) (i : ℕ) (f : Field) (p : ParsedField) (m n : Entries FieldValue) (a b : Pseudo) → i < length fs → f ≡ get_or fs i f → IsParsed f p
-    → HasRoomFor m p → with_fields n b ≡ with_parsed p (with_fields m a) → AreRead (take i fs) (with_fields m a) → AreRead (take (i + 1) fs) (with_fields n b)
-one_read fs i f p m n a b l e h room k r =
-    let more : take (i + 1) fs ≡ take i fs ++ f ∷ [] = field_more fs i f l ∙ ap (λ (z : Field). take i fs ++ z ∷ []) (sym e) in
-    let free : HasRoomFor (fields_map (take i fs)) p = subst (λ (z : Entries FieldValue). HasRoomFor z p) r.is.fields_are room in
-    rw more (record {
-      taken = taken_more [] (take i fs) f r.taken (readable_of f p h, room_kept (take i fs) f p h free);
-      is = subst (λ (z : PlainHeader). IsHeaderOf (take i fs ++ f ∷ []) z) (sym k) (header_more (take i fs) f p (with_fields m a) h r.is);
-    })
+-- one line more was read and kept
+one_read : (front : List Field) (f : Field) (p : ParsedField) (m n : Entries FieldValue) (a b : Pseudo) → IsParsed f p → HasRoomFor m p → with_fields n b ≡ with_parsed p (with_fields m a)
+    → AreRead front (with_fields m a) → AreRead (front ++ f ∷ []) (with_fields n b)
+one_read front f p m n a b h room k r =
+    let free : HasRoomFor (fields_map front) p = subst (λ (z : Entries FieldValue). HasRoomFor z p) r.is.fields_are room in
+    record {
+      taken = taken_more [] front f r.taken (readable_of f p h, room_kept front f p h free);
+      is = subst (λ (z : PlainHeader). IsHeaderOf (front ++ f ∷ []) z) (sym k) (header_more front f p (with_fields m a) h r.is);
+    }
 
-in_list : (fs : List Field) (i : ℕ) (f : Field) (e : HeaderError) → i < length fs → f ≡ get_or fs i f → AreTaken [] (take i fs) → IfFault e (IsFieldFault (take i fs) f) → IfFault e (IsRefused [] fs)
-in_list fs i f e l same t h =
-    let split : fs ≡ take i fs ++ f ∷ drop (suc i) fs = field_split fs i f l ∙ ap (λ (z : Field). take i fs ++ z ∷ drop (suc i) fs) (sym same) in
+-- a line that was read is kept, or there is no room for it
+pub line_kept : {T : Type 0} (r : Result T HeaderError) (front : List Field) (f : Field) (p : ParsedField) (m n : Entries FieldValue) (a b : Pseudo) → IsParsed f p
+    → OnOk r (with_fields n b ≡ with_parsed p (with_fields m a)) → OnOk r (HasRoomFor m p) → IfErr r (λ e. RefusesMore e m p) → AreRead front (with_fields m a) → TakesLine r front f (with_fields n b)
+line_kept (Ok x) front f p m n a b h k room more r = one_read front f p m n a b h room k r
+line_kept (Err e) front f p m n a b h k room more r = unkept front f p e h (subst (λ (z : Entries FieldValue). RefusesMore e z p) r.is.fields_are more)
+
+in_list : (fs : List Field) (i : ℕ) (f : Field) (e : HeaderError) → fs ≡ take i fs ++ f ∷ drop (suc i) fs → AreTaken [] (take i fs) → IfFault e (IsFieldFault (take i fs) f) → IfFault e (IsRefused [] fs)
+in_list fs i f e split t h =
     subst (λ (z : List Field). IfFault e (IsRefused [] z)) (sym split)
     (fault_in (IsFieldFault (take i fs) f) (IsRefused [] (take i fs ++ f ∷ drop (suc i) fs)) e (λ a r. refused_more [] (take i fs) (drop (suc i) fs) f a t r) h)
 
--- a field wasn't read
-pub unread : (fs : List Field) (i : ℕ) (f : Field) (e : HeaderError) (h : PlainHeader) → i < length fs → f ≡ get_or fs i f → RefusesField e f → AreRead (take i fs) h → IfFault e (IsRefused [] fs)
-unread fs i f e h l same r a = in_list fs i f e l same a.taken (read_fault (take i fs) f e r)
+refused_at : (fs : List Field) (i : ℕ) (f : Field) (e : HeaderError) → fs ≡ take i fs ++ f ∷ drop (suc i) fs → AreTaken [] (take i fs) → RefusesLine e (take i fs) f → RefusesLines e fs
+refused_at fs i f Memory split t h = record { front = take i fs; line = f; rest = drop (suc i) fs; whole = split; taken = t; sound = h }
+refused_at fs i f InvalidHeaderName split t h = in_list fs i f InvalidHeaderName split t h
+refused_at fs i f InvalidHeaderValue split t h = in_list fs i f InvalidHeaderValue split t h
+refused_at fs i f InvalidRequest split t h = in_list fs i f InvalidRequest split t h
+refused_at fs i f MissingMethod split t h = in_list fs i f MissingMethod split t h
+refused_at fs i f MissingStatus split t h = in_list fs i f MissingStatus split t h
+refused_at fs i f MissingAuthority split t h = in_list fs i f MissingAuthority split t h
+refused_at fs i f ContradictedAuthority split t h = in_list fs i f ContradictedAuthority split t h
 
--- there is no room for a field
-pub unkept : (fs : List Field) (i : ℕ) (f : Field) (p : ParsedField) (e : HeaderError) (m : Entries FieldValue) (a : Pseudo) → i < length fs → f ≡ get_or fs i f → IsParsed f p
-    → RefusesMore e m p → AreRead (take i fs) (with_fields m a) → IfFault e (IsRefused [] fs)
-unkept fs i f p e m a l same h r read =
-    in_list fs i f e l same read.taken (room_fault (take i fs) f p e h (subst (λ (z : Entries FieldValue). RefusesMore e z p) read.is.fields_are r))
+-- a line isn't kept
+pub line_refused : (fs : List Field) (i : ℕ) (f : Field) (e : HeaderError) (h : PlainHeader) → i < length fs → f ≡ get_or fs i f → AreRead (take i fs) h → RefusesLine e (take i fs) f → RefusesLines e fs
+line_refused fs i f e h l same r fault =
+    refused_at fs i f e (field_split fs i f l ∙ ap (λ (z : Field). take i fs ++ z ∷ drop (suc i) fs) (sym same)) r.taken fault
+
+-- a line more is kept
+pub line_more : (fs : List Field) (i : ℕ) (f : Field) (h : PlainHeader) → i < length fs → f ≡ get_or fs i f → AreRead (take i fs ++ f ∷ []) h → AreRead (take (i + 1) fs) h
+line_more fs i f h l e r =
+    let more : take (i + 1) fs ≡ take i fs ++ f ∷ [] = field_more fs i f l ∙ ap (λ (z : Field). take i fs ++ z ∷ []) (sym e) in
+    rw more r
 
 -- all were read
-pub all_read : (fs : List Field) (i : ℕ) (m : Entries FieldValue) (a : Pseudo) → length fs ≤ i → AreRead (take i fs) (with_fields m a) → AreRead fs (with_fields m a)
-all_read fs i m a l r = subst (λ (z : List Field). AreRead z (with_fields m a)) (take_all i fs l) r
+pub all_read : (fs : List Field) (i : ℕ) (h : PlainHeader) → length fs ≤ i → AreRead (take i fs) h → AreRead fs h
+all_read fs i h l r = subst (λ (z : List Field). AreRead z h) (take_all i fs l) r
+
+-- what is told of lines that are refused
+pub fault_told : (e : HeaderError) (fs : List Field) → RefusesLines e fs → IfFault e (IsRefused [] fs)
+fault_told Memory fs h = tt
+fault_told InvalidHeaderName fs h = h
+fault_told InvalidHeaderValue fs h = h
+fault_told InvalidRequest fs h = h
+fault_told MissingMethod fs h = h
+fault_told MissingStatus fs h = h
+fault_told MissingAuthority fs h = h
+fault_told ContradictedAuthority fs h = h

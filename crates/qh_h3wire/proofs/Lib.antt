@@ -16,5 +16,6 @@ pub mod SettingsFrames
 pub mod SettingsRead
 pub mod SettingsReading
 pub mod SettingsWritten
+pub mod Stable
 pub mod Targets
 pub mod WriteBufs

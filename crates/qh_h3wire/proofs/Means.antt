@@ -1,30 +1,32 @@
 -- What the parts of a head are for the fields that give it: a request, a response, or a fault.
-use Rattle.std.proofs.Common.{◌≡◌, inl, inr, ℕ, ◌+◌, ◌/◌, ◌%◌, true, false, cond, List, [], ◌∷◌, Option, Some, None, Ok, Err, refl, sym, ap, ◌∙◌, subst, arith, not, ◌||◌, ◌==◌, length, codes}
-use Rattle.std.specs.Prelude.{bytes_eq, slice_get, is_some, IsSome, unwrap_or, map}
+use Rattle.std.proofs.Common.{◌≡◌, inl, inr, ℕ, ◌+◌, ◌/◌, ◌%◌, true, false, cond, List, [], ◌∷◌, Option, Some, None, Result, Ok, Err, ◌↔◌, refl, sym, ap, ◌∙◌, subst, arith, not, ◌||◌, ◌==◌, length, codes}
+use Rattle.std.specs.Prelude.{bytes_eq, slice_get, is_some, IsSome, IsNone, IfOk, IfErr, IsErrOf, unwrap_or, map}
 use Rattle.std.specs.List.{AllByRecursion}
 use Rattle.std.specs.Option.{option_map}
 use Rattle.std.proofs.lemmas.Bool.{cases_Bool}
 use Rattle.std.proofs.lemmas.Slice.Eq.{bytes_eq-Decides}
 use Rattle.http.specs.StatusCode.{code_digits}
 use Rattle.http_header.specs.FieldValue.{FieldValue}
-use Rattle.http_header.specs.HeaderMap.{get_all}
+use Rattle.http_header.specs.HeaderMap.{Entries, get_all}
 use Rattle.http_uri.specs.Grammar.{IsAuthority, without_fragment, path_of, query_of}
-use Rattle.http_uri.specs.Uri.{PartsFit}
+use Rattle.http_uri.specs.Uri.{PartsFit, IsUriOfParts}
+use Rattle.http_uri.specs.declared.uri.Uri.{Uri as Target}
 use Rattle.qh_spec.specs.Fields.{Field}
 use Rattle.qh_spec.specs.Meaning.{IsReadable, AreReadable, values_of, last_of, last_or, pseudo, host_of, ChoosesAuthority, kept_path, given_target, MeansRequest}
-use Rattle.qh_spec.specs.Message.{PlainTarget}
+use Rattle.qh_spec.specs.Message.{PlainTarget, target_of}
 use Rattle.qh_spec.specs.Refusal as told
 use Rattle.qh_spec.specs.Refusal.{HeaderFault, fields_map, AreTaken, HasMethod, IsRequestFault, IsResponseFault}
 use Rattle.qh_spec.specs.Same.{SameTarget, bytes_under}
 use Rattle.qh_spec.proofs.MapLaws.{fields_make}
 use Rattle.qh_spec.proofs.RefusalLaws.{taken_readable}
 use Rattle.qh_h3wire.specs.Header.{IsHeaderOf, map_host, IsAuthorityOf, IsTargetOf}
-use Rattle.qh_h3wire.specs.HeaderFault.{IfFault, IsHostAnswer, IsAuthorityAnswer}
+use Rattle.qh_h3wire.specs.HeadParts.{parts, IsUriAnswer, IsPartsAnswer}
+use Rattle.qh_h3wire.specs.HeaderFault.{IfFault, IsHostAnswer, IsAuthorityAnswer, IsPartsFault}
 use Rattle.qh_h3wire.specs.PlainHeader.{PlainHeader}
 use Rattle.qh_h3wire.specs.declared.headers.HeaderError.{HeaderError}
 use Rattle.qh_h3wire.specs.declared.headers.HeaderError.TheVariants.{InvalidHeaderName, InvalidHeaderValue, InvalidRequest, MissingMethod, MissingStatus, MissingAuthority, ContradictedAuthority, Memory}
 use Rattle.qh_h3wire.proofs.Readable.{read_authority}
-use Rattle.qh_h3wire.proofs.Requests.{authority_found, both_fit, parts}
+use Rattle.qh_h3wire.proofs.Requests.{authority_found, both_fit, Unlike, unlike_clause, target_made, no_target, request_fault, answer_missing, answer_invalid, answer_memory, answer_method, found_one, found_alike}
 
 -- each value of a name is of the kind that readable fields of this name have
 all_values : (name : List ℕ) (P : List ℕ → Type 0) (fs : List Field) → ((f : Field) → f.name ≡ name → IsReadable f → P f.value) → AreReadable fs → AllByRecursion P (values_of name fs)
@@ -174,6 +176,100 @@ unfit h a m answer n fs t i =
       chosen fs h a t i (authority_found h.authority (map_host h.fields) a answer),
       λ makes. n (both_fit (parts h.scheme a h.path) refl (λ x. p ∙ makes.both.0 (sym s ∙ x), λ y. s ∙ makes.both.1 (sym p ∙ y))),
     )
+
+-- all that is told of the parts of a request's head
+abbrev Answer : Type 0
+Answer = Result (List ℕ × Target × Entries FieldValue) HeaderError
+
+pub record PartsFacts (r : Answer) (h : PlainHeader) : Type 0 where
+  pub value : IfOk r (λ p. (h.method ≡ Some p.0) × IsTargetOf h (target_of p.1) × (p.2 ≡ h.fields))
+  pub missing_method : IsErrOf r MissingMethod ↔ IsNone h.method
+  pub missing_authority : IsErrOf r MissingAuthority ↔ (IsSome h.method × (h.authority ≡ None) × (map_host h.fields ≡ None))
+  pub contradicted : IsErrOf r ContradictedAuthority ↔ (IsSome h.method × Unlike h.authority (map_host h.fields))
+  pub invalid : IsErrOf r InvalidRequest → (t : PlainTarget) → IsTargetOf h t → ⊥
+  pub memory : IsErrOf r Memory → h.authority ≡ None
+  pub no_other : IfErr r IsPartsFault
+  pub means : IfOk r (λ p. (fs : List Field) → AreTaken [] fs → IsHeaderOf fs h → MeansRequest fs p.0 (target_of p.1))
+  pub refused : IfErr r (λ e. (fs : List Field) → AreTaken [] fs → IsHeaderOf fs h → IfFault e (IsRequestFault fs))
+
+made_facts : (p : List ℕ × Target × Entries FieldValue) (h : PlainHeader) (a : List ℕ) → h.method ≡ Some p.0 → p.2 ≡ h.fields → IsAuthorityAnswer (Ok a) h.authority (map_host h.fields)
+    → PartsFit (parts h.scheme a h.path) → IsUriOfParts (parts h.scheme a h.path) p.1 → PartsFacts (Ok p) h
+made_facts p h a m f answer fit uri =
+    let target = target_made h a p.1 answer fit uri in
+    let some = ap is_some m in
+    record {
+      value = (m, target, f);
+      missing_method = (λ g. cc, λ n. cc);
+      missing_authority = (λ g. cc, λ u. absurd (found_one h.authority (map_host h.fields) a answer u.1 u.2));
+      contradicted = (λ g. cc, λ u. absurd (found_alike h.authority (map_host h.fields) a answer u.1));
+      invalid = λ g. cc;
+      memory = λ g. cc;
+      no_other = tt;
+      means = means_request h p.0 (target_of p.1) m target;
+      refused = tt;
+    }
+
+no_method_facts : (h : PlainHeader) → h.method ≡ None → PartsFacts (Err MissingMethod) h
+no_method_facts h m =
+    let none = ap is_some m in
+    record {
+      value = tt;
+      missing_method = (λ _. none, λ _. refl);
+      missing_authority = (λ g. cc, λ u. let some = u.0 in cc);
+      contradicted = (λ g. cc, λ u. let some = u.0 in cc);
+      invalid = λ g. cc;
+      memory = λ g. cc;
+      no_other = tt;
+      means = tt;
+      refused = λ fs t i. sym i.method ∙ m;
+    }
+
+no_authority_facts : (h : PlainHeader) (e : HeaderError) → IsSome h.method → IsAuthorityAnswer (Err e) h.authority (map_host h.fields) → PartsFacts (Err e) h
+no_authority_facts h e m answer =
+    let own = h.authority in
+    let host = map_host h.fields in
+    let missing = answer_missing (List ℕ × Target × Entries FieldValue) own host e answer in
+    record {
+      value = tt;
+      missing_method = (λ g. let f : e ≡ MissingMethod = cc in absurd (answer_method own host e answer f), λ n. cc);
+      missing_authority = (λ g. let both = missing.0 g in (m, both.0, both.1), λ u. missing.1 (u.1, u.2));
+      contradicted = unlike_clause (List ℕ × Target × Entries FieldValue) h.method own host e m answer;
+      invalid = λ g t is. let f : e ≡ InvalidRequest = cc in answer_invalid own host e answer f is.name is.authority;
+      memory = λ g. let f : e ≡ Memory = cc in answer_memory own host e answer f;
+      no_other = request_fault own host e answer;
+      means = tt;
+      refused = no_authority h e m answer;
+    }
+
+unfit_facts : (h : PlainHeader) (a : List ℕ) → IsSome h.method → IsAuthorityAnswer (Ok a) h.authority (map_host h.fields) → (PartsFit (parts h.scheme a h.path) → ⊥) → PartsFacts (Err InvalidRequest) h
+unfit_facts h a m answer none = record {
+  value = tt;
+  missing_method = (λ g. cc, λ n. cc);
+  missing_authority = (λ g. cc, λ u. absurd (found_one h.authority (map_host h.fields) a answer u.1 u.2));
+  contradicted = (λ g. cc, λ u. absurd (found_alike h.authority (map_host h.fields) a answer u.1));
+  invalid = λ g. no_target h a none;
+  memory = λ g. cc;
+  no_other = tt;
+  means = tt;
+  refused = unfit h a m answer none;
+}
+
+refused_facts : (h : PlainHeader) (e : HeaderError) (a : Result (List ℕ) HeaderError) → IsSome h.method → IsAuthorityAnswer a h.authority (map_host h.fields) → IsUriAnswer (Err e) a h.scheme h.path
+    → PartsFacts (Err e) h
+refused_facts h e (Ok a) m answer uri = subst (λ (z : HeaderError). PartsFacts (Err z) h) (sym uri.0) (unfit_facts h a m answer uri.1)
+refused_facts h e (Err f) m answer uri =
+    let same : e ≡ f = (let both : ◌≡◌ {A = Result Target HeaderError} (Err e) (Err f) = uri in cc) in
+    subst (λ (z : HeaderError). PartsFacts (Err z) h) (sym same) (no_authority_facts h f m answer)
+
+found_facts : (p : List ℕ × Target × Entries FieldValue) (h : PlainHeader) (a : Result (List ℕ) HeaderError) → h.method ≡ Some p.0 → p.2 ≡ h.fields → IsAuthorityAnswer a h.authority (map_host h.fields)
+    → IsUriAnswer (Ok p.1) a h.scheme h.path → PartsFacts (Ok p) h
+found_facts p h (Ok a) m f answer uri = made_facts p h a m f answer uri.0 uri.1
+found_facts p h (Err e) m f answer uri = let both : ◌≡◌ {A = Result Target HeaderError} (Ok p.1) (Err e) = uri in cc
+
+pub parts_facts : (r : Answer) (h : PlainHeader) → IsPartsAnswer r h → PartsFacts r h
+parts_facts (Ok p) h is = found_facts p h is.2.0 is.0 is.1 is.2.1 is.2.2
+parts_facts (Err e) h (inl none) = subst (λ (z : HeaderError). PartsFacts (Err z) h) (sym none.0) (no_method_facts h none.1)
+parts_facts (Err e) h (inr is) = refused_facts h e is.1.0 is.0 is.1.1 is.1.2
 
 digits_once : (a b : ℕ) → code_digits a ≡ code_digits b → a ≡ b
 digits_once a b e =

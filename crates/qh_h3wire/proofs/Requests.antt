@@ -5,11 +5,13 @@ use Rattle.std.specs.Option.{option_map, option_copied}
 use Rattle.std.proofs.lemmas.Bool.{cases_Bool}
 use Rattle.std.proofs.lemmas.Slice.Eq.{bytes_eq-Decides}
 use Rattle.http_header.specs.FieldValue.{FieldValue}
+use Rattle.http_uri.specs.Grammar.{IsAuthority}
 use Rattle.http_uri.specs.Uri.{PartsFit, IsUriOfParts}
 use Rattle.http_uri.specs.declared.uri.Parts.{Parts}
 use Rattle.http_uri.specs.declared.uri.Uri.{Uri as Target}
 use Rattle.qh_spec.specs.Message.{PlainTarget, target_of}
 use Rattle.qh_h3wire.specs.Header.{map_host, IsAuthorityOf, IsTargetOf}
+use Rattle.qh_h3wire.specs.HeadParts.{parts}
 use Rattle.qh_h3wire.specs.HeaderFault.{authority_fault, IsHostAnswer, IsAuthorityAnswer, IsPartsFault}
 use Rattle.qh_h3wire.specs.PlainHeader.{PlainHeader}
 use Rattle.qh_h3wire.specs.declared.headers.HeaderError.{HeaderError}
@@ -91,9 +93,6 @@ fit_both p a f = (λ s. (f.0 s).1, λ d. f.1 (a, d))
 pub both_fit : (p : Parts) → IsSome p.authority → (IsSome p.scheme ↔ IsSome p.path_and_query) → PartsFit p
 both_fit p a b = (λ s. (a, b.0 s), λ d. b.1 d.1)
 
-abbrev pub parts : Option (List ℕ) → List ℕ → Option (List ℕ) → Parts
-parts scheme authority path = record { scheme = scheme; authority = Some authority; path_and_query = path }
-
 pub target_made : (h : PlainHeader) (authority : List ℕ) (u : Target) → IsAuthorityAnswer (Ok authority) h.authority (map_host h.fields) → PartsFit (parts h.scheme authority h.path) → IsUriOfParts (parts h.scheme authority h.path) u
     → IsTargetOf h (target_of u)
 target_made h authority u a f is = record {
@@ -127,4 +126,55 @@ request_fault (Some a) (Some b) e h =
     elim (cases_Bool (bytes_eq a b)) [
       | inl t ↦ let g = rw t at h in cc
       | inr t ↦ let g = rw t at h in let f : e ≡ ContradictedAuthority = cc in subst IsPartsFault (sym f) tt
+    ]
+
+-- with an authority of its own a request can only have two that differ
+own_fault : (own : List ℕ) (host : Option (List ℕ)) (e : HeaderError) → IsAuthorityAnswer (Err e) (Some own) host → e ≡ ContradictedAuthority
+own_fault own None e h = cc
+own_fault own (Some b) e h =
+    elim (cases_Bool (bytes_eq own b)) [
+      | inl t ↦ let g = rw t at h in cc
+      | inr t ↦ let g = rw t at h in cc
+    ]
+
+pub answer_missing : (T : Type 0) (own host : Option (List ℕ)) (e : HeaderError) → IsAuthorityAnswer (Err e) own host → IsErrOf {T = T} (Err e) MissingAuthority ↔ ((own ≡ None) × (host ≡ None))
+answer_missing T None None e h = (λ _. (refl, refl), λ _. let f : e ≡ MissingAuthority = cc in ap (λ (z : HeaderError). Err z) f)
+answer_missing T (Some a) host e h =
+    let f = own_fault a host e h in
+    (λ g. cc, λ u. let both : ◌≡◌ {A = Option (List ℕ)} (Some a) None = u.0 in cc)
+answer_missing T None (Some b) e h = (
+  λ g. let f : e ≡ MissingAuthority = cc in absurd (subst (λ (z : HeaderError). IsHostAnswer (Err z) b) f h),
+  λ u. let both : ◌≡◌ {A = Option (List ℕ)} (Some b) None = u.1 in cc,
+)
+
+pub answer_invalid : (own host : Option (List ℕ)) (e : HeaderError) → IsAuthorityAnswer (Err e) own host → e ≡ InvalidRequest → (a : List ℕ) → IsAuthorityOf own host a → ⊥
+answer_invalid None None e h f a is = is
+answer_invalid (Some own) host e h f a is = let g = own_fault own host e h in cc
+answer_invalid None (Some b) e h f a is = let none : IsAuthority b → ⊥ = subst (λ (z : HeaderError). IsHostAnswer (Err z) b) f h in none is.1
+
+pub answer_memory : (own host : Option (List ℕ)) (e : HeaderError) → IsAuthorityAnswer (Err e) own host → e ≡ Memory → own ≡ None
+answer_memory None host e h f = refl
+answer_memory (Some own) host e h f = let g = own_fault own host e h in cc
+
+pub answer_method : (own host : Option (List ℕ)) (e : HeaderError) → IsAuthorityAnswer (Err e) own host → e ≡ MissingMethod → ⊥
+answer_method None None e h f = let g : e ≡ MissingAuthority = cc in cc
+answer_method (Some own) host e h f = let g = own_fault own host e h in cc
+answer_method None (Some b) e h f = subst (λ (z : HeaderError). IsHostAnswer (Err z) b) f h
+
+-- one that is found is there
+pub found_one : (own host : Option (List ℕ)) (a : List ℕ) → IsAuthorityAnswer (Ok a) own host → own ≡ None → host ≡ None → ⊥
+found_one None None a h n m = cc
+found_one None (Some b) a h n m = cc
+found_one (Some own) host a h n m = cc
+
+pub found_alike : (own host : Option (List ℕ)) (a : List ℕ) → IsAuthorityAnswer (Ok a) own host → Unlike own host → ⊥
+found_alike None host a h u = let both : ◌≡◌ {A = Option (List ℕ)} None (Some u.0) = u.2 in cc
+found_alike (Some own) None a h u = let both : ◌≡◌ {A = Option (List ℕ)} None (Some u.1) = u.3 in cc
+found_alike (Some own) (Some b) a h u =
+    elim (cases_Bool (bytes_eq own b)) [
+      | inl t ↦
+          let x : own ≡ u.0 = (let both : ◌≡◌ {A = Option (List ℕ)} (Some own) (Some u.0) = u.2 in cc) in
+          let y : b ≡ u.1 = (let both : ◌≡◌ {A = Option (List ℕ)} (Some b) (Some u.1) = u.3 in cc) in
+          u.4 (sym x ∙ (bytes_eq-Decides own b).0 t ∙ y)
+      | inr t ↦ let g = rw t at h in cc
     ]

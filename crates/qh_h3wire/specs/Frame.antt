@@ -4,7 +4,9 @@ use Rattle.qh_spec.specs.HttpFrame.{HttpFrame, IsHttpFrame}
 use Rattle.qh_spec.specs.Lists.{In}
 use Rattle.qh_spec.specs.Spelling.{known_kinds}
 use Rattle.qh_spec.specs.Varint.{IsVarint}
+use Rattle.qh_h3wire.specs.HttpFrameTypes as types
 use Rattle.qh_h3wire.specs.Settings.{PlainSettings, MeansSettings, IsSettingsFault}
+use Rattle.qh_h3wire.specs.SettingsReading.{HasSoundFront}
 use Rattle.qh_h3wire.specs.SettingsValue.{settings_value}
 use Rattle.qh_h3wire.specs.declared.frame.Frame.{Frame}
 use Rattle.qh_h3wire.specs.declared.frame.Frame.TheVariants.{Headers, CancelPush, Settings, PushPromise, Goaway, MaxPushId, DataLen}
@@ -17,17 +19,17 @@ pub record IsDataHeader (bytes : List ℕ) (n : ℕ) : Type 0 where
   pub kind_bytes : List ℕ
   pub length_bytes : List ℕ
   pub whole : bytes ≡ kind_bytes ++ length_bytes
-  pub kind_is : IsVarint kind_bytes 0
+  pub kind_is : IsVarint kind_bytes types.data_
   pub length_is : IsVarint length_bytes n
 
 -- what a frame of another type means (sections 7.2.2 to 7.2.7), with ids in any form
 pub data MeansFrame (f : HttpFrame) (frame : Frame) : Type 0 where
-  headers : f.kind ≡ 1 → frame ≡ Headers f.payload → MeansFrame f frame
-  cancel_push : (id : ℕ) → f.kind ≡ 3 → IsVarint f.payload id → frame ≡ CancelPush id → MeansFrame f frame
-  settings : (s : PlainSettings) → f.kind ≡ 4 → MeansSettings f.payload s → frame ≡ Settings (settings_value s) → MeansFrame f frame
-  push_promise : (id : ℕ) (id_bytes section : List ℕ) → f.kind ≡ 5 → f.payload ≡ id_bytes ++ section → IsVarint id_bytes id → frame ≡ PushPromise id section → MeansFrame f frame
-  goaway : (id : ℕ) → f.kind ≡ 7 → IsVarint f.payload id → frame ≡ Goaway id → MeansFrame f frame
-  max_push_id : (id : ℕ) → f.kind ≡ 13 → IsVarint f.payload id → frame ≡ MaxPushId id → MeansFrame f frame
+  headers : f.kind ≡ types.headers → frame ≡ Headers f.payload → MeansFrame f frame
+  cancel_push : (id : ℕ) → f.kind ≡ types.cancel_push → IsVarint f.payload id → frame ≡ CancelPush id → MeansFrame f frame
+  settings : (s : PlainSettings) → f.kind ≡ types.settings → MeansSettings f.payload s → frame ≡ Settings (settings_value s) → MeansFrame f frame
+  push_promise : (id : ℕ) (id_bytes section : List ℕ) → f.kind ≡ types.push_promise → f.payload ≡ id_bytes ++ section → IsVarint id_bytes id → frame ≡ PushPromise id section → MeansFrame f frame
+  goaway : (id : ℕ) → f.kind ≡ types.goaway → IsVarint f.payload id → frame ≡ Goaway id → MeansFrame f frame
+  max_push_id : (id : ℕ) → f.kind ≡ types.max_push_id → IsVarint f.payload id → frame ≡ MaxPushId id → MeansFrame f frame
 
 -- the fact for each answer, where it is that answer
 abbrev pub IfFrame : Result Frame FrameError → (Frame → Type 0) → Type 0
@@ -87,7 +89,7 @@ pub record IsUnknownFrame (bytes : List ℕ) (kind : ℕ) : Type 0 where
 
 -- the types whose payload begins with an id
 abbrev pub id_kinds : List ℕ
-id_kinds = 3 ∷ 5 ∷ 7 ∷ 13 ∷ []
+id_kinds = types.cancel_push ∷ types.push_promise ∷ types.goaway ∷ types.max_push_id ∷ []
 
 -- a frame with an id, whose payload means nothing
 pub record IsMalformedFrame (bytes : List ℕ) : Type 0 where
@@ -99,8 +101,12 @@ pub record IsMalformedFrame (bytes : List ℕ) : Type 0 where
 -- a SETTINGS frame with this fault
 pub record IsFaultySettings (bytes : List ℕ) (e : SettingsError) : Type 0 where
   pub payload : List ℕ
-  pub is : IsHttpFrame bytes (record { kind = 4; payload = payload })
+  pub is : IsHttpFrame bytes (record { kind = types.settings; payload = payload })
   pub fault : IsSettingsFault payload e
+
+-- If the bytes begin with a SETTINGS frame, it begins with an entry that isn't at fault; of those behind it nothing is said.
+abbrev pub HasSoundSettings : List ℕ → Type 0
+HasSoundSettings bytes = (k : ℕ) (payload : List ℕ) → IsHttpFrame (take k bytes) (record { kind = types.settings; payload = payload }) → HasSoundFront payload
 
 -- no front of the bytes is a frame, nor the header of a DATA frame
 pub record HasNoFrame (bytes : List ℕ) : Type 0 where

@@ -1,6 +1,7 @@
 -- Reading a frame, as a function on lists.
 use Rattle.std.specs.Prelude.{ℕ, ◌+◌, ◌==◌, ◌||◌, nat_lt, Bool, List, length, take, drop, Option, Some, None, Result, Ok, Err, if◌then◌else◌}
 use Rattle.qh_base.specs.Varint.{varint_at}
+use Rattle.qh_h3wire.specs.HttpFrameTypes as types
 use Rattle.qh_h3wire.specs.Pair.{pair_at}
 use Rattle.qh_h3wire.specs.Settings.{PlainSettings}
 use Rattle.qh_h3wire.specs.SettingsAt.{settings_at}
@@ -46,14 +47,14 @@ of_other_kind kind = if is_reserved_kind kind then Err (error.ForbiddenFrame kin
 -- a frame that isn't DATA, with its payload
 abbrev pub whole_frame : ℕ → List ℕ → Result Frame FrameError
 whole_frame kind payload =
-    if kind == 1 then Ok (Headers payload) else if kind == 3 then with_id CancelPush (id_at payload) else if kind == 4 then with_settings (settings_at payload)
-    else if kind == 5 then promise_from (varint_at payload) payload else if kind == 7 then with_id Goaway (id_at payload)
-    else if kind == 13 then with_id MaxPushId (id_at payload) else of_other_kind kind
+    if kind == types.headers then Ok (Headers payload) else if kind == types.cancel_push then with_id CancelPush (id_at payload) else if kind == types.settings then with_settings (settings_at payload)
+    else if kind == types.push_promise then promise_from (varint_at payload) payload else if kind == types.goaway then with_id Goaway (id_at payload)
+    else if kind == types.max_push_id then with_id MaxPushId (id_at payload) else of_other_kind kind
 
 -- what follows from the type and the length, which are the two numbers in front
 abbrev pub frame_after : Pair → List ℕ → Result Frame FrameError × ℕ
 frame_after p bytes =
-    if p.first == 0 then (Ok (DataLen p.second), p.size)
+    if p.first == types.data_ then (Ok (DataLen p.second), p.size)
     else if nat_lt (length (drop p.size bytes)) p.second then (Err (error.Incomplete (p.second + 2)), 0)
     else (whole_frame p.first (take p.second (drop p.size bytes)), p.size + p.second)
 

@@ -2,6 +2,7 @@
 use Rattle.std.specs.Prelude.{ℕ, ◌<◌, ◌≤◌, ◌^◌, List, [], ◌++◌, length, codes, Result, Ok, Err}
 use Rattle.qh_spec.specs.HttpFrame.{HttpFrame, http_frame, data_frame, headers_frame}
 use Rattle.qh_spec.specs.Varint.{varint}
+use Rattle.qh_h3wire.specs.HttpFrameTypes as types
 use Rattle.qh_h3wire.specs.Settings.{PlainSettings, settings_bytes, AreWritable, settings_as_read}
 use Rattle.qh_h3wire.specs.SettingsValue.{plain_of, settings_value}
 use Rattle.qh_h3wire.specs.declared.frame.Frame.{Frame}
@@ -28,27 +29,27 @@ IsInRoom _ = Unit {0}
 
 -- CANCEL_PUSH (section 7.2.3)
 abbrev pub cancel_push_frame : ℕ → HttpFrame
-cancel_push_frame id = record { kind = 3; payload = varint id }
+cancel_push_frame id = record { kind = types.cancel_push; payload = varint id }
 
 -- SETTINGS (section 7.2.4)
 abbrev pub settings_frame : PlainSettings → HttpFrame
-settings_frame s = record { kind = 4; payload = settings_bytes s }
+settings_frame s = record { kind = types.settings; payload = settings_bytes s }
 
 -- PUSH_PROMISE (section 7.2.5)
 abbrev pub push_promise_frame : ℕ → List ℕ → HttpFrame
-push_promise_frame id section = record { kind = 5; payload = varint id ++ section }
+push_promise_frame id section = record { kind = types.push_promise; payload = varint id ++ section }
 
 -- GOAWAY (section 7.2.6)
 abbrev pub goaway_frame : ℕ → HttpFrame
-goaway_frame id = record { kind = 7; payload = varint id }
+goaway_frame id = record { kind = types.goaway; payload = varint id }
 
 -- MAX_PUSH_ID (section 7.2.7)
 abbrev pub max_push_id_frame : ℕ → HttpFrame
-max_push_id_frame id = record { kind = 13; payload = varint id }
+max_push_id_frame id = record { kind = types.max_push_id; payload = varint id }
 
 -- a frame of a type that readers skip (section 7.2.8)
 abbrev pub grease_frame : HttpFrame
-grease_frame = record { kind = 33; payload = codes "grease" }
+grease_frame = record { kind = types.grease; payload = codes "grease" }
 
 -- a whole frame with the shortest numbers; of a DATA frame whose payload follows the type and the length
 abbrev pub frame_bytes : Frame → List ℕ
@@ -60,18 +61,18 @@ frame_bytes (PushPromise id section) = http_frame (push_promise_frame id section
 frame_bytes (Goaway id) = http_frame (goaway_frame id)
 frame_bytes (MaxPushId id) = http_frame (max_push_id_frame id)
 frame_bytes Grease = http_frame grease_frame
-frame_bytes (DataLen n) = varint 0 ++ varint n
+frame_bytes (DataLen n) = varint types.data_ ++ varint n
 
 -- what reading a written frame gives: of a DATA frame the length alone, and of a frame to be skipped its type
 abbrev pub as_read : Frame → Result Frame FrameError
 as_read (Data payload) = Ok (DataLen (length payload))
 as_read (Settings s) = Ok (Settings (settings_value (settings_as_read (plain_of s))))
-as_read Grease = Err (UnknownFrame 33)
+as_read Grease = Err (UnknownFrame types.grease)
 as_read frame = Ok frame
 
 -- and the bytes that it uses
 abbrev pub used_bytes : Frame → List ℕ
-used_bytes (Data payload) = varint 0 ++ varint (length payload)
+used_bytes (Data payload) = varint types.data_ ++ varint (length payload)
 used_bytes frame = frame_bytes frame
 
 -- the payload that a frame shares with its owner
@@ -83,7 +84,7 @@ shared_payload _ = []
 
 -- and what is written in front of it
 abbrev pub head_bytes : Frame → List ℕ
-head_bytes (Data payload) = varint 0 ++ varint (length payload)
-head_bytes (Headers section) = varint 1 ++ varint (length section)
-head_bytes (PushPromise id section) = varint 5 ++ (varint (length (varint id ++ section)) ++ varint id)
+head_bytes (Data payload) = varint types.data_ ++ varint (length payload)
+head_bytes (Headers section) = varint types.headers ++ varint (length section)
+head_bytes (PushPromise id section) = varint types.push_promise ++ (varint (length (varint id ++ section)) ++ varint id)
 head_bytes frame = frame_bytes frame

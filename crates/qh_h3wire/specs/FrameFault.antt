@@ -1,6 +1,7 @@
 -- Faults of frames, and their error codes (RFC 9114, section 8.1).
 use Rattle.std.specs.Prelude.{Option, Some, None}
 use Rattle.qh_base.specs.declared.code.Code.{Code}
+use Rattle.qh_spec.specs.Codes as codes
 use Rattle.qh_h3wire.specs.declared.frame.FrameError.{FrameError}
 use Rattle.qh_h3wire.specs.declared.frame.FrameError.TheVariants.{Malformed, ForbiddenFrame, UnknownFrame, InvalidFrameValue, Incomplete, Settings, InvalidStreamId, InvalidPushId, Memory}
 use Rattle.qh_h3wire.specs.declared.settings.SettingsError.{SettingsError}
@@ -11,21 +12,17 @@ abbrev pub frame_error : SettingsError → FrameError
 frame_error error.Memory = Memory
 frame_error e = Settings e
 
--- H3_FRAME_UNEXPECTED
 abbrev pub unexpected : Code
-unexpected = record { 0 = 0x105 }
+unexpected = record { 0 = codes.h3_frame_unexpected }
 
--- H3_FRAME_ERROR
 abbrev pub broken : Code
-broken = record { 0 = 0x106 }
+broken = record { 0 = codes.h3_frame_error }
 
--- H3_ID_ERROR
 abbrev pub wrong_id : Code
-wrong_id = record { 0 = 0x108 }
+wrong_id = record { 0 = codes.h3_id_error }
 
--- H3_SETTINGS_ERROR
 abbrev pub wrong_settings : Code
-wrong_settings = record { 0 = 0x109 }
+wrong_settings = record { 0 = codes.h3_settings_error }
 
 -- the code with which a connection is closed; a frame that is cut has it where the stream ends there (section 7.1)
 abbrev pub code_of : FrameError → Option Code

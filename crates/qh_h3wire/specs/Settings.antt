@@ -3,6 +3,7 @@ use Rattle.std.specs.Prelude.{◌≡◌, ◌≢◌, ◌⊎◌, ℕ, ◌-◌, ◌
 use Rattle.std.specs.List.{AllByRecursion}
 use Rattle.qh_spec.specs.Lists.{In, Distinct}
 use Rattle.qh_spec.specs.Varint.{IsVarint, varint}
+use Rattle.qh_h3wire.specs.SettingsIds as ids
 use Rattle.qh_h3wire.specs.declared.settings.SettingsError.{SettingsError}
 use Rattle.qh_h3wire.specs.declared.settings.SettingsError.TheVariants.{Malformed, Repeated, Forbidden, Value, Memory}
 
@@ -28,9 +29,9 @@ AreEntries bytes (e ∷ es) = (front rest : List ℕ) × (bytes ≡ front ++ res
 abbrev pub IsReserved : ℕ → Type 0
 IsReserved id = (2 ≤ id) × (id ≤ 5)
 
--- SETTINGS_ENABLE_CONNECT_PROTOCOL (RFC 9220, section 5) and SETTINGS_H3_DATAGRAM (RFC 9297, section 2.1.1) are 0 or 1
+-- these are 0 or 1 (RFC 9220, section 3; RFC 9297, section 2.1.1)
 abbrev pub IsFlag : ℕ → Type 0
-IsFlag id = (id ≡ 8) ⊎ (id ≡ 51)
+IsFlag id = (id ≡ ids.enable_connect_protocol) ⊎ (id ≡ ids.h3_datagram)
 
 abbrev pub ids_of : List Entry → List ℕ
 ids_of es = map (λ (e : Entry). e.id) es
@@ -57,7 +58,7 @@ value_or other id (e ∷ es) = if e.id == id then e.value else value_or other id
 
 -- the ids of QPACK's table and of its blocked streams, which are kept as they came (RFC 9204, section 5)
 abbrev pub is_kept : Entry → Bool
-is_kept e = (e.id == 1) || (e.id == 7)
+is_kept e = (e.id == ids.qpack_max_table_capacity) || (e.id == ids.qpack_blocked_streams)
 
 -- settings as values
 pub record PlainSettings : Type 0 where
@@ -77,9 +78,9 @@ no_limit = 2 ^ 62 - 1
 -- what allowed entries mean; ids that aren't known are dropped (section 7.2.4)
 abbrev pub settings_of : List Entry → PlainSettings
 settings_of es = record {
-  max_field_section_size = value_or no_limit 6 es;
-  enable_extended_connect = value_or 0 8 es == 1;
-  enable_datagram = value_or 0 51 es == 1;
+  max_field_section_size = value_or no_limit ids.max_field_section_size es;
+  enable_extended_connect = value_or 0 ids.enable_connect_protocol es == 1;
+  enable_datagram = value_or 0 ids.h3_datagram es == 1;
   other = map pair_of (filter is_kept es);
 }
 
@@ -115,18 +116,18 @@ switched on id = if on then (id, 1) ∷ [] else []
 
 -- the limit, where there is one
 abbrev pub limited : ℕ → List (ℕ × ℕ)
-limited n = if nat_lt n no_limit then (6, n) ∷ [] else []
+limited n = if nat_lt n no_limit then (ids.max_field_section_size, n) ∷ [] else []
 
 -- what is written, in this order: the others as they stand, the limit, the two flags
 abbrev pub written_entries : PlainSettings → List (ℕ × ℕ)
-written_entries s = s.other ++ (limited s.max_field_section_size ++ (switched s.enable_extended_connect 8 ++ switched s.enable_datagram 51))
+written_entries s = s.other ++ (limited s.max_field_section_size ++ (switched s.enable_extended_connect ids.enable_connect_protocol ++ switched s.enable_datagram ids.h3_datagram))
 
 abbrev pub settings_bytes : PlainSettings → List ℕ
 settings_bytes s = flat_map entry_bytes (written_entries s)
 
 -- an id that stands for itself among the others
 abbrev pub IsOtherId : ℕ → Type 0
-IsOtherId id = (id < 2 ^ 62) × (IsReserved id → ⊥) × (id ≢ 6) × (IsFlag id → ⊥)
+IsOtherId id = (id < 2 ^ 62) × (IsReserved id → ⊥) × (id ≢ ids.max_field_section_size) × (IsFlag id → ⊥)
 
 -- settings that may be written: the others' ids differ and are no known ones, and each number has a form
 pub record AreWritable (s : PlainSettings) : Type 0 where
@@ -134,7 +135,7 @@ pub record AreWritable (s : PlainSettings) : Type 0 where
   pub ids : AllByRecursion (λ (p : ℕ × ℕ). IsOtherId p.0 × (p.1 < 2 ^ 62)) s.other
 
 abbrev pub is_kept_pair : ℕ × ℕ → Bool
-is_kept_pair p = (p.0 == 1) || (p.0 == 7)
+is_kept_pair p = (p.0 == ids.qpack_max_table_capacity) || (p.0 == ids.qpack_blocked_streams)
 
 abbrev pub at_most_no_limit : ℕ → ℕ
 at_most_no_limit n = if nat_lt n no_limit then n else no_limit

@@ -2,6 +2,7 @@
 use Rattle.std.specs.Prelude.{ℕ, zero, suc, ◌==◌, ◌&&◌, ◌||◌, nat_lt, nat_le, Bool, false, List, [], ◌∷◌, ◌++◌, length, drop, Option, Some, None, Result, Ok, Err, if◌then◌else◌}
 use Rattle.qh_h3wire.specs.Pair.{pair_at}
 use Rattle.qh_h3wire.specs.Settings.{Entry, PlainSettings, settings_of}
+use Rattle.qh_h3wire.specs.SettingsIds as ids
 use Rattle.qh_h3wire.specs.declared.pair.Pair.{Pair}
 use Rattle.qh_h3wire.specs.declared.settings.SettingsError.{SettingsError}
 use Rattle.qh_h3wire.specs.declared.settings.SettingsError.TheVariants.{Malformed, Repeated, Forbidden, Value}
@@ -10,7 +11,7 @@ abbrev pub is_reserved : ℕ → Bool
 is_reserved id = nat_le 2 id && nat_le id 5
 
 abbrev pub is_flag : ℕ → Bool
-is_flag id = (id == 8) || (id == 51)
+is_flag id = (id == ids.enable_connect_protocol) || (id == ids.h3_datagram)
 
 -- an entry has this id
 abbrev pub has_id : ℕ → List Entry → Bool

@@ -1,13 +1,15 @@
-ghost use Rattle.std.specs.Prelude.{◌≡◌, ℕ, ◌+◌, ◌<◌, ◌≤◌, ◌^◌, List, ◌++◌, length, take, MatchResult, OnOk, OnErr};
+ghost use Rattle.std.specs.Prelude.{◌≡◌, ℕ, ◌+◌, ◌<◌, ◌≤◌, ◌^◌, List, ◌++◌, length, take, IsErrOf, OnOk, OnErr};
 ghost use Rattle.qh_base.specs.Varint.{varint_at};
 ghost use Rattle.qh_spec.specs.Varint.{varint};
 ghost use Rattle.qh_spec.specs.HttpFrame.{HttpFrame, IsHttpFrame, http_frame, headers_frame};
-ghost use Rattle.qh_h3wire.specs.Frame.{IsDataHeader, MeansFrame, IfFrame, IfHeaders, IfDataLen, IfForbidden, IfUnknown, IfMalformed, IfSettingsError, IfIncomplete, IsMeant, IsReservedFrame, IsUnknownFrame, IsMalformedFrame, IsFaultySettings, HasNoFrame, IsWholeRead, IsRead};
+ghost use Rattle.qh_h3wire.specs.Frame.{IsDataHeader, MeansFrame, IfFrame, IfHeaders, IfDataLen, IfForbidden, IfUnknown, IfMalformed, IfSettingsError, IfIncomplete, IsMeant, IsReservedFrame, IsUnknownFrame, IsMalformedFrame, IsFaultySettings, HasNoFrame, HasSoundSettings, IsWholeRead, IsRead};
 ghost use Rattle.qh_h3wire.specs.FrameAt.{id_at, with_settings, promise_from, whole_frame, frame_at};
 ghost use Rattle.qh_h3wire.specs.FrameBytes.{IsWritable, IsInRoom, frame_bytes, as_read, used_bytes, settings_frame, shared_payload, head_bytes};
 ghost use Rattle.qh_h3wire.specs.FrameFault.{code_of};
+ghost use Rattle.qh_h3wire.specs.HttpFrameTypes as types;
 ghost use Rattle.qh_h3wire.specs.Settings.{AreWritable};
 ghost use Rattle.qh_h3wire.specs.SettingsAt.{settings_at};
+ghost use Rattle.qh_h3wire.specs.SettingsReading.{HasSoundFront};
 ghost use Rattle.qh_h3wire.specs.SettingsValue.{plain_of};
 ghost use Rattle.qh_h3wire.specs.declared.frame.Frame.{Frame as AFrame};
 ghost use Rattle.qh_h3wire.specs.Grown.{HasGrown};
@@ -238,7 +240,8 @@ impl Frame {
 
     /// Reads the frame that begins the bytes, and says how many bytes it used. Of a DATA frame these are the type and
     /// the length, whether or not the payload is there. A frame that is refused, or to be skipped, is used up with its
-    /// payload. After `Incomplete` and `Memory` nothing is used.
+    /// payload. After `Incomplete` and `Memory` nothing is used. `Memory` is answered only for a frame that keeps a payload,
+    /// and for a SETTINGS frame behind at least one entry that isn't at fault.
     pub fn decode(alloc: Global, bytes: &[u8]) -> (Result<Frame, FrameError>, usize)
         ensures exact { IsRead result.0 result.1 (frame_at bytes.now) }
         ensures within { result.1 ≤ length bytes.now }
@@ -250,6 +253,7 @@ impl Frame {
         ensures malformed { IfMalformed result.0 (IsMalformedFrame (take result.1 bytes.now)) }
         ensures settings { IfSettingsError result.0 (λ e. IsFaultySettings (take result.1 bytes.now) e) }
         ensures incomplete { IfIncomplete result.0 (HasNoFrame bytes.now) }
+        ensures memory { IsErrOf result.0 FrameError.Memory → HasSoundSettings bytes.now }
     {
         decode_by_list(alloc, bytes)
     }
@@ -310,6 +314,7 @@ fn write_settings(out: &mut Vec<u8>, settings: &Settings) -> Result<(), Memory>
 fn decode_by_list(alloc: Global, bytes: &[u8]) -> (Result<Frame, FrameError>, usize)
     ensures exact { IsRead result.0 result.1 (frame_at bytes.now) }
     ensures within { result.1 ≤ length bytes.now }
+    ensures memory { IsErrOf result.0 FrameError.Memory → HasSoundSettings bytes.now }
 {
     let Some(
         Pair {
@@ -337,17 +342,29 @@ fn decode_by_list(alloc: Global, bytes: &[u8]) -> (Result<Frame, FrameError>, us
 
 // A frame that isn't DATA, with its payload.
 fn read_whole(alloc: Global, kind: u64, payload: &[u8]) -> Result<Frame, FrameError>
-    ensures { IsWholeRead result (whole_frame kind payload.now) }
+    ensures whole { IsWholeRead result (whole_frame kind payload.now) }
+    ensures memory { IsErrOf result FrameError.Memory → kind ≡ types.settings → HasSoundFront payload.now }
 {
     match kind {
         HEADERS => Ok(Frame::Headers(Bytes::copy_from_slice(alloc, payload)?)),
         CANCEL_PUSH => Ok(Frame::CancelPush(read_id(payload)?.into_inner())),
-        SETTINGS => Ok(Frame::Settings(Settings::decode(alloc, payload)?)),
+        SETTINGS => read_settings(alloc, payload),
         PUSH_PROMISE => read_promise(alloc, payload),
         GOAWAY => Ok(Frame::Goaway(read_id(payload)?)),
         MAX_PUSH_ID => Ok(Frame::MaxPushId(read_id(payload)?.into_inner())),
         2 | 6 | 8 | 9 => Err(FrameError::ForbiddenFrame(kind)),
         _ => Err(FrameError::UnknownFrame(kind)),
+    }
+}
+
+// The settings that the payload means.
+fn read_settings(alloc: Global, payload: &[u8]) -> Result<Frame, FrameError>
+    ensures whole { IsWholeRead result (with_settings (settings_at payload.now)) }
+    ensures memory { IsErrOf result FrameError.Memory → HasSoundFront payload.now }
+{
+    match Settings::decode(alloc, payload) {
+        Ok(settings) => Ok(Frame::Settings(settings)),
+        Err(error) => Err(FrameError::from(error)),
     }
 }
 

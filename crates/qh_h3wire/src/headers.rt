@@ -1,5 +1,5 @@
 //! The heads of messages (RFC 9114, section 4.3), as `h3`'s `proto::headers` has them.
-ghost use Rattle.std.specs.Prelude.{◌≡◌, ◌≢◌, ◌↔◌, ◌⊎◌, ℕ, List, [], None, Some, IfOk, IfErr, IsErrOf, IsSome, IsNone, MatchResult, option_copied};
+ghost use Rattle.std.specs.Prelude.{◌≡◌, ◌≢◌, ◌↔◌, ◌⊎◌, ℕ, List, [], None, Some, Ok, IfOk, IfErr, IsErrOf, IsSome, IsNone, MatchResult, option_copied};
 ghost use Rattle.std.specs.Option.{option_map};
 ghost use Rattle.qh_spec.specs.Fields.{Field};
 ghost use Rattle.qh_spec.specs.Meaning.{MeansRequest, MeansResponse};
@@ -7,13 +7,13 @@ ghost use Rattle.qh_spec.specs.Message.{PlainTarget, target_of};
 ghost use Rattle.qh_spec.specs.Refusal.{AreTaken, IsRefused, IsRequestFault, IsResponseFault, MissingStatus};
 ghost use Rattle.qh_h3wire.specs.HeadFields.{with_fields};
 ghost use Rattle.qh_h3wire.specs.Header.{request_header, response_header, trailer_header, written_fields, IsHeaderOf, IsSendable, IsTargetOf, map_host};
-ghost use Rattle.qh_h3wire.specs.HeaderFault.{authority_fault, IfFault, IsAuthorityAnswer, IsHostAnswer, IsPartsFault};
+ghost use Rattle.qh_h3wire.specs.HeadParts.{IsPartsAnswer, IsTargetAnswer, IsUriAnswer};
+ghost use Rattle.qh_h3wire.specs.HeaderFault.{authority_fault, IfFault, IsAuthorityAnswer, IsHostAnswer, IsInterrupted, IsPartsFault};
 ghost use Rattle.qh_h3wire.specs.PlainHeader.{PlainHeader};
 
-use field::ParsedField;
 use http::{Method, StatusCode};
 use http_header::{HeaderMap, HeaderValue};
-use http_uri::{Authority, Parts, Uri};
+use http_uri::{Authority, Parts, PathAndQuery, Scheme, Uri};
 use pseudo::{Pseudo, push_map};
 use qh_base::Memory;
 use qh_qpack::HeaderField;
@@ -92,22 +92,16 @@ impl Header {
             ↔ (a : List ℕ) × (b : List ℕ) × ((target_of uri).authority ≡ Some a) × (map_host fields ≡ Some b) × (a ≢ b) }
         ensures no_other { IfErr result (λ e. (e ≡ HeaderError.MissingAuthority) ⊎ (e ≡ HeaderError.ContradictedAuthority)) }
     {
-        if let Some(fault) = authority_fault(uri.authority(), fields.get("host")) {
-            return Err(fault);
+        match authority_fault(uri.authority(), fields.get("host")) {
+            Some(fault) => {
+                // A destructor that is called is proved once; at the end of a scope it is proved there.
+                drop(method);
+                drop(uri);
+                drop(fields);
+                Err(fault)
+            }
+            None => Ok(request_head(method, uri, fields)),
         }
-        let Parts {
-            scheme,
-            authority,
-            path_and_query,
-        } = uri.into_parts();
-        let pseudo = Pseudo {
-            method: Some(method),
-            scheme,
-            authority,
-            path: path_and_query,
-            status: None,
-        };
-        Ok(Header { pseudo, fields })
     }
 
     /// The head of a response.
@@ -130,21 +124,27 @@ impl Header {
     }
 
     /// Reads field lines. A pseudo field that comes again counts by its last value. The first line that isn't kept
-    /// decides the fault: its name comes first, then its value, and then that a map has no room for it.
+    /// decides the fault: its name comes first, then its value, and then that a map has no room for it. `Memory` is
+    /// answered only if the first line can be read, or is a scheme, an authority or a path.
     pub fn from_fields(alloc: Global, fields: Vec<HeaderField>) -> Result<Header, HeaderError>
         ensures taken { IfOk result (λ h. AreTaken [] fields.items) }
         ensures value { IfOk result (IsHeaderOf fields.items) }
         ensures refused { IfErr result (λ e. IfFault e (IsRefused [] fields.items)) }
+        ensures memory { IsErrOf result HeaderError.Memory → IsInterrupted fields.items }
     {
         let mut pseudo = Pseudo::empty();
         let mut map = HeaderMap::new(alloc);
-        for field in fields.as_slice() {
-            pseudo.keep(&mut map, ParsedField::parse(alloc, field)?)?;
+        match pseudo.keep_lines(&mut map, alloc, fields.as_slice()) {
+            Ok(()) => Ok(Header {
+                pseudo,
+                fields: map,
+            }),
+            Err(fault) => {
+                drop(pseudo);
+                drop(map);
+                Err(fault)
+            }
         }
-        Ok(Header {
-            pseudo,
-            fields: map,
-        })
     }
 
     /// The field lines in the order in which they are written: the pseudo fields, and then the fields name by name. An
@@ -155,9 +155,19 @@ impl Header {
         ensures sendable { IfOk result (λ list. IsSendable self) }
         ensures err { IfErr result (λ e. e ≡ HeaderError.Memory) }
     {
-        let Header { pseudo, fields } = self;
-        let mut list = pseudo.fields(alloc)?;
-        push_map(alloc, &mut list, &fields)?;
+        let list = self.list(alloc);
+        drop(self);
+        list
+    }
+
+    /// The same of a head that is lent.
+    fn list(&self, alloc: Global) -> Result<Vec<HeaderField>, HeaderError>
+        ensures value { IfOk result (λ list. list.items ≡ written_fields self.now) }
+        ensures sendable { IfOk result (λ list. IsSendable self.now) }
+        ensures err { IfErr result (λ e. e ≡ HeaderError.Memory) }
+    {
+        let mut list = self.pseudo.fields(alloc)?;
+        push_map(alloc, &mut list, &self.fields)?;
         Ok(list)
     }
 
@@ -178,29 +188,7 @@ impl Header {
         ensures refused { IfErr result (λ e. (fields : List Field) → AreTaken [] fields → IsHeaderOf fields self → IfFault e (IsRequestFault fields)) }
     {
         let Header { pseudo, fields } = self;
-        let Pseudo {
-            method,
-            scheme,
-            authority,
-            path,
-            status: _,
-        } = pseudo;
-        let Some(method) = method else {
-            return Err(HeaderError::MissingMethod);
-        };
-        let authority = match authority_of(authority, fields.get("host")) {
-            Ok(authority) => authority,
-            Err(fault) => return Err(fault),
-        };
-        let parts = Parts {
-            scheme,
-            authority: Some(authority),
-            path_and_query: path,
-        };
-        match Uri::from_parts(parts) {
-            Ok(uri) => Ok((method, uri, fields)),
-            Err(_) => Err(HeaderError::InvalidRequest),
-        }
+        request_parts(pseudo, fields)
     }
 
     /// The status and the fields of a response.
@@ -222,6 +210,87 @@ impl Header {
         ensures { result ≡ self.fields }
     {
         self.fields
+    }
+}
+
+/// The head of a request.
+fn request_head(method: Method, uri: Uri, fields: HeaderMap) -> Header
+    ensures { result ≡ request_header method (target_of uri) fields }
+{
+    let Parts {
+        scheme,
+        authority,
+        path_and_query,
+    } = uri.into_parts();
+    let pseudo = Pseudo {
+        method: Some(method),
+        scheme,
+        authority,
+        path: path_and_query,
+        status: None,
+    };
+    Header { pseudo, fields }
+}
+
+/// The parts of a request's head.
+fn request_parts(pseudo: Pseudo, fields: HeaderMap) -> Result<(Method, Uri, HeaderMap), HeaderError>
+    ensures { IsPartsAnswer result (with_fields fields pseudo) }
+{
+    let Pseudo {
+        method,
+        scheme,
+        authority,
+        path,
+        status: _,
+    } = pseudo;
+    let Some(method) = method else {
+        drop(scheme);
+        drop(authority);
+        drop(path);
+        drop(fields);
+        return Err(HeaderError::MissingMethod);
+    };
+    match request_target(scheme, authority, path, fields.get("host")) {
+        Ok(uri) => Ok((method, uri, fields)),
+        Err(fault) => {
+            drop(method);
+            drop(fields);
+            Err(fault)
+        }
+    }
+}
+
+/// The target that these parts make beside the first host field.
+fn request_target(
+    scheme: Option<Scheme>,
+    authority: Option<Authority>,
+    path: Option<PathAndQuery>,
+    host: Option<&HeaderValue>,
+) -> Result<Uri, HeaderError>
+    ensures { IsTargetAnswer result scheme authority path (option_map (λ v. v.now.bytes) host.entry) }
+{
+    match authority_of(authority, host) {
+        Ok(authority) => target_with(scheme, authority, path),
+        Err(fault) => Err(fault),
+    }
+}
+
+/// The target of this authority.
+fn target_with(
+    scheme: Option<Scheme>,
+    authority: Authority,
+    path_and_query: Option<PathAndQuery>,
+) -> Result<Uri, HeaderError>
+    ensures { IsUriAnswer result (Ok authority) scheme path_and_query }
+{
+    let parts = Parts {
+        scheme,
+        authority: Some(authority),
+        path_and_query,
+    };
+    match Uri::from_parts(parts) {
+        Ok(uri) => Ok(uri),
+        Err(_) => Err(HeaderError::InvalidRequest),
     }
 }
 

@@ -13,5 +13,5 @@ pub use frame::{Frame, FrameError, payloads_mean_one_frame, written_frames_are_r
 pub use headers::{Header, HeaderError};
 pub use laws::{heads_are_read_back, read_again};
 pub use settings::{Settings, SettingsError, settings_faults};
-pub use stream_type::StreamType;
+pub use stream_type::{StreamType, stream_types_are_assigned};
 pub use write_buf::WriteBuf;

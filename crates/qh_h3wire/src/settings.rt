@@ -2,7 +2,7 @@ ghost use Rattle.std.specs.Prelude.{◌≡◌, ℕ, ◌<◌, ◌^◌, ◌++◌, 
 ghost use Rattle.qh_h3wire.specs.Settings.{Entry, PlainSettings, MeansSettings, IsSettingsFault, AreWritable, entry_bytes, limited, switched, settings_bytes};
 ghost use Rattle.qh_h3wire.specs.Grown.{HasGrown};
 ghost use Rattle.qh_h3wire.specs.SettingsAt.{entry_of, own_fault};
-ghost use Rattle.qh_h3wire.specs.SettingsReading.{HaveForms, with_entry, HasRead, IsReading, TakesEntry, TakesFront, UnlessMemory};
+ghost use Rattle.qh_h3wire.specs.SettingsReading.{HaveForms, with_entry, HasRead, IsReading, RefusesSettings, TakesEntry, TakesFront};
 ghost use Rattle.qh_h3wire.specs.SettingsValue.{plain_of, default_settings};
 ghost use Rattle.qh_h3wire.specs.declared.settings.SettingsError.{SettingsError as AnError};
 
@@ -38,7 +38,7 @@ pub enum SettingsError {
     Forbidden(u64),
     /// A flag, with its id, is neither 0 nor 1.
     Value(u64, u64),
-    /// The allocator had no memory.
+    /// The allocator had no memory for an entry. The first one isn't at fault; of those behind it the contract says nothing.
     Memory,
 }
 
@@ -75,7 +75,7 @@ const FIELD_SECTION_SIZE: u64 = 6;
 /// SETTINGS_QPACK_BLOCKED_STREAMS (RFC 9204, section 5).
 const BLOCKED_STREAMS: u64 = 7;
 
-/// SETTINGS_ENABLE_CONNECT_PROTOCOL (RFC 9220, section 5).
+/// SETTINGS_ENABLE_CONNECT_PROTOCOL (RFC 9220, section 3).
 const EXTENDED_CONNECT: u64 = 8;
 
 /// SETTINGS_H3_DATAGRAM (RFC 9297, section 2.1.1).
@@ -98,8 +98,7 @@ impl Default for Settings {
 impl Settings {
     /// Reads the payload of a SETTINGS frame.
     pub(crate) fn decode(alloc: Global, payload: &[u8]) -> Result<Settings, SettingsError>
-        ensures { MatchResult result (λ s. MeansSettings payload.now (plain_of s))
-            (λ e. UnlessMemory e (IsSettingsFault payload.now e)) }
+        ensures { MatchResult result (λ s. MeansSettings payload.now (plain_of s)) (λ e. RefusesSettings e payload.now) }
     {
         let mut reading = Reading {
             seen: BTreeSet::new(alloc),
@@ -166,12 +165,14 @@ impl Reading {
         requires { length self.old.settings.other.items < 8 }
         ensures { (front : List Entry) → HasRead front self.old → TakesEntry result front (entry_of entry) self.new }
     {
+        let own = own_fault(entry);
         match self.seen.insert(entry.first) {
             Ok(true) => {}
             Ok(false) => return Err(SettingsError::Repeated(entry.first)),
-            Err(_) => return Err(SettingsError::Memory),
+            // An id that was seen takes no memory: this one is new.
+            Err(_) => return Err(own.unwrap_or(SettingsError::Memory)),
         }
-        if let Some(fault) = own_fault(entry) {
+        if let Some(fault) = own {
             return Err(fault);
         }
         self.settings.set(entry);

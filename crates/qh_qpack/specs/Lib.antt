@@ -4,3 +4,4 @@ pub mod Lines
 pub mod Places
 pub mod SectionAt
 pub mod SectionFault
+pub mod SectionReading

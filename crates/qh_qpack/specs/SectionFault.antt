@@ -2,7 +2,7 @@
 use Rattle.std.specs.Prelude.{◌≡◌, ◌≢◌, ◌⊎◌, ℕ, ◌-◌, ◌^◌, ◌<◌, ◌≤◌, min, List, [], ◌∷◌, ◌++◌, length}
 use Rattle.qh_spec.specs.Fields.{Field}
 use Rattle.qh_spec.specs.PrefixInteger.{IsPrefixed}
-use Rattle.qh_spec.specs.Section.{Form, Indexed, Named, NamedNever, Literal, LiteralNever, lead_of, bits_of, IsLine, AreLines}
+use Rattle.qh_spec.specs.Section.{Form, Indexed, Named, NamedNever, Literal, LiteralNever, lead_of, bits_of, IsLine, AreLines, IsSection}
 use Rattle.qh_spec.specs.Size.{section_size}
 use Rattle.qh_spec.specs.StaticTable.{static_table}
 use Rattle.qh_qpack.specs.declared.decoder.DecoderError.{DecoderError}
@@ -79,9 +79,13 @@ pub data IsSectionFault (max_size : ℕ) (bytes : List ℕ) : DecoderError → T
   line : (front : List Field) (lines rest : List ℕ) (fault : DecoderError) → bytes ≡ 0 ∷ 0 ∷ (lines ++ rest) → AreLines lines front
       → bounded_size front ≤ max_size → rest ≢ [] → IsLineFault max_size front rest fault → IsSectionFault max_size bytes fault
 
--- the fault, or want of memory
+-- the bytes are a section of at most this size
+abbrev pub IsSectionWithin : (max_size : ℕ) → List ℕ → Type 0
+IsSectionWithin max_size bytes = (fields : List Field) × IsSection bytes fields × (bounded_size fields ≤ max_size)
+
+-- the fault, or want of memory for bytes that have none
 abbrev pub RefusesSection : (max_size : ℕ) → List ℕ → DecoderError → Type 0
-RefusesSection max_size bytes Memory = Unit {0}
+RefusesSection max_size bytes Memory = IsSectionWithin max_size bytes
 RefusesSection max_size bytes (HeaderTooLong size) = IsSectionFault max_size bytes (HeaderTooLong size)
 RefusesSection max_size bytes Malformed = IsSectionFault max_size bytes Malformed
 RefusesSection max_size bytes Huffman = IsSectionFault max_size bytes Huffman

@@ -1,15 +1,17 @@
-ghost use Rattle.std.specs.Prelude.{◌≡◌, ℕ, ◌<◌, ◌≤◌, ◌∷◌, IfOk, IfErr};
+ghost use Rattle.std.specs.Prelude.{◌≡◌, ℕ, ◌<◌, ◌≤◌, List, [], ◌∷◌, ◌++◌, length, OnOk, IfOk, IfErr};
 ghost use Rattle.std.specs.Result.{result_map_both};
+ghost use Rattle.qh_spec.specs.Fields.{Field};
 ghost use Rattle.qh_spec.specs.Section.{IsSection};
 ghost use Rattle.qh_qpack.specs.Lines.{line_field, size_added};
 ghost use Rattle.qh_qpack.specs.SectionAt.{zero_at, prefix_at};
 ghost use Rattle.qh_qpack.specs.SectionFault.{bounded_size, RefusesSection};
+ghost use Rattle.qh_qpack.specs.SectionReading.{LinesRead, TakesLine};
 
 use crate::HeaderField;
 use crate::field::added_size;
 use crate::line::{Line, first_line};
 use qh_base::Memory;
-use std::alloc::{AllocFailed, Global};
+use std::alloc::Global;
 use thiserror::Error;
 
 /// The fields of a section, in order.
@@ -36,34 +38,13 @@ pub enum DecoderError {
     /// The section refers to a dynamic table, or has a required insert count or a base other than 0.
     #[error("a reference to a dynamic table")]
     Dynamic,
-    /// The allocator had no memory.
+    /// The allocator had no memory, and the section has no fault.
     #[error("out of memory")]
     Memory,
 }
 
-impl<T: Drop> From<AllocFailed<T>> for DecoderError {
-    ghost use Rattle.std.specs.Prelude.{◌≡◌};
-    ghost use Rattle.qh_qpack.specs.declared.decoder.DecoderError.TheVariants.{Memory};
-
-    ghost from_gives = { λ _ e. e ≡ Memory };
-
-    fn from(_: AllocFailed<T>) -> DecoderError {
-        DecoderError::Memory
-    }
-}
-
-impl From<Memory> for DecoderError {
-    ghost use Rattle.std.specs.Prelude.{◌≡◌};
-    ghost use Rattle.qh_qpack.specs.declared.decoder.DecoderError.TheVariants.{Memory};
-
-    ghost from_gives = { λ _ e. e ≡ Memory };
-
-    fn from(_: Memory) -> DecoderError {
-        DecoderError::Memory
-    }
-}
-
-/// Reads a section of a size of at most `max_size` (RFC 9204, section 4.5). Integers may be written in any length.
+/// Reads a section of a size of at most `max_size` (RFC 9204, section 4.5). Integers may be written in any length. If there is
+/// no memory for a field, the lines behind it are still checked, so that a fault is answered and not `Memory`.
 pub fn decode_stateless(alloc: Global, bytes: &[u8], max_size: u64) -> Result<Decoded, DecoderError>
     ensures found { IfOk result (λ d. IsSection bytes.now d.fields.items) }
     ensures size { IfOk result (λ d. d.mem_size ≡ bounded_size d.fields.items) }
@@ -74,12 +55,51 @@ pub fn decode_stateless(alloc: Global, bytes: &[u8], max_size: u64) -> Result<De
     let mut fields = Vec::new(alloc);
     let mut mem_size = 0;
     while !rest.is_empty() {
-        let (line, after) = first_line(rest)?;
-        mem_size = size_within(mem_size, line, max_size)?;
-        fields.push(line.to_field(alloc)?)?;
+        let (line, after, size) = next_line(rest, mem_size, max_size)?;
+        let Ok(()) = push_line(alloc, &mut fields, line) else {
+            return Err(fault_of_rest(after, size, max_size));
+        };
+        mem_size = size;
         rest = after;
     }
     Ok(Decoded { fields, mem_size })
+}
+
+/// The fault of the lines that are left, or `Memory` if they have none.
+fn fault_of_rest(bytes: &[u8], read: u64, max_size: u64) -> DecoderError
+    ensures { (section : List ℕ) (fields : List Field) → LinesRead max_size section bytes.now fields read → RefusesSection max_size section result }
+{
+    let mut rest = bytes;
+    let mut size = read;
+    while !rest.is_empty() {
+        match next_line(rest, size, max_size) {
+            Ok((_, after, sum)) => {
+                rest = after;
+                size = sum;
+            }
+            Err(fault) => return fault,
+        }
+    }
+    DecoderError::Memory
+}
+
+/// The line that begins the rest, what follows it, and the size of the section with it.
+fn next_line(rest: &[u8], size: u64, max_size: u64) -> Result<(Line<'_>, &[u8], u64), DecoderError>
+    requires { 0 < length rest.now }
+    ensures shorter { IfOk result (λ r. length r.1.now < length rest.now) }
+    ensures takes { (section : List ℕ) (fields : List Field) → LinesRead max_size section rest.now fields size → TakesLine result max_size section fields }
+{
+    let (line, after) = first_line(rest)?;
+    let size = size_within(size, line, max_size)?;
+    Ok((line, after, size))
+}
+
+/// Appends a line's field.
+fn push_line(alloc: Global, fields: &mut Vec<HeaderField>, line: Line<'_>) -> Result<(), Memory>
+    ensures { OnOk result (fields.new.items ≡ fields.old.items ++ line_field line.entry ∷ []) }
+{
+    fields.push(line.to_field(alloc)?)?;
+    Ok(())
 }
 
 /// The lines behind a required insert count and a base of 0 (section 4.5.1).

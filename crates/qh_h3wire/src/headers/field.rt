@@ -1,9 +1,10 @@
 //! Field lines, read.
 ghost use Rattle.std.specs.Prelude.{codes, IfOk, IfErr};
 ghost use Rattle.http.specs.StatusCode.{IsCodeText};
+ghost use Rattle.http_header.specs.FieldValue.{IsFieldValue};
 ghost use Rattle.http_header.specs.Token.{IsToken};
 ghost use Rattle.http_uri.specs.Grammar.{IsAuthority, IsPathInput, IsScheme};
-ghost use Rattle.qh_h3wire.specs.HeaderFault.{IsParsed, RefusesField, RefusesPlain, RefusesValue};
+ghost use Rattle.qh_h3wire.specs.HeaderFault.{IsParsed, RefusesField, RefusesPlain, RefusesSeen, RefusesValue};
 ghost use Rattle.qh_h3wire.specs.Kinds.{IsKind};
 
 use super::HeaderError;
@@ -72,7 +73,7 @@ impl ParsedField {
 
     fn parse_method(alloc: Global, value: &[u8]) -> Result<ParsedField, HeaderError>
         ensures ok { IfOk result (IsParsed (record { name = codes ":method"; value = value.now })) }
-        ensures err { IfErr result (λ e. RefusesValue e (IsToken value.now)) }
+        ensures err { IfErr result (λ e. RefusesSeen e (IsToken value.now)) }
     {
         match Method::from_bytes(alloc, value) {
             Ok(method) => Ok(ParsedField::Method(method)),
@@ -116,7 +117,7 @@ impl ParsedField {
 
     fn parse_status(value: &[u8]) -> Result<ParsedField, HeaderError>
         ensures ok { IfOk result (IsParsed (record { name = codes ":status"; value = value.now })) }
-        ensures err { IfErr result (λ e. RefusesValue e (IsCodeText value.now)) }
+        ensures err { IfErr result (λ e. RefusesSeen e (IsCodeText value.now)) }
     {
         match StatusCode::from_bytes(value) {
             Ok(status) => Ok(ParsedField::Status(status)),
@@ -132,12 +133,22 @@ impl ParsedField {
         let name = match HeaderName::from_lowercase(alloc, name) {
             Ok(name) => name,
             Err(HeaderNameError::Invalid) => return Err(HeaderError::InvalidHeaderName),
-            Err(HeaderNameError::OutOfMemory) => return Err(HeaderError::Memory),
+            Err(HeaderNameError::OutOfMemory) => return Err(value_fault(alloc, value)),
         };
         match HeaderValue::from_bytes(alloc, value) {
             Ok(value) => Ok(ParsedField::Plain(name, value)),
             Err(HeaderValueError::Invalid) => Err(HeaderError::InvalidHeaderValue),
             Err(HeaderValueError::OutOfMemory) => Err(HeaderError::Memory),
         }
+    }
+}
+
+/// What is wrong with the value of a field whose name can't be kept.
+fn value_fault(alloc: Global, value: &[u8]) -> HeaderError
+    ensures { RefusesSeen result (IsFieldValue value.now) }
+{
+    match HeaderValue::from_bytes(alloc, value) {
+        Err(HeaderValueError::Invalid) => HeaderError::InvalidHeaderValue,
+        _ => HeaderError::Memory,
     }
 }

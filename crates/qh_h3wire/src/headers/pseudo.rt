@@ -1,5 +1,5 @@
 //! The pseudo-header fields of a head.
-ghost use Rattle.std.specs.Prelude.{◌≡◌, ◌++◌, [], None, OnOk, OnErr, IfOk, IfErr, IfSome, option_copied};
+ghost use Rattle.std.specs.Prelude.{◌≡◌, ◌++◌, List, [], None, OnOk, OnErr, IfOk, IfErr, IfSome, option_copied};
 ghost use Rattle.std.specs.List.{AllByRecursion};
 ghost use Rattle.std.specs.Option.{option_map};
 ghost use Rattle.http.specs.StatusCode.{code_digits, IsStatusCode};
@@ -7,9 +7,10 @@ ghost use Rattle.http_header.specs.HeaderMap.{IsHeaderMap};
 ghost use Rattle.http_header.specs.Token.{IsToken};
 ghost use Rattle.http_uri.specs.Grammar.{or_slash, IsAuthority, IsPathAndQuery, IsScheme};
 ghost use Rattle.qh_qpack.specs.SectionFault.{IsWritable};
-ghost use Rattle.qh_spec.specs.Fields.{optional_field, map_fields};
+ghost use Rattle.qh_spec.specs.Fields.{Field, optional_field, map_fields};
 ghost use Rattle.qh_h3wire.specs.HeadFields.{with_fields, with_parsed, IsPlainField};
-ghost use Rattle.qh_h3wire.specs.Header.{header_fields, HasKinds};
+ghost use Rattle.qh_h3wire.specs.HeadReading.{AreRead, TakesLine, TakesLines};
+ghost use Rattle.qh_h3wire.specs.Header.{header_fields, trailer_header, HasKinds};
 ghost use Rattle.qh_h3wire.specs.HeaderFault.{RefusesMore, HasRoomFor};
 
 use super::HeaderError;
@@ -44,12 +45,37 @@ impl Pseudo {
         }
     }
 
-    /// Keeps a field that was read, here or in the map.
-    pub(super) fn keep(
+    /// Keeps the fields that the lines give, here or in the map.
+    pub(super) fn keep_lines(
         &mut self,
         fields: &mut HeaderMap,
-        field: ParsedField,
+        alloc: Global,
+        lines: &[HeaderField],
     ) -> Result<(), HeaderError>
+        requires { with_fields fields.old self.old ≡ trailer_header [] }
+        ensures { TakesLines result lines.now (with_fields fields.new self.new) }
+    {
+        for line in lines {
+            self.keep_line(fields, alloc, line)?;
+        }
+        Ok(())
+    }
+
+    /// Keeps the field that a line gives, behind those before it.
+    fn keep_line(
+        &mut self,
+        fields: &mut HeaderMap,
+        alloc: Global,
+        line: &HeaderField,
+    ) -> Result<(), HeaderError>
+        ensures { (front : List Field) → AreRead front (with_fields fields.old self.old) → TakesLine result front line.now (with_fields fields.new self.new) }
+    {
+        let field = ParsedField::parse(alloc, line)?;
+        self.keep(fields, field)
+    }
+
+    /// Keeps a field that was read, here or in the map.
+    fn keep(&mut self, fields: &mut HeaderMap, field: ParsedField) -> Result<(), HeaderError>
         ensures ok { OnOk result (with_fields fields.new self.new ≡ with_parsed field (with_fields fields.old self.old)) }
         ensures room { OnOk result (HasRoomFor fields.old field) }
         ensures err { IfErr result (λ e. RefusesMore e fields.old field) }

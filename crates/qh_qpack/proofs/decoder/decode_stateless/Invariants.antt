@@ -1,5 +1,5 @@
 use Rattle.std.proofs.Common.{length}
-use Rattle.qh_qpack.proofs.SectionsRead.{LinesRead}
+use Rattle.qh_qpack.specs.SectionReading.{LinesRead}
 use Rattle.qh_qpack.proofs.decoder.decode_stateless.Given as goal
 
 abbrev pub invariant-loop-rest : goal.invariant-loop-rest

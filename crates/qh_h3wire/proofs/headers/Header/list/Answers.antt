@@ -5,7 +5,7 @@ use Rattle.qh_spec.specs.Fields.{Field, map_fields}
 use Rattle.qh_h3wire.specs.HeadFields.{with_fields}
 use Rattle.qh_h3wire.specs.Header.{written_fields}
 use Rattle.qh_h3wire.proofs.Listed.{sendable}
-use Rattle.qh_h3wire.proofs.headers.Header.into_list.Goals as goal
+use Rattle.qh_h3wire.proofs.headers.Header.list.Goals as goal
 
 pub returns-clause-sendable : goal.returns-clause-sendable
 returns-clause-sendable c =
