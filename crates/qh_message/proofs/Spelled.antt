@@ -1,6 +1,6 @@
 -- What reading a stream gives, and why it gives nothing.
-use Rattle.std.proofs.Common.{◌≡◌, ◌≢◌, ℕ, ◌-◌, ◌^◌, ◌≤◌, List, [], refl, sym, ap, ◌∙◌, arith, Option, Some, None, subst}
-use Rattle.std.specs.Prelude.{option_map}
+use Rattle.std.proofs.Common.{◌≡◌, ◌≢◌, ◌⊎◌, inl, inr, ℕ, ◌-◌, ◌^◌, ◌≤◌, List, [], refl, sym, ap, ◌∙◌, arith, Option, Some, None, subst}
+use Rattle.std.specs.Prelude.{IfNone, option_map}
 use Rattle.http.specs.StatusCode.{code_digits}
 use Rattle.http_header.specs.FieldValue.{FieldValue}
 use Rattle.http_header.specs.HeaderMap.{Entries}
@@ -99,6 +99,13 @@ last_read (Some section) (Some m) none means room = none means.0 means.1 (kept m
 
 pub no_trailers : (bytes : List ℕ) (parts : Parts) (m : PlainMessage) → AreParts bytes parts → IsUnreadableLast parts.last → Spells bytes m → HasRoomFor m → ⊥
 no_trailers bytes parts m p none s room = last_read parts.last m.trailers none ((spells_by_parts bytes parts m p).1 s).trailers room.trailers
+
+-- nothing was received of these parts, so no message that maps have room for
+pub none_received : {X : Type 0} (o : Option X) (bytes : List ℕ) (parts : Parts) → AreParts bytes parts → IfNone o (IsUnreadable parts.section ⊎ IsUnreadableLast parts.last)
+    → IfNone o ((m : PlainMessage) → Spells bytes m → HasRoomFor m → ⊥)
+none_received (Some x) bytes parts p none = tt
+none_received None bytes parts p (inl none) = λ m s room. no_start bytes parts m p none s room
+none_received None bytes parts p (inr none) = λ m s room. no_trailers bytes parts m p none s room
 
 -- the fields of what was read mean the head of each message that the bytes spell
 head_meant : (bytes : List ℕ) (h : PlainHeader) (body : List ℕ) (trailers : Option (Entries FieldValue)) (m : PlainMessage) (p : IsReceived bytes h body trailers) → Spells bytes m → MeansHead p.header.fields m.head

@@ -1,5 +1,5 @@
 //! The message that bytes spell.
-ghost use Rattle.std.specs.Prelude.{◌≡◌, List, None, IfOk, IfSome, IfNone};
+ghost use Rattle.std.specs.Prelude.{◌≡◌, ◌⊎◌, List, None, IfOk, IfSome, IfNone};
 ghost use Rattle.std.specs.Option.{option_map};
 ghost use Rattle.qh_spec.specs.Fields.{Field};
 ghost use Rattle.qh_spec.specs.Meaning.{MeansTrailers};
@@ -12,7 +12,7 @@ ghost use Rattle.qh_message.specs.Room.{HasRoomFor};
 use http_header::HeaderMap;
 use qh_base::Memory;
 use qh_h3wire::{Header, HeaderError};
-use qh_plain::frames::message_parts;
+use qh_plain::frames::{MessageParts, message_parts};
 use qh_qpack::{DecoderError, HeaderField, decode_stateless};
 use qh_service::Message;
 use std::alloc::Global;
@@ -103,20 +103,48 @@ fn receive(alloc: Global, bytes: &[u8]) -> Result<Option<Received>, Memory>
     ensures found { IfOk result (λ r. IfSome r (λ p. IsReceived bytes.now p.header p.body.items p.trailers)) }
     ensures none { IfOk result (λ r. IfNone r ((m : PlainMessage) → Spells bytes.now m → HasRoomFor m → ⊥)) }
 {
-    let Some(parts) = message_parts(alloc, bytes)? else {
+    match message_parts(alloc, bytes)? {
+        Some(parts) => received_parts(alloc, parts),
+        None => Ok(None),
+    }
+}
+
+// What the sections of a message hold, with its body.
+fn received_parts(alloc: Global, parts: MessageParts) -> Result<Option<Received>, Memory>
+    ensures found { IfOk result (λ r. IfSome r (λ p. HasHeader parts.section p.header × MeansTrailers parts.last p.trailers × (p.body.items ≡ parts.body))) }
+    ensures none { IfOk result (λ r. IfNone r (IsUnreadable parts.section ⊎ IsUnreadableLast parts.last)) }
+{
+    let MessageParts {
+        section,
+        body,
+        last,
+    } = parts;
+    match heads_in(alloc, section, last)? {
+        Some((header, trailers)) => Ok(Some(Received {
+            header,
+            body,
+            trailers,
+        })),
+        None => Ok(None),
+    }
+}
+
+// The head that a section gives, and the trailers that a further one gives, where there is one.
+fn heads_in(
+    alloc: Global,
+    section: Vec<u8>,
+    last: Option<Vec<u8>>,
+) -> Result<Option<(Header, Option<HeaderMap>)>, Memory>
+    ensures found { IfOk result (λ r. IfSome r (λ h. HasHeader section.items h.0 × MeansTrailers (option_map (λ v. v.items) last) h.1)) }
+    ensures none { IfOk result (λ r. IfNone r (IsUnreadable section.items ⊎ IsUnreadableLast (option_map (λ v. v.items) last))) }
+{
+    let Some(trailers) = trailers_in(alloc, last)? else {
         return Ok(None);
     };
-    let Some(header) = header_in(alloc, parts.section.as_slice())? else {
-        return Ok(None);
-    };
-    let Some(trailers) = trailers_in(alloc, parts.last)? else {
-        return Ok(None);
-    };
-    Ok(Some(Received {
-        header,
-        body: parts.body,
-        trailers,
-    }))
+    match header_in(alloc, section.as_slice())? {
+        Some(header) => Ok(Some((header, trailers))),
+        None => Ok(None),
+    }
 }
 
 // The trailers that a further section gives, where there is one.

@@ -128,8 +128,8 @@ impl Client {
         Ok(all)
     }
 
-    /// Goes on with each stream as far as it goes: writes what is left of each request, reads what came of each answer, and opens
-    /// streams for further requests where the peer permits it. Want of memory gives up the stream on which it came.
+    /// Looks at each stream once: writes what is left of each request, reads what came of each answer, and opens streams for
+    /// further requests if the peer permits it. How far a stream goes in one call is in no clause. Want of memory gives up the stream on which it came.
     pub fn poll<S>(&mut self, alloc: Global, connection: &mut Connection<S>) -> Result<(), Memory>
         requires side { connection.old.side ≡ TheClient }
         ensures rest { connection.new ≡ with_streams connection.old connection.new.space.streams }
@@ -297,7 +297,7 @@ impl RequestStream {
 }
 
 impl RequestState {
-    // Goes on as far as it goes; the answer, where it is whole now.
+    // Goes on: sends what is left, or reads what came; the answer, if it is whole now.
     fn advance<S>(
         self,
         alloc: Global,

@@ -1,6 +1,7 @@
-ghost use Rattle.std.specs.Prelude.{◌≡◌, [], ℕ, ◌≤◌, ◌^◌, ◌↔◌, true, false, filter, List, None, Ok, OnOk, IfOk, IsTrue};
+ghost use Rattle.std.specs.Prelude.{◌≡◌, [], ℕ, ◌≤◌, ◌^◌, ◌↔◌, true, false, filter, List, None, Ok, OnOk, IfOk, IfSome, IsTrue};
 ghost use Rattle.qh_conduct.specs.Behaves.{Behaves};
 ghost use Rattle.qh_conn.specs.Inner.{is_open, with_streams};
+ghost use Rattle.qh_message.specs.Written.{CanBeWritten};
 ghost use Rattle.qh_roles.specs.Handling.{AcceptStep, Accepts, Advances, AreFitting, HandlerStep, HandlersStep, IsQuiet, IsServed, IsSettledIn, Polls, state_of};
 ghost use Rattle.qh_roles.specs.Server.{AreGoing, AreOnStreams, ForgetsNone, GrewByAnswers, HasAccepted, ServerStep, Serving, IsOn, is_done, is_going};
 ghost use Rattle.qh_roles.specs.Streams.{IsStirred, KeepsOver, NoneArrived};
@@ -77,8 +78,8 @@ impl Server {
         }
     }
 
-    /// Goes on with each stream as far as it goes: accepts those that are new, reads what came, has each request served that is
-    /// whole, and writes what is left of each response. A request that can't be read, or whose sections pass the limit, is
+    /// Looks at each stream once: accepts those that are new, reads what came, has each request served that is whole, and writes
+    /// what is left of each response. How far a stream goes in one call is in no clause. A request that can't be read, or whose sections pass the limit, is
     /// answered by a reset with H3_MESSAGE_ERROR (RFC 9114, section 4.1.2), one that was given up by H3_REQUEST_INCOMPLETE. Want
     /// of memory gives up the stream on which it came.
     pub fn poll<S, V: Service>(
@@ -307,14 +308,35 @@ fn serve<S, V: Service>(
     ensures served { IsServed stream.0 bytes.now result (V.served service.old) (V.served service.new) }
     ensures answered { GrewByAnswers (V.may_answer limits.now) (V.served service.old) (V.served service.new) }
 {
-    match read_request(alloc, bytes)? {
-        Some(request) if is_servable(&request, limits) => {
-            answer(alloc, stream, &request, limits, service)
-        }
-        _ => {
+    match servable_request(alloc, bytes, limits)? {
+        Some(request) => answer(alloc, stream, request, limits, service),
+        None => {
             give_up(connection, stream, Code::H3_MESSAGE_ERROR);
             Ok(HandlerState::Done)
         }
+    }
+}
+
+// The request that these bytes spell, where they do and it may be served.
+fn servable_request(alloc: Global, bytes: &[u8], limits: &Limits) -> Result<Option<Message>, Memory>
+    requires { AreFitting limits.now }
+    ensures { IfOk result (λ found. IfSome found (λ request. Spells bytes.now request × IsServable limits.now.max_field_section_size request)) }
+{
+    match read_request(alloc, bytes)? {
+        Some(request) => Ok(servable(request, limits)),
+        None => Ok(None),
+    }
+}
+
+// The request, where it may be served.
+fn servable(request: Message, limits: &Limits) -> Option<Message>
+    requires { AreFitting limits.now }
+    ensures { IfSome result (λ found. (found ≡ request) × IsServable limits.now.max_field_section_size found) }
+{
+    if is_servable(&request, limits) {
+        Some(request)
+    } else {
+        None
     }
 }
 
@@ -322,20 +344,28 @@ fn serve<S, V: Service>(
 fn answer<V: Service>(
     alloc: Global,
     stream: StreamId,
-    request: &Message,
+    request: Message,
     limits: &Limits,
     service: &mut V,
 ) -> Result<HandlerState, Memory>
     requires fitting { AreFitting limits.now }
-    requires servable { IsServable limits.now.max_field_section_size request.now }
+    requires servable { IsServable limits.now.max_field_section_size request }
     ensures going { IfOk result (λ state. IsOn stream.0 state × (is_done state ≡ false)) }
-    ensures served { (bytes : List ℕ) → Spells bytes request.now → IsServed stream.0 bytes result (V.served service.old) (V.served service.new) }
+    ensures served { (bytes : List ℕ) → Spells bytes request → IsServed stream.0 bytes result (V.served service.old) (V.served service.new) }
     ensures answered { GrewByAnswers (V.may_answer limits.now) (V.served service.old) (V.served service.new) }
 {
     writable();
-    let response = service.serve(alloc, stream.0, request, limits)?;
-    let bytes = write_message(alloc, &response)?;
+    let response = service.serve(alloc, stream.0, &request, limits)?;
+    let bytes = written(alloc, response)?;
     Ok(HandlerState::Responding(Outgoing::new(stream, bytes)))
+}
+
+// The bytes of a response.
+fn written(alloc: Global, response: Message) -> Result<Vec<u8>, Memory>
+    requires { CanBeWritten response }
+    ensures { IfOk result (λ bytes. Spells bytes.items response) }
+{
+    write_message(alloc, &response)
 }
 
 // Sends what is left of a response.
