@@ -11,6 +11,7 @@ use Rattle.qh_base.specs.declared.time.Moment.{Moment}
 use Rattle.qh_conn.proofs.Acts.{last_or_before, one_datagram}
 use Rattle.qh_conn.proofs.Followed.{FollowsOf, carried_on, same_end, same_streams, space_follows, stepped}
 use Rattle.qh_conn.proofs.Handed.{same_in}
+use Rattle.qh_conn.proofs.RunSums.{sum_within}
 use Rattle.qh_conn.specs.Follows.{Following, HasComing, HasNumber, HasSomething, IsWithinLimits, transmit_acts}
 use Rattle.qh_conn.specs.Inner.{IsConnection, IsSameEnd}
 use Rattle.qh_conn.specs.Sending.{AreFramesMade, ClosesReadBack, IsDatagramMade, close_frame, datagram_of, overhead}
@@ -118,20 +119,26 @@ reads_nothing d = record { pieces = λ id. refl; ends = λ id. refl }
 module _ (side : Side) (own peer : ℕ) (config : ConnConfig) where
   -- a datagram with these runs keeps within the limits
   within_limits : (s : DataSpace) (t : List Act) (d : List ℕ) (sent : List Run) → (p : FollowsOf side own peer config s t) → StandsOut s.streams sent t
-      → ((run : Run) → HasRun peer (d ∷ []) side run → In run sent) → IsWithinLimits own peer side config t d
+      → ((run : Run) → HasRun peer (handed_out (t ++ HandedOut d ∷ [])) side run → In run sent) → IsWithinLimits own peer side config t d
   within_limits s t d sent p out is_sent = record {
     streams = s.streams;
     of = p.of;
     given = p.given;
     came = p.gave;
-    all_bytes = p.within.all_bytes;
+    all_bytes = λ runs apart each.
+        let ends = sum_within t runs apart (λ run among.
+        let one = each run among in
+        let is = is_sent run (subst (λ (z : List (List ℕ)). HasRun peer z side run) (sym (one_out t d)) one.0) in
+        run_end (written t run.id) (finished t run.id) run (out.runs run is) one.1) in
+        let bound = p.within.all_bytes in
+        omega (arith, ends, bound);
     stream_bytes = λ run has some.
-        let is = is_sent run has in
+        let is = is_sent run (alone peer side t d run has) in
         let end = run_end (written t run.id) (finished t run.id) run (out.runs run is) some in
         let bound = p.within.stream_bytes run.id in
         omega (arith, end, bound);
     count = λ run has some mine.
-        let is = is_sent run has in
+        let is = is_sent run (alone peer side t d run has) in
         let opened = run_opened s.streams sent t run out is some in
         let below = below_count s.streams run.id (rw (p.of.side_is) mine) opened in
         let bound = p.within.count (is_bi run.id) in
@@ -156,7 +163,7 @@ module _ (side : Side) (own peer : ℕ) (config : ConnConfig) where
     within = kept.others s.streams p.given t (HandedOut d ∷ []) (writes_nothing d) p.within;
     each_within = λ before after e is. elim (last_or_before t before after (HandedOut d) (HandedOut e) is) [
       | inl last ↦
-          let here : IsWithinLimits own peer side config t d = within_limits s t d sent p out (λ run has. is_sent run (alone peer side t d run has)) in
+          let here : IsWithinLimits own peer side config t d = within_limits s t d sent p out is_sent in
           subst (λ (e : List ℕ). IsWithinLimits own peer side config before e) (one_datagram d e last.1) (subst (λ (t : List Act). IsWithinLimits own peer side config t d) (sym last.0) here)
       | inr r ↦ p.each_within before r.0 e r.1
     ];

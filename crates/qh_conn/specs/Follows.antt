@@ -1,5 +1,5 @@
 -- How a connection stands to all that was done with it, and what its calls add to that.
-use Rattle.std.specs.Prelude.{◌≡◌, ◌⊎◌, ℕ, ◌+◌, ◌<◌, ◌≤◌, true, List, [], ◌∷◌, ◌++◌, length, take, drop, Option, Some, None, Result, Ok, Err}
+use Rattle.std.specs.Prelude.{◌≡◌, ◌⊎◌, ℕ, ◌+◌, ◌<◌, ◌≤◌, true, List, [], ◌∷◌, ◌++◌, length, map, sum_by, take, drop, Option, Some, None, Result, Ok, Err}
 use Rattle.std.specs.List.{concat}
 use Rattle.qh_base.specs.declared.connection_error.ConnectionError.TheVariants.{Memory}
 use Rattle.qh_base.specs.declared.memory.Memory.{Memory as OutOfMemory}
@@ -26,7 +26,7 @@ use Rattle.qh_space.specs.declared.data_space.DataSpace.{DataSpace}
 use Rattle.qh_spec.specs.Carried.{HasRun}
 use Rattle.qh_spec.specs.Datagram.{Packet, HasPacket}
 use Rattle.qh_spec.specs.Link.{other}
-use Rattle.qh_spec.specs.Lists.{In}
+use Rattle.qh_spec.specs.Lists.{In, Distinct}
 use Rattle.qh_spec.specs.QuicFrame.{StreamFrame as Run}
 use Rattle.qh_spec.specs.QuicFrames.{QuicFrame}
 use Rattle.qh_spec.specs.Transcript.{Act, HandedIn, HandedOut, Wrote, Finished, Reset, Stopped, handed_in, handed_out}
@@ -35,7 +35,7 @@ use Rattle.qh_spec.specs.declared.sides.Space.TheVariants.{Data}
 use Rattle.qh_streams.specs.Streams.{PlainStreams, first_limit}
 use Rattle.qh_streams.specs.declared.frames.StreamFrame.{StreamFrame}
 use Rattle.qh_transcript.specs.Receiving.{read_acts, reset_acts}
-use Rattle.qh_transcript.specs.Within.{KeepsWithin, greatest, data_given, stream_given, count_given, first_count, written_in_all}
+use Rattle.qh_transcript.specs.Within.{KeepsWithin, greatest, data_given, stream_given, count_given, first_count}
 
 -- ---- what the calls add
 
@@ -113,14 +113,18 @@ pub record HasNumber (id_length : ℕ) (datagrams : List (List ℕ)) (sender : S
 abbrev pub HasSomething : Run → Type 0
 HasSomething run = (0 < length run.payload) ⊎ (run.fin ≡ true)
 
--- The datagram keeps within limits that the peer gave before, in frames that came, or at first: what was written by then on all
--- streams and on each, of which what is sent is a part; and the count of the streams of this end's on which something is sent.
+-- The datagram keeps within limits that the peer gave before, in frames that came, or at first. Each STREAM frame in it ends within
+-- the limit of its stream. Whatever STREAM frames are taken from it and from those handed out before, one of each stream, their
+-- ends come to no more in sum than the limit of all streams. Each stream of this end's that a STREAM frame in it names is one of
+-- those that the peer permits. All this of frames that have a byte, or the end.
 pub record IsWithinLimits (own_length peer_length : ℕ) (side : Side) (config : ConnConfig) (before : List Act) (datagram : List ℕ) : Type 0 where
   pub streams : PlainStreams
   pub of : AreOf side (peer_of config.limits) streams
   pub given : List StreamFrame
   pub came : (f : StreamFrame) → In f given → HasComing own_length (handed_in before) (other side) f
-  pub all_bytes : written_in_all before ≤ greatest data_given streams.peer.max_data given
+  pub all_bytes : (runs : List Run) → Distinct (map (λ (r : Run). r.id) runs)
+      → ((run : Run) → In run runs → HasRun peer_length (handed_out before ++ datagram ∷ []) side run × HasSomething run)
+      → sum_by (λ (r : Run). r.offset + length r.payload) runs ≤ greatest data_given streams.peer.max_data given
   pub stream_bytes : (run : Run) → HasRun peer_length (datagram ∷ []) side run → HasSomething run
       → run.offset + length run.payload ≤ greatest (stream_given run.id) (first_limit streams run.id) given
   pub count : (run : Run) → HasRun peer_length (datagram ∷ []) side run → HasSomething run → is_own side run.id ≡ true

@@ -129,12 +129,18 @@ impl<S> Inner<S> {
         ensures counts { (self.new.space.packets_lost ≡ stats.packets_lost) × (self.new.space.probes_sent ≡ stats.probes) }
         ensures connection { IsConnection self.new }
     {
-        self.space = DataSpace {
-            packets_lost: stats.packets_lost,
-            probes_sent: stats.probes,
-            ..DataSpace::new(alloc, self.side, self.config.space())
-        };
+        let mut space = DataSpace::new(alloc, self.side, self.config.space());
+        space.packets_lost = stats.packets_lost;
+        space.probes_sent = stats.probes;
+        put_space(&mut self.space, space);
         self.state = State::Drained;
         self.error = Some(ConnectionError::Memory);
     }
+}
+
+// Puts a space in place of another.
+fn put_space(slot: &mut DataSpace, space: DataSpace)
+    ensures { slot.new ≡ space }
+{
+    *slot = space;
 }

@@ -1,15 +1,14 @@
 -- Lists of requests that may be asked, and those that may not.
-use Rattle.std.proofs.Common.{◌≡◌, ◌≢◌, inl, inr, ℕ, zero, suc, ◌==◌, true, false, List, [], ◌∷◌, length, Some, Err, refl, sym, ap, ◌∙◌, subst, arith}
+use Rattle.std.proofs.Common.{◌≡◌, ◌≢◌, inl, inr, ℕ, zero, suc, ◌==◌, true, false, List, [], ◌∷◌, length, Some, None, Err, refl, sym, ap, ◌∙◌, subst, arith}
 use Rattle.std.specs.Prelude.{codes, slice_get}
 use Rattle.std.proofs.lemmas.Bool.{cases_eq, eq-eqb, ne_eqb}
 use Rattle.qh_base.specs.declared.connection_error.ConnectionError.{ConnectionError}
 use Rattle.qh_conn.specs.declared.config.ConnConfig.{ConnConfig}
 use Rattle.qh_message.specs.Written.{CanBeWritten}
-use Rattle.qh_roles.specs.Client.{AreAskable, held}
+use Rattle.qh_roles.specs.Client.{AreAskable, PlainClient, held}
 use Rattle.qh_service.specs.declared.service.Limits.{Limits}
 use Rattle.qh_spec.specs.declared.link.Event.{Event}
 use Rattle.qh_spec.specs.Message.{IsRequest, PlainHead, PlainMessage, Request, Response}
-use Rattle.qh_spec.specs.Record.{PlainEntry}
 use Rattle.qh_spec.specs.Same.{bytes_under}
 use Rattle.qh_spec.specs.Validity.{IsValidHead, IsValidList, IsValidRequest}
 use Rattle.qh_exchange.specs.declared.error.ExchangeError.{ExchangeError}
@@ -53,21 +52,28 @@ pub no_such : (index : ℕ) (answer : PlainMessage) → slice_get [] index ≡ S
 no_such zero answer e = cc
 no_such (suc index) answer e = cc
 
--- a pair that took the requests
-pub asked : (k : ℕ) (config : ConnConfig) (limits : Limits) (requests : List PlainMessage) (p q : PairState) → requests ≢ [] → Running p [] [] → IsClocked p [] → length p.ids.client ≡ k
-    → p.config ≡ config → p.server.limits ≡ limits → p.is_over ≡ false → q ≡ record p { client = q.client }
-    → ((events : List Event) (entries : List PlainEntry) → Running p events entries → Running q events entries) → q.client.requests ≡ requests → held q.client.answers ≡ 0
-    → IsAsked k config limits requests q
-asked k config limits requests p q some run clocked ids conf lim going rest goes taken none = record {
-  running = goes [] [] run;
-  clocked = subst (λ (z : PairState). IsClocked z []) (sym rest) (record { client = clocked.client; server = clocked.server });
-  ids = ap (λ (z : PairState). length z.ids.client) rest ∙ ids;
-  config_is = ap (λ (z : PairState). z.config) rest ∙ conf;
-  limits_are = ap (λ (z : PairState). z.server.limits) rest ∙ lim;
-  asked = taken;
-  lacks = λ e. some (nothing_of requests (sym (ap length taken) ∙ (sym e ∙ none)));
-  going = ap (λ (z : PairState). z.is_over) rest ∙ going;
-}
+-- no clock runs before the ends are there
+pub unused_clock : (p : PairState) (client : PlainClient) (config : ConnConfig)
+    → p ≡ record { ids = p.ids; config = config; client = client; server = p.server; client_end = None; server_end = None; is_over = false } → IsClocked p []
+unused_clock p client config is = subst (λ (z : PairState). IsClocked z []) (sym is) (record { client = tt; server = tt })
+
+-- a pair of a client that took the requests
+pub asked : (k : ℕ) (config : ConnConfig) (limits : Limits) (requests : List PlainMessage) (p : PairState) (client : PlainClient) → requests ≢ [] → Running p [] [] → length p.ids.client ≡ k
+    → p.server.limits ≡ limits
+    → p ≡ record { ids = p.ids; config = config; client = client; server = p.server; client_end = None; server_end = None; is_over = false }
+    → client.requests ≡ requests → held client.answers ≡ 0 → IsAsked k config limits requests p
+asked k config limits requests p client some run ids lim is taken none =
+    let requests_are : p.client.requests ≡ requests = ap (λ (z : PairState). z.client.requests) is ∙ taken in
+    let held_none : held p.client.answers ≡ 0 = ap (λ (z : PairState). held z.client.answers) is ∙ none in record {
+      running = run;
+      clocked = unused_clock p client config is;
+      ids = ids;
+      config_is = ap (λ (z : PairState). z.config) is;
+      limits_are = lim;
+      asked = requests_are;
+      lacks = λ e. some (nothing_of requests (sym (ap length requests_are) ∙ (sym e ∙ held_none)));
+      going = ap (λ (z : PairState). z.is_over) is;
+    }
 
 -- ---- a list that may not be asked
 

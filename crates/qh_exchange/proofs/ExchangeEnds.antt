@@ -1,6 +1,6 @@
 -- How an exchange ends by the rounds of a pair before its first turn, and what it means then.
-use Rattle.std.proofs.Common.{◌≡◌, ◌≢◌, ℕ, zero, suc, ◌<◌, List, [], ◌∷◌, ◌++◌, length, Option, Some, Err, refl, sym, ap, ◌∙◌, subst, arith, append-nil}
-use Rattle.std.specs.Prelude.{Result, filter, is_some, map, slice_get}
+use Rattle.std.proofs.Common.{◌≡◌, ◌≢◌, ℕ, zero, suc, ◌<◌, List, [], ◌∷◌, ◌++◌, length, Option, Some, Ok, Err, refl, sym, ap, ◌∙◌, subst, arith, append-nil}
+use Rattle.std.specs.Prelude.{IfErr, IfOk, Result, filter, is_some, map, slice_get}
 use Rattle.std.proofs.lemmas.List.{append_cancel_left}
 use Rattle.qh_base.specs.declared.time.Span.{Span}
 use Rattle.qh_conn.specs.declared.config.ConnConfig.{ConnConfig}
@@ -14,7 +14,7 @@ use Rattle.qh_spec.proofs.HeadlineLaws.{served_nothing}
 use Rattle.qh_exchange.specs.declared.ends.Ids.{Ids}
 use Rattle.qh_exchange.specs.declared.error.ExchangeError.{ExchangeError}
 use Rattle.qh_exchange.specs.declared.error.ExchangeError.TheVariants as error
-use Rattle.qh_exchange.specs.Exchange.{IfInvalid, IfOutOfRounds, IfProtocol, IfTimedOut}
+use Rattle.qh_exchange.specs.Exchange.{EndsAs, IfInvalid, IfOutOfRounds, IfProtocol, IfTimedOut}
 use Rattle.qh_exchange.specs.Full.{AreFullTurns}
 use Rattle.qh_exchange.specs.Pair.{PairState, Running, WentOn, GoesOn, Means, KeepWithin}
 use Rattle.qh_exchange.specs.Rounds.{IsRoundsError, IsRunOut, RoundsMade}
@@ -189,3 +189,68 @@ not_invalid U error.TimedOut P h = tt
 not_invalid U error.OutOfRounds P h = tt
 not_invalid U (error.Invalid index) P h = absurd h
 not_invalid U (error.Protocol x) P h = tt
+
+-- an exchange ends by what ended its rounds
+pub ends_by : {U : Type 0} (made : Result (Unit {0}) ExchangeError) (result : Result U ExchangeError) (P : Result U ExchangeError → Type 0) → EndsAs made result
+    → ((e : ExchangeError) → made ≡ Err e → P (Err e)) → ((u : Unit {0}) → made ≡ Ok u → P (Err error.Memory)) → ((x : U) (u : Unit {0}) → made ≡ Ok u → result ≡ Ok x → P (Ok x)) → P result
+ends_by (Err e) (Err f) P is failed wants answers = subst (λ (z : ExchangeError). P (Err z)) (sym is) (failed e refl)
+ends_by (Err e) (Ok x) P is failed wants answers = absurd is
+ends_by (Ok u) (Err f) P is failed wants answers = subst (λ (z : ExchangeError). P (Err z)) (sym is) (wants u refl)
+ends_by (Ok u) (Ok x) P is failed wants answers = answers x u refl refl
+
+-- ---- what is known of the rounds is known of the exchange
+
+pub invalid_by : {U : Type 0} (made : Result (Unit {0}) ExchangeError) (result : Result U ExchangeError) (P : ℕ → Type 0) → EndsAs made result → IfErr made IsRoundsError → IfInvalid result P
+invalid_by {U} made result P ends rounds =
+    ends_by made result (λ (z : Result U ExchangeError). IfInvalid z P) ends
+    (λ e is. not_invalid U e P (subst (λ (z : Result (Unit {0}) ExchangeError). IfErr z IsRoundsError) is rounds)) (λ u is. tt) (λ x u is ok. tt)
+
+pub idle_by : {U : Type 0} (made : Result (Unit {0}) ExchangeError) (result : Result U ExchangeError) (p : PairState) (config : ConnConfig) (m k : List ℕ) → EndsAs made result → p.config ≡ config
+    → IfTimedOut made (WasIdle p.config.idle m k) → IfTimedOut result (WasIdle config.idle m k)
+idle_by {U} made result p config m k ends same idle =
+    ends_by made result (λ (z : Result U ExchangeError). IfTimedOut z (WasIdle config.idle m k)) ends
+    (λ e is. ends_idle U e p.config.idle config.idle m k (ap (λ (z : ConnConfig). z.idle) same)
+    (subst (λ (z : Result (Unit {0}) ExchangeError). IfTimedOut z (WasIdle p.config.idle m k)) is idle))
+    (λ u is. tt) (λ x u is ok. tt)
+
+pub lost_by : {U : Type 0} (made : Result (Unit {0}) ExchangeError) (result : Result U ExchangeError) (p q : PairState) (requests : List PlainMessage) (t u : Option (List Event)) (r s : List PlainEntry)
+    → EndsAs made result → Running p [] [] → p.client.requests ≡ requests → q.client.requests ≡ p.client.requests → GoesOn p t r q u s → IfProtocol made (λ x. IsProtocolLoss x q)
+    → IfProtocol result (WasLost requests t u r s)
+lost_by {U} made result p q requests t u r s ends run asked same goes lost =
+    ends_by made result (λ (z : Result U ExchangeError). IfProtocol z (WasLost requests t u r s)) ends
+    (λ e is. was_lost (Unit {0}) U e p q requests t u r s run asked same goes (subst (λ (z : Result (Unit {0}) ExchangeError). IfProtocol z (λ x. IsProtocolLoss x q)) is lost))
+    (λ v is. tt) (λ x v is ok. tt)
+
+pub out_by : {U : Type 0} (made : Result (Unit {0}) ExchangeError) (result : Result U ExchangeError) (rounds : ℕ) (p q : PairState) (requests : List PlainMessage) (t u : Option (List Event)) (m k : List ℕ)
+    (r s : List PlainEntry) → EndsAs made result → requests ≢ [] → Running p [] [] → p.client.requests ≡ requests → RoundsMade rounds p q t u m k r s made
+    → IfOutOfRounds result (RanOut rounds requests t u m k r s)
+out_by {U} made result rounds p q requests t u m k r s ends some run asked rounds_made =
+    ends_by made result (λ (z : Result U ExchangeError). IfOutOfRounds z (RanOut rounds requests t u m k r s)) ends
+    (λ e is. ends_out U e rounds p q requests t u m k r s some run asked (subst (λ (z : Result (Unit {0}) ExchangeError). RoundsMade rounds p q t u m k r s z) is rounds_made))
+    (λ v is. tt) (λ x v is ok. tt)
+
+-- the answers of an exchange are those that the pair holds
+pub count_by : {U : Type 0} (items : U → List PlainMessage) (made : Result (Unit {0}) ExchangeError) (result : Result U ExchangeError) (p q : PairState) (requests : List PlainMessage) → EndsAs made result
+    → p.client.requests ≡ requests → q.client.requests ≡ p.client.requests → IfOk made (λ _. held q.client.answers ≡ length q.client.requests)
+    → IfOk result (λ x. held q.client.answers ≡ length q.client.requests → map (λ (m : PlainMessage). Some m) (items x) ≡ q.client.answers) → IfOk result (λ x. length (items x) ≡ length requests)
+count_by {U} items made result p q requests ends asked same all are =
+    ends_by made result (λ (z : Result U ExchangeError). IfOk z (λ x. length (items x) ≡ length requests)) ends (λ e is. tt) (λ v is. tt)
+    (λ x v is ok.
+    let held_all : held q.client.answers ≡ length q.client.requests = subst (λ (z : Result (Unit {0}) ExchangeError). IfOk z (λ _. held q.client.answers ≡ length q.client.requests)) is all in
+    let answers_are : map (λ (m : PlainMessage). Some m) (items x) ≡ q.client.answers
+    = subst (λ (z : Result U ExchangeError). IfOk z (λ x. held q.client.answers ≡ length q.client.requests → map (λ (m : PlainMessage). Some m) (items x) ≡ q.client.answers)) ok are held_all in
+    count_held (items x) q.client.answers (length q.client.requests) answers_are held_all ∙ ap length (same ∙ asked))
+
+pub answered_by : {U : Type 0} (items : U → List PlainMessage) (made : Result (Unit {0}) ExchangeError) (result : Result U ExchangeError) → MeanAll → (k : ℕ) (p q : PairState) (requests : List PlainMessage)
+    (t u : Option (List Event)) (r s : List PlainEntry) → EndsAs made result → Running p [] [] → p.client.requests ≡ requests → length p.ids.client ≡ k → GoesOn p t r q u s → q.client.requests ≡ p.client.requests
+    → IfOk made (λ _. held q.client.answers ≡ length q.client.requests)
+    → IfOk result (λ x. held q.client.answers ≡ length q.client.requests → map (λ (m : PlainMessage). Some m) (items x) ≡ q.client.answers)
+    → (events : List Event) → t ≡ Some [] → u ≡ Some events → IsHonest events → IfOk result (λ x. AnsweredOnce k events requests r s (items x))
+answered_by {U} items made result means k p q requests t u r s ends run asked ids goes same all are events te ue honest =
+    ends_by made result (λ (z : Result U ExchangeError). IfOk z (λ x. AnsweredOnce k events requests r s (items x))) ends (λ e is. tt) (λ v is. tt)
+    (λ x v is ok.
+    let held_all : held q.client.answers ≡ length q.client.requests = subst (λ (z : Result (Unit {0}) ExchangeError). IfOk z (λ _. held q.client.answers ≡ length q.client.requests)) is all in
+    let answers_are : map (λ (m : PlainMessage). Some m) (items x) ≡ q.client.answers
+    = subst (λ (z : Result U ExchangeError). IfOk z (λ x. held q.client.answers ≡ length q.client.requests → map (λ (m : PlainMessage). Some m) (items x) ≡ q.client.answers)) ok are held_all in
+    answered_once means k p q requests (items x) t u r s run asked ids goes
+    (count_held (items x) q.client.answers (length q.client.requests) answers_are held_all ∙ ap length (same ∙ asked)) answers_are events te ue honest)

@@ -1,5 +1,6 @@
 -- What the rounds of an exchange over an honest link leave of its failures: no connection is lost but by its idle time.
 use Rattle.std.proofs.Common.{◌≡◌, ℕ, Bool, List, [], ◌++◌, length, Option, Some, Err, sym, ◌∙◌, subst, append-nil}
+use Rattle.std.specs.Prelude.{Result}
 use Rattle.std.proofs.lemmas.List.{append_cancel_left}
 use Rattle.qh_base.specs.declared.time.Span.{Span}
 use Rattle.qh_conn.specs.declared.config.ConnConfig.{ConnConfig}
@@ -9,11 +10,12 @@ use Rattle.qh_spec.specs.Record.{PlainEntry}
 use Rattle.qh_exchange.specs.declared.ends.Ids.{Ids}
 use Rattle.qh_exchange.specs.declared.error.ExchangeError.{ExchangeError}
 use Rattle.qh_exchange.specs.declared.error.ExchangeError.TheVariants as error
-use Rattle.qh_exchange.specs.Exchange.{IsListError}
+use Rattle.qh_exchange.specs.Exchange.{EndsAs, IsListError}
 use Rattle.qh_exchange.specs.Pair.{GoesOn, IsFair, PairState, Running, WentOn}
 use Rattle.qh_exchange.specs.Rounds.{AreFair}
 use Rattle.qh_exchange.specs.Sound.{EndsFairly}
 use Rattle.qh_exchange.proofs.Fairness.{fair_again}
+use Rattle.qh_exchange.proofs.ExchangeEnds.{ends_by}
 use Rattle.qh_exchange.proofs.Rounds.{AreMade}
 
 -- the errors of a list that may not be asked
@@ -50,3 +52,11 @@ ends_fairly U e n config p t u r run ids conf fair events te ue honest =
     fair_again (Unit {0}) U n config.idle events e
     (subst (λ (z : ConnConfig). EndsFairly {T = Unit {0}} n z.idle events (Err e)) conf
     (subst (λ (z : ℕ). EndsFairly {T = Unit {0}} z p.config.idle events (Err e)) ids (fair [] [] events r [] run te (sym (append-nil r)) ue honest)))
+
+-- so the exchange, however it ends by them, ends fairly
+pub fair_by : {U : Type 0} (made : Result (Unit {0}) ExchangeError) (result : Result U ExchangeError) (n : ℕ) (config : ConnConfig) (p : PairState) (t u : Option (List Event)) (r : List PlainEntry)
+    → EndsAs made result → Running p [] [] → length p.ids.client ≡ n → p.config ≡ config → AreFair p t u r made
+    → (events : List Event) → t ≡ Some [] → u ≡ Some events → IsHonest events → EndsFairly n config.idle events result
+fair_by {U} made result n config p t u r ends run ids conf fair events te ue honest =
+    ends_by made result (λ (z : Result U ExchangeError). EndsFairly n config.idle events z) ends
+    (λ e is. ends_fairly U e n config p t u r run ids conf (subst (λ (z : Result (Unit {0}) ExchangeError). AreFair p t u r z) is fair) events te ue honest) (λ v is. tt) (λ x v is ok. tt)

@@ -163,77 +163,96 @@ invalid_as V W Memory h = tt
 grown_echoes : (limit : ℕ) (after : List PlainEntry) → GrewByAnswers (λ q a. a ≡ echo limit q) [] after → AreEchoes limit after
 grown_echoes limit after g e i = g.each e (subst (λ (z : List PlainEntry). In e z) g.longer i)
 
+-- ---- what a run leaves
+
+ran_ok : {V : Type 0} (items : V → List PlainMessage) (s : Script) (new : PlainLink) (after : List PlainEntry) (v : V)
+    → Exchanged items s.config s.requests (rounds_of s) new after (Ok v) → new.step ≡ s.step → new.schedule ≡ s.schedule → (IsUnforged s.schedule → IsHonest new.events)
+    → HasRun s new after (Ok (items v))
+ran_ok items s new after v x step schedule honest = record {
+  step_is = step;
+  schedule_is = schedule;
+  served_once = λ u. x.once (honest u);
+  answered_once = λ u. x.answered (honest u);
+  echoes = grown_echoes s.config.max_response_body after x.answers;
+  kept_within = x.within;
+  cause = x.cause;
+  invalid = tt;
+  not_valid = λ n. let a = x.not_valid n in absurd a.0;
+  timed_out = tt;
+  fair = λ u. tt;
+  lost = tt;
+  out_of_rounds = tt;
+}
+
+ran_err : {V : Type 0} (items : V → List PlainMessage) (s : Script) (new : PlainLink) (after : List PlainEntry) (x : ExchangeError)
+    → Exchanged items s.config s.requests (rounds_of s) new after (Err x) → new.step ≡ s.step → new.schedule ≡ s.schedule → (IsUnforged s.schedule → IsHonest new.events)
+    → HasRun s new after (Err x)
+ran_err {V} items s new after x known step schedule honest = record {
+  step_is = step;
+  schedule_is = schedule;
+  served_once = λ u. known.once (honest u);
+  answered_once = λ u. tt;
+  echoes = grown_echoes s.config.max_response_body after known.answers;
+  kept_within = known.within;
+  cause = known.cause;
+  invalid = fault_as V (List PlainMessage) x _ known.invalid;
+  not_valid = λ n. let a = known.not_valid n in (invalid_as V (List PlainMessage) x a.0, a.1, a.2);
+  timed_out = time_as V (List PlainMessage) x _ known.timed_out;
+  fair = λ u. fair_again V (List PlainMessage) s.config.local_id_len (conn_config s.config).idle new.events x (known.fair (honest u));
+  lost = loss_as V (List PlainMessage) x _ known.lost;
+  out_of_rounds = rounds_as V (List PlainMessage) x _ known.out_of_rounds;
+}
+
 -- ---- how a run ends
 
+-- what a run left, and how it ends
+abbrev pub RunsTo : Script → PlainLink → List PlainEntry → Result Ending OutOfMemory → Type 0
+RunsTo s new after w =
+    ((ended : Result (List PlainMessage) ExchangeError) × HasRun s new after ended) × IfOk w (λ (e : Ending). ScriptEnds s new after e.status e.text.items)
+
 ends_ok : {V : Type 0} (items : V → List PlainMessage) (s : Script) (new : PlainLink) (after : List PlainEntry) (v : V) (w : Result Ending OutOfMemory)
-    → Exchanged items s.config s.requests (rounds_of s) new after (Ok v) → new.step ≡ s.step → new.schedule ≡ s.schedule → IsScheduled new.step new.schedule new.events
-    → All HasMaps s.requests → IfOk w (λ (e : Ending). EndsAnswered after (items v) e.status e.text.items) → IfOk w (λ (e : Ending). ScriptEnds s new after e.status e.text.items)
-ends_ok items s new after v w x step schedule scheduled maps ends =
-    let honest : IsUnforged s.schedule → IsHonest new.events = λ u. unforged_is_honest new.step new.schedule new.events scheduled (subst IsUnforged (sym schedule) u) in
-    let echoes = grown_echoes s.config.max_response_body after x.answers in
-    let run : HasRun s new after (Ok (items v)) = record {
-      step_is = step;
-      schedule_is = schedule;
-      served_once = λ u. x.once (honest u);
-      answered_once = λ u. x.answered (honest u);
-      echoes = echoes;
-      kept_within = x.within;
-      cause = x.cause;
-      invalid = tt;
-      not_valid = λ n. let a = x.not_valid n in absurd a.0;
-      timed_out = tt;
-      fair = λ u. tt;
-      lost = tt;
-      out_of_rounds = tt;
-    } in
-    IfOk-weaker w (λ (e : Ending). EndsAnswered after (items v) e.status e.text.items) (λ (e : Ending). ScriptEnds s new after e.status e.text.items)
-    (λ e h. subst (λ (z : ℕ). ScriptEnds s new after z e.text.items) (sym h.status_is)
-    (subst (λ (z : List ℕ). ScriptEnds s new after 0 z) (sym h.text_is)
-    (answered (items v) run
-    (λ u. reported s.config.local_id_len s.config.max_response_body new.events s.requests after (items v) (x.answered (honest u)) echoes maps h.maps))))
-    ends
+    → Exchanged items s.config s.requests (rounds_of s) new after (Ok v) → new.step ≡ s.step → new.schedule ≡ s.schedule → (IsUnforged s.schedule → IsHonest new.events)
+    → All HasMaps s.requests → IfOk w (λ (e : Ending). EndsAnswered after (items v) e.status e.text.items) → RunsTo s new after w
+ends_ok items s new after v w x step schedule honest maps ends =
+    let run : HasRun s new after (Ok (items v)) = ran_ok items s new after v x step schedule honest in (
+      (Ok (items v), run),
+      IfOk-weaker w (λ (e : Ending). EndsAnswered after (items v) e.status e.text.items) (λ (e : Ending). ScriptEnds s new after e.status e.text.items)
+          (λ e h. subst (λ (z : ℕ). ScriptEnds s new after z e.text.items) (sym h.status_is)
+          (subst (λ (z : List ℕ). ScriptEnds s new after 0 z) (sym h.text_is)
+          (answered (items v) run
+          (λ u. reported s.config.local_id_len s.config.max_response_body new.events s.requests after (items v) (x.answered (honest u)) run.echoes maps h.maps))))
+          ends,
+    )
 
 ends_err : {V : Type 0} (items : V → List PlainMessage) (s : Script) (new : PlainLink) (after : List PlainEntry) (x : ExchangeError) (w : Result Ending OutOfMemory)
-    → Exchanged items s.config s.requests (rounds_of s) new after (Err x) → new.step ≡ s.step → new.schedule ≡ s.schedule → IsScheduled new.step new.schedule new.events
-    → IfOk w (λ (e : Ending). EndsFailed after x e.status e.text.items) → IfOk w (λ (e : Ending). ScriptEnds s new after e.status e.text.items)
-ends_err {V} items s new after x w known step schedule scheduled ends =
-    let honest : IsUnforged s.schedule → IsHonest new.events = λ u. unforged_is_honest new.step new.schedule new.events scheduled (subst IsUnforged (sym schedule) u) in
-    let run : HasRun s new after (Err x) = record {
-      step_is = step;
-      schedule_is = schedule;
-      served_once = λ u. known.once (honest u);
-      answered_once = λ u. tt;
-      echoes = grown_echoes s.config.max_response_body after known.answers;
-      kept_within = known.within;
-      cause = known.cause;
-      invalid = fault_as V (List PlainMessage) x _ known.invalid;
-      not_valid = λ n. let a = known.not_valid n in (invalid_as V (List PlainMessage) x a.0, a.1, a.2);
-      timed_out = time_as V (List PlainMessage) x _ known.timed_out;
-      fair = λ u. fair_again V (List PlainMessage) s.config.local_id_len (conn_config s.config).idle new.events x (known.fair (honest u));
-      lost = loss_as V (List PlainMessage) x _ known.lost;
-      out_of_rounds = rounds_as V (List PlainMessage) x _ known.out_of_rounds;
-    } in
-    IfOk-weaker w (λ (e : Ending). EndsFailed after x e.status e.text.items) (λ (e : Ending). ScriptEnds s new after e.status e.text.items)
-    (λ e h. subst (λ (z : List ℕ). ScriptEnds s new after e.status z) (sym h.text_is) (failed x e.status h.last run h.last_is))
-    ends
+    → Exchanged items s.config s.requests (rounds_of s) new after (Err x) → new.step ≡ s.step → new.schedule ≡ s.schedule → (IsUnforged s.schedule → IsHonest new.events)
+    → IfOk w (λ (e : Ending). EndsFailed after x e.status e.text.items) → RunsTo s new after w
+ends_err items s new after x w known step schedule honest ends =
+    let run : HasRun s new after (Err x) = ran_err items s new after x known step schedule honest in (
+      (Err x, run),
+      IfOk-weaker w (λ (e : Ending). EndsFailed after x e.status e.text.items) (λ (e : Ending). ScriptEnds s new after e.status e.text.items)
+          (λ e h. subst (λ (z : List ℕ). ScriptEnds s new after e.status z) (sym h.text_is) (failed x e.status h.last run h.last_is)) ends,
+    )
 
 either_ends : {V : Type 0} (items : V → List PlainMessage) (s : Script) (new : PlainLink) (after : List PlainEntry) (r : Result V ExchangeError) (w : Result Ending OutOfMemory)
-    → Exchanged items s.config s.requests (rounds_of s) new after r → new.step ≡ s.step → new.schedule ≡ s.schedule → IsScheduled new.step new.schedule new.events
+    → Exchanged items s.config s.requests (rounds_of s) new after r → new.step ≡ s.step → new.schedule ≡ s.schedule → (IsUnforged s.schedule → IsHonest new.events)
     → All HasMaps s.requests → IfOk r (λ v. IfOk w (λ (e : Ending). EndsAnswered after (items v) e.status e.text.items))
-    → IfErr r (λ x. IfOk w (λ (e : Ending). EndsFailed after x e.status e.text.items)) → IfOk w (λ (e : Ending). ScriptEnds s new after e.status e.text.items)
-either_ends items s new after (Ok v) w x step schedule scheduled maps ok err = ends_ok items s new after v w x step schedule scheduled maps ok
-either_ends items s new after (Err e) w x step schedule scheduled maps ok err = ends_err items s new after e w x step schedule scheduled err
+    → IfErr r (λ x. IfOk w (λ (e : Ending). EndsFailed after x e.status e.text.items)) → RunsTo s new after w
+either_ends items s new after (Ok v) w x step schedule honest maps ok err = ends_ok items s new after v w x step schedule honest maps ok
+either_ends items s new after (Err e) w x step schedule honest maps ok err = ends_err items s new after e w x step schedule honest err
 
 -- a run of a script's requests, over a link that kept its plan
 pub script_ends : {V : Type 0} (items : V → List PlainMessage) (s : Script) (config : PlainConfig) (requests : List PlainMessage) (rounds : ℕ) (old new : PlainLink) (before after : List PlainEntry)
     (r : Result V ExchangeError) (w : Result Ending OutOfMemory) → IsRunAs s config requests rounds old → old.events ≡ [] → old.faults ≡ 0 → before ≡ []
     → Clauses items config requests rounds old new before after r → plan_of new ≡ plan_of old → IsScheduled new.step new.schedule new.events → All HasMaps requests
     → IfOk r (λ v. IfOk w (λ (e : Ending). EndsAnswered after (items v) e.status e.text.items))
-    → IfErr r (λ x. IfOk w (λ (e : Ending). EndsFailed after x e.status e.text.items)) → IfOk w (λ (e : Ending). ScriptEnds s new after e.status e.text.items)
+    → IfErr r (λ x. IfOk w (λ (e : Ending). EndsFailed after x e.status e.text.items)) → RunsTo s new after w
 script_ends items s config requests rounds old new before after r w as_ none never nothing x plan scheduled maps ok err =
+    let schedule : new.schedule ≡ s.schedule = ap schedule_in plan ∙ as_.schedule_is in
     either_ends items s new after r w
     (subst (λ (z : ℕ). Exchanged items s.config s.requests z new after r) as_.rounds_are
     (subst (λ (z : List PlainMessage). Exchanged items s.config z rounds new after r) as_.requests_are
     (subst (λ (z : PlainConfig). Exchanged items z requests rounds new after r) as_.config_is
     (exchanged items config requests rounds old new before after r none never nothing x))))
-    (ap step_in plan ∙ as_.step_is) (ap schedule_in plan ∙ as_.schedule_is) scheduled (subst (All HasMaps) as_.requests_are maps) ok err
+    (ap step_in plan ∙ as_.step_is) schedule
+    (λ u. unforged_is_honest new.step new.schedule new.events scheduled (subst IsUnforged (sym schedule) u)) (subst (All HasMaps) as_.requests_are maps) ok err

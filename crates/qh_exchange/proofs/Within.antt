@@ -1,18 +1,29 @@
 -- What an end sent kept within the limits that it was given before.
-use Rattle.std.proofs.Common.{◌≡◌, ℕ, Bool, List, [], ◌∷◌, ◌++◌, length, Option, Some, None, refl, sym, ◌∙◌, ap, subst, append_assoc}
-use Rattle.std.specs.Prelude.{not}
-use Rattle.qh_conn.specs.Follows.{Follows, IsWithinLimits}
+use Rattle.std.proofs.Common.{◌≡◌, ℕ, ◌+◌, ◌<◌, ◌≤◌, Bool, List, [], ◌∷◌, ◌++◌, length, Option, Some, None, refl, sym, ◌∙◌, ap, subst, append_assoc, inl, inr}
+use Rattle.std.specs.Prelude.{not, sum_by}
+use Rattle.qh_conn.specs.Config.{peer_of}
+use Rattle.qh_conn.specs.Follows.{Follows, HasComing, HasSomething, IsWithinLimits}
+use Rattle.qh_conn.specs.Inner.{AreOf}
 use Rattle.qh_conn.specs.declared.config.ConnConfig.{ConnConfig}
+use Rattle.qh_halves.specs.Counts.{is_bi, index_of}
+use Rattle.qh_spec.proofs.Members.{in_left, in_more, in_right}
+use Rattle.qh_spec.proofs.TranscriptLaws.{handed_out-append}
+use Rattle.qh_spec.specs.Carried.{HasRun}
+use Rattle.qh_spec.specs.Link.{other, given_to, sent_by}
+use Rattle.qh_spec.specs.Lists.{In}
+use Rattle.qh_spec.specs.QuicFrame.{StreamFrame as Run}
 use Rattle.qh_spec.specs.declared.link.Event.{Event}
 use Rattle.qh_spec.specs.declared.link.Event.TheVariants.{Sent}
 use Rattle.qh_spec.specs.declared.sides.Side.{Side}
 use Rattle.qh_spec.specs.declared.sides.Side.TheVariants.{Client, Server}
-use Rattle.qh_spec.specs.Lawful.{Lawful}
 use Rattle.qh_spec.specs.Record.{PlainEntry}
-use Rattle.qh_spec.specs.Transcript.{Act, HandedIn, HandedOut, Wrote, Finished, Reset, Stopped, ReadBytes, ReadEnd, ReadReset}
-use Rattle.qh_exchange.specs.Pair.{End, EndAt, IsRunning, IsTold, all, unhanded, unsent, KeepWithin, KeptWithin, PairState, Running, id_length, wire, told_acts}
-use Rattle.qh_exchange.proofs.Bridged.{IsFaithful, end_lawful}
-use Rattle.qh_exchange.proofs.Wire.{told_acts-append, told_nearly}
+use Rattle.qh_spec.specs.Transcript.{Act, HandedIn, HandedOut, Wrote, Finished, Reset, Stopped, ReadBytes, ReadEnd, ReadReset, handed_in, handed_out}
+use Rattle.qh_streams.specs.Streams.{PlainStreams, first_limit}
+use Rattle.qh_streams.specs.declared.frames.PeerLimits.{PeerLimits}
+use Rattle.qh_transcript.specs.Within.{greatest, data_given, stream_given, count_given, first_count}
+use Rattle.qh_exchange.specs.Pair.{End, EndAt, IsRunning, IsTold, all, unhanded, unsent, KeepWithin, PairState, Running, id_length, wire, told_acts}
+use Rattle.qh_exchange.specs.Within.{KeptWithin, first_stream_count, first_stream_limit}
+use Rattle.qh_exchange.proofs.Wire.{told_acts-append, told_nearly, whole_in, whole_out}
 
 abbrev pub AreWithin : Type 0
 AreWithin = (c : End) (t before after : List Act) (datagram : List ℕ) → Follows c t → t ≡ before ++ HandedOut datagram ∷ after
@@ -86,7 +97,85 @@ not_nothing : (front rest : List Act) (d : List ℕ) → [] ≡ front ++ HandedO
 not_nothing [] rest d e = cc
 not_nothing (a ∷ front) rest d e = cc
 
-module _ (faithful : IsFaithful) (within : AreWithin) where
+-- ---- of a STREAM frame among datagrams
+
+-- one among these is one among those that have them all
+same_run : (k : ℕ) (xs ys : List (List ℕ)) (side : Side) (run : Run) → ((d : List ℕ) → In d xs → In d ys) → HasRun k xs side run → HasRun k ys side run
+same_run k xs ys side run each h = record {
+  datagram = h.datagram;
+  among = each h.datagram h.among;
+  packet = h.packet;
+  has = h.has;
+  space_is = h.space_is;
+  sender_is = h.sender_is;
+  frame = h.frame;
+  frame_among = h.frame_among;
+  is = h.is;
+}
+
+-- what was handed out up to here was handed out in all
+so_far : (t before after : List Act) (d : List ℕ) → t ≡ before ++ HandedOut d ∷ after → (x : List ℕ) → In x (handed_out before ++ d ∷ []) → In x (handed_out t)
+so_far t before after d e x i =
+    let whole : handed_out before ++ (d ∷ handed_out after) ≡ handed_out t = sym (handed_out-append before (HandedOut d ∷ after)) ∙ ap handed_out (sym e) in
+    subst (λ (z : List (List ℕ)). In x z) whole (elim (in_more x d (handed_out before) i) [
+      | inl earlier ↦ in_left x (handed_out before) (d ∷ handed_out after) earlier
+      | inr last ↦ in_right x (handed_out before) (d ∷ handed_out after) (inl last)
+    ])
+
+-- the peer's first limits are those of the streams
+first_limit_is : (side : Side) (peer : PeerLimits) (s : PlainStreams) → AreOf side peer s → (id : ℕ) → first_limit s id ≡ first_stream_limit side peer id
+first_limit_is side peer s of id =
+    ap (λ (z : PeerLimits). first_stream_limit s.side z id) of.peer_is ∙ ap (λ (z : Side). first_stream_limit z peer id) of.side_is
+
+first_count_is : (side : Side) (peer : PeerLimits) (s : PlainStreams) → AreOf side peer s → (two_way : Bool) → first_count s two_way ≡ first_stream_count peer two_way
+first_count_is side peer s of two_way = ap (λ (z : PeerLimits). first_stream_count z two_way) of.peer_is
+
+max_data_is : (side : Side) (peer : PeerLimits) (s : PlainStreams) → AreOf side peer s → s.peer.max_data ≡ peer.max_data
+max_data_is side peer s of = ap (λ (z : PeerLimits). z.max_data) of.peer_is
+
+-- ---- from the transcript to the events
+
+module _ (k : ℕ) (config : ConnConfig) (side : Side) (t before after : List Act) (events : List Event) (d : List ℕ)
+    (is : t ≡ before ++ HandedOut d ∷ after) (ins : handed_in before ≡ given_to side events) (outs : handed_out before ≡ sent_by side events)
+    (filled : (run : Run) → HasRun k (handed_out t) side run → HasSomething run) (p : IsWithinLimits k k side config before d) where
+  out_here : handed_out before ++ d ∷ [] ≡ sent_by side events ++ d ∷ []
+  out_here = ap (λ (z : List (List ℕ)). z ++ d ∷ []) outs
+
+  something : (run : Run) → HasRun k (handed_out before ++ d ∷ []) side run → HasSomething run
+  something run has = filled run (same_run k (handed_out before ++ d ∷ []) (handed_out t) side run (so_far t before after d is) has)
+
+  here : (run : Run) → HasRun k (d ∷ []) side run → HasSomething run
+  here run has = something run (same_run k (d ∷ []) (handed_out before ++ d ∷ []) side run (λ x i. in_right x (handed_out before) (d ∷ []) i) has)
+
+  told_of_events : KeptWithin k config side events d
+  told_of_events = record {
+    given = p.given;
+    came = λ f i. subst (λ (z : List (List ℕ)). HasComing k z (other side) f) ins (p.came f i);
+    stream_bytes = λ run has.
+        subst (λ (n : ℕ). run.offset + length run.payload ≤ greatest (stream_given run.id) n p.given)
+        (first_limit_is side (peer_of config.limits) p.streams p.of run.id) (p.stream_bytes run has (here run has));
+    all_bytes = λ runs apart each.
+        subst (λ (n : ℕ). sum_by (λ (r : Run). r.offset + length r.payload) runs ≤ greatest data_given n p.given)
+        (max_data_is side (peer_of config.limits) p.streams p.of)
+        (p.all_bytes runs apart (λ run i.
+        let has : HasRun k (handed_out before ++ d ∷ []) side run = subst (λ (z : List (List ℕ)). HasRun k z side run) (sym out_here) (each run i) in
+        (has, something run has)));
+    count = λ run has own.
+        subst (λ (n : ℕ). index_of run.id < greatest (count_given (is_bi run.id)) n p.given)
+        (first_count_is side (peer_of config.limits) p.streams p.of (is_bi run.id)) (p.count run has (here run has) own);
+  }
+
+-- no STREAM frame that an end handed out is empty
+filled : (w : Bool) (side : Side) (k : ℕ) (config : ConnConfig) (end : Option End) (events : List Event) (t : List Act) → EndAt w side k config end events t
+    → (run : Run) → HasRun k (handed_out t) side run → HasSomething run
+filled w side k config None events t at run has = absurd (subst (λ (z : List Act). In has.datagram (handed_out z)) at.stands has.among)
+filled w side k config (Some c) events t at run has =
+    let is = at.stands.0 in
+    at.stands.1.filled run
+    (subst (λ (z : Side). HasRun (length c.remote_id) (handed_out t) z run) (sym is.side_is)
+    (subst (λ (n : ℕ). HasRun n (handed_out t) side run) (sym is.remote) has))
+
+module _ (within : AreWithin) where
   limits : (w : Bool) (side : Side) (k : ℕ) (config : ConnConfig) (end : Option End) (events : List Event) (t before after : List Act) (d : List ℕ) → EndAt w side k config end events t
       → t ≡ before ++ HandedOut d ∷ after → IsWithinLimits k k side config before d
   limits w side k config None events t before after d at e = absurd (not_nothing before after d (sym at.stands ∙ e))
@@ -101,13 +190,7 @@ module _ (faithful : IsFaithful) (within : AreWithin) where
       → (before after : List Event) (d : List ℕ) → events ≡ before ++ Sent side d ∷ after → KeptWithin k config side before d
   kept w side k config end events t at before after d e =
       let c : IsCut t (told_acts side before) d = sent_cut side events before after t d (told_nearly w side events t at.told) e in
-      record {
-        acts = c.before;
-        told = c.front_is;
-        rest = c.after;
-        lawful = subst (λ (z : List Act). Lawful side k k z) c.is (end_lawful faithful w side k config end events t at);
-        within = limits w side k config end events t c.before c.after d at c.is;
-      }
+      told_of_events k config side t c.before c.after before d c.is (whole_in side before c.before c.front_is) (whole_out side before c.before c.front_is) (filled w side k config end events t at) (limits w side k config end events t c.before c.after d at c.is)
 
   by_side : (w : Bool) (p : PairState) (events : List Event) (entries : List PlainEntry) → IsRunning w p events entries → (before after : List Event) (side : Side) (d : List ℕ)
       → events ≡ before ++ Sent side d ∷ after → KeptWithin (id_length p) p.config side before d

@@ -1,5 +1,5 @@
 -- What the answers of an exchange say.
-use Rattle.std.specs.Prelude.{ℕ, Result, Err}
+use Rattle.std.specs.Prelude.{◌≡◌, ℕ, Result, Ok, Err}
 use Rattle.qh_base.specs.declared.connection_error.ConnectionError.{ConnectionError}
 use Rattle.qh_exchange.specs.declared.error.ExchangeError.{ExchangeError}
 use Rattle.qh_exchange.specs.declared.error.ExchangeError.TheVariants.{Invalid, TimedOut, OutOfRounds, Protocol, Memory}
@@ -32,3 +32,10 @@ abbrev pub IsListError : ExchangeError → Type 0
 IsListError (Invalid index) = Unit {0}
 IsListError Memory = Unit {0}
 IsListError _ = ⊥
+
+-- an exchange ends by the error that ended its rounds; where they were made it has answers, or no memory for them
+abbrev pub EndsAs : {T : Type 0} → (made : Result (Unit {0}) ExchangeError) → Result T ExchangeError → Type 0
+EndsAs (Err e) (Err f) = f ≡ e
+EndsAs (Err e) (Ok answers) = ⊥
+EndsAs (Ok _) (Err f) = f ≡ Memory
+EndsAs (Ok _) (Ok answers) = Unit {0}

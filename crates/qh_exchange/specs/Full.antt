@@ -53,8 +53,8 @@ pub record EndsInFullTurn (p : PairState) (events : List Event) : Type 0 where
   pub are : events ≡ front ++ turn
   pub full : IsFullTurn p turn
 
--- Behind these events so many full turns were made, one after another: each left a pair with these requests, which goes on, where the
--- events and some entries leave it.
+-- Behind these events so many turns were made, one after another, and for each there is a pair with these requests, which goes on and
+-- stands where the events and some entries leave it, of which it was a full one.
 abbrev pub AreFullTurns : (requests : List PlainMessage) → ℕ → (before events : List Event) → Type 0
 AreFullTurns requests zero before events = events ≡ []
 AreFullTurns requests (suc n) before events = (turn rest : List Event) × (entries : List PlainEntry) × (p : PairState) × (events ≡ turn ++ rest) × (p.client.requests ≡ requests)

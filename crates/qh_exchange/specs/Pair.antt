@@ -2,7 +2,6 @@
 -- these lists.
 use Rattle.std.specs.Prelude.{◌≡◌, ℕ, ◌^◌, ◌≤◌, Bool, true, false, not, List, [], ◌∷◌, ◌++◌, Option, Some, None, Result, length, filter, slice_get, MatchBool}
 use Rattle.qh_conduct.specs.Behaves.{Behaves}
-use Rattle.qh_conn.specs.Follows.{IsWithinLimits}
 use Rattle.qh_conn.specs.declared.config.ConnConfig.{ConnConfig}
 use Rattle.qh_conn.specs.declared.inner.Inner.{Inner}
 use Rattle.qh_packet.specs.Session.{PlainKeys}
@@ -14,12 +13,12 @@ use Rattle.qh_spec.specs.declared.sides.Side.{Side}
 use Rattle.qh_spec.specs.declared.sides.Side.TheVariants.{Client, Server}
 use Rattle.qh_spec.specs.Headline.{ServedOnce, IsRecordedAnswer}
 use Rattle.qh_spec.specs.Honest.{IsHonest}
-use Rattle.qh_spec.specs.Lawful.{Lawful}
 use Rattle.qh_spec.specs.Link.{if_same_side}
 use Rattle.qh_spec.specs.Message.{PlainMessage}
 use Rattle.qh_spec.specs.Record.{PlainEntry}
 use Rattle.qh_spec.specs.Transcript.{Act, HandedIn, HandedOut}
 use Rattle.qh_exchange.specs.Sound.{EndsFairly, IsSoundAt}
+use Rattle.qh_exchange.specs.Within.{KeptWithin}
 use Rattle.qh_exchange.specs.declared.ends.Ids.{Ids}
 use Rattle.qh_exchange.specs.declared.error.ExchangeError.{ExchangeError}
 
@@ -168,17 +167,7 @@ pub record Means (p : PairState) (events : List Event) (before entries : List Pl
   pub answered : (index : ℕ) (answer : PlainMessage) → slice_get p.client.answers index ≡ Some (Some answer)
       → IsRecordedAnswer (id_length p) events entries index answer
 
--- A side that sent this datagram behind these events kept within the limits that it was given before: some transcript of it, of
--- which the events tell and by which it sent only what was written, has no more written than the peer's credit, on each stream
--- and on all, and no stream past the peer's count (RFC 9000, sections 4.1 and 4.6).
-pub record KeptWithin (id_length : ℕ) (config : ConnConfig) (side : Side) (before : List Event) (datagram : List ℕ) : Type 0 where
-  pub acts : List Act
-  pub told : wire acts ≡ told_acts side before
-  pub rest : List Act
-  pub lawful : Lawful side id_length id_length (acts ++ (HandedOut datagram ∷ rest))
-  pub within : IsWithinLimits id_length id_length side config acts datagram
-
--- so did each that was sent, over any link
+-- each datagram that was sent kept within the limits that its sender was given before, over any link
 abbrev pub KeepWithin : ℕ → ConnConfig → List Event → Type 0
 KeepWithin id_length config events = (before after : List Event) (side : Side) (datagram : List ℕ) → events ≡ before ++ Sent side datagram ∷ after
     → KeptWithin id_length config side before datagram

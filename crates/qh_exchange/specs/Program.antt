@@ -77,6 +77,11 @@ pub record HasRun (s : Script) (link : PlainLink) (served : List PlainEntry) (re
   pub lost : IfProtocol result (WasLost s.requests (Some []) (Some link.events) [] served)
   pub out_of_rounds : IfOutOfRounds result (RanOut (rounds_of s) s.requests (Some []) (Some link.events) [] (moments_of link.events) [] served)
 
+-- the bench is as it was when the run began
+pub record IsAsAtEntry (link_before link : PlainLink) (served : List PlainEntry) : Type 0 where
+  pub link_is : link ≡ link_before
+  pub served_none : served ≡ []
+
 -- how a run ends that had a script: its status and its text
 pub data ScriptEnds (s : Script) (link : PlainLink) (served : List PlainEntry) : (status : ℕ) → (text : List ℕ) → Type 0 where
   answered : (answers : List PlainMessage) → HasRun s link served (Ok answers)
@@ -85,11 +90,29 @@ pub data ScriptEnds (s : Script) (link : PlainLink) (served : List PlainEntry) :
       → ScriptEnds s link served status (flat_map entry_block served ++ last)
 
 -- How a run ends that read a text: a line of it is refused, or isn't built yet, whichever comes first, or it is a script.
-pub data TextEnds (text : List ℕ) (link : PlainLink) (served : List PlainEntry) : (status : ℕ) → (written : List ℕ) → Type 0 where
-  refused : (n : ℕ) → IsRefusedAt text n → ((m : ℕ) → IsUnbuiltAt text m → n < m) → TextEnds text link served 3 (refused_line n)
-  unbuilt : (n : ℕ) → IsUnbuiltAt text n → ((m : ℕ) → IsRefusedAt text m → n ≤ m) → TextEnds text link served 12 unbuilt_line
+pub data TextEnds (text : List ℕ) (link_before link : PlainLink) (served : List PlainEntry) : (status : ℕ) → (written : List ℕ) → Type 0 where
+  refused : (n : ℕ) → IsRefusedAt text n → ((m : ℕ) → IsUnbuiltAt text m → n < m) → IsAsAtEntry link_before link served
+      → TextEnds text link_before link served 3 (refused_line n)
+  unbuilt : (n : ℕ) → IsUnbuiltAt text n → ((m : ℕ) → IsRefusedAt text m → n ≤ m) → IsAsAtEntry link_before link served
+      → TextEnds text link_before link served 12 unbuilt_line
   ran : (s : Script) (status : ℕ) (written : List ℕ) → IsScript text s → ((m : ℕ) → IsUnbuiltAt text m → ⊥) → ScriptEnds s link served status written
-      → TextEnds text link served status written
+      → TextEnds text link_before link served status written
+
+-- A script's requests were exchanged, and then memory was wanting for what is to be written.
+pub record RanWanting (text : List ℕ) (link : PlainLink) (served : List PlainEntry) : Type 0 where
+  pub script : Script
+  pub is_script : IsScript text script
+  pub built : (m : ℕ) → IsUnbuiltAt text m → ⊥
+  pub result : Result (List PlainMessage) ExchangeError
+  pub run : HasRun script link served result
+
+-- Memory was wanting before anything was exchanged, and the bench is as it was, or behind an exchange.
+abbrev pub IsWanting : (text : List ℕ) → (link_before link_after : PlainLink) → (served : List PlainEntry) → Type 0
+IsWanting text link_before link_after served = IsAsAtEntry link_before link_after served ⊎ RanWanting text link_after served
+
+-- the entries that were served, where there is memory for them, and the last line of status 9
+abbrev pub IsWantingText : List PlainEntry → List ℕ → Type 0
+IsWantingText served written = (written ≡ flat_map entry_block served ++ memory_line) ⊎ (written ≡ memory_line)
 
 -- How a run ends that read commands on a token log: a line of them is refused, or each token was looked at.
 pub data TokensEnd (text : List ℕ) : (status : ℕ) → (written : List ℕ) → Type 0 where
@@ -100,25 +123,33 @@ pub data TokensEnd (text : List ℕ) : (status : ℕ) → (written : List ℕ) �
 abbrev pub IsReading : List (List ℕ) → Type 0
 IsReading words = IsCommand words Exchange ⊎ IsCommand words Tokens
 
+-- The bench where memory was wanting: as it was, or behind the exchange of a script that was read.
+pub data LeavesWanting (words : List (List ℕ)) (left_before left_after : Option (List ℕ)) (link_before link : PlainLink) (served : List PlainEntry) : Type 0 where
+  nothing_done : IsAsAtEntry link_before link served → LeavesWanting words left_before left_after link_before link served
+  exchanged : (text : List ℕ) → IsCommand words Exchange → IsInput left_before left_after text → RanWanting text link served
+      → LeavesWanting words left_before left_after link_before link served
+
 -- How a run ends: its status and what it has to write, by its words, by what it reads, and by what it leaves on the bench.
-pub data Ends (words : List (List ℕ)) (left_before left_after : Option (List ℕ)) (faults_before faults_after : ℕ) (link : PlainLink) (served : List PlainEntry)
+pub data Ends (words : List (List ℕ)) (left_before left_after : Option (List ℕ)) (faults_before faults_after : ℕ) (link_before link : PlainLink) (served : List PlainEntry)
     : (status : ℕ) → (written : List ℕ) → Type 0 where
-  usage : AreUnknown words → Ends words left_before left_after faults_before faults_after link served 2 usage_line
-  unbuilt_words : (c : Command) → IsCommand words c → c ≢ Exchange → c ≢ Tokens → Ends words left_before left_after faults_before faults_after link served 12 unbuilt_line
-  read_fault : IsReading words → Rose faults_before faults_after
-      → Ends words left_before left_after faults_before faults_after link served 10 (codes "read fault" ++ newline)
+  usage : AreUnknown words → IsAsAtEntry link_before link served → Ends words left_before left_after faults_before faults_after link_before link served 2 usage_line
+  unbuilt_words : (c : Command) → IsCommand words c → c ≢ Exchange → c ≢ Tokens → IsAsAtEntry link_before link served
+      → Ends words left_before left_after faults_before faults_after link_before link served 12 unbuilt_line
+  read_fault : IsReading words → Rose faults_before faults_after → IsAsAtEntry link_before link served
+      → Ends words left_before left_after faults_before faults_after link_before link served 10 (codes "read fault" ++ newline)
   read : (text : List ℕ) (status : ℕ) (written : List ℕ) → IsCommand words Exchange → IsInput left_before left_after text
-      → TextEnds text link served status written → Ends words left_before left_after faults_before faults_after link served status written
+      → TextEnds text link_before link served status written → Ends words left_before left_after faults_before faults_after link_before link served status written
   tokens : (text : List ℕ) (status : ℕ) (written : List ℕ) → IsCommand words Tokens → IsInput left_before left_after text
-      → TokensEnd text status written → Ends words left_before left_after faults_before faults_after link served status written
-  memory : Ends words left_before left_after faults_before faults_after link served 9 memory_line
+      → TokensEnd text status written → IsAsAtEntry link_before link served → Ends words left_before left_after faults_before faults_after link_before link served status written
+  memory : (written : List ℕ) → LeavesWanting words left_before left_after link_before link served → IsWantingText served written
+      → Ends words left_before left_after faults_before faults_after link_before link served 9 written
 
 -- How a run ends: what it read, did and wrote, and its status.
-pub record HasEnded (words : List (List ℕ)) (left_before left_after : Option (List ℕ)) (read_before read_after : ℕ) (link : PlainLink) (served : List PlainEntry)
+pub record HasEnded (words : List (List ℕ)) (left_before left_after : Option (List ℕ)) (read_before read_after : ℕ) (link_before link : PlainLink) (served : List PlainEntry)
     (written_before written_after : Option (List ℕ)) (failed_before failed_after result : ℕ) : Type 0 where
   pub status : ℕ
   pub text : List ℕ
-  pub ends : Ends words left_before left_after read_before read_after link served status text
+  pub ends : Ends words left_before left_after read_before read_after link_before link served status text
   pub writes : IsWritten status text written_before written_after failed_before failed_after result
 
 -- ---- status 0

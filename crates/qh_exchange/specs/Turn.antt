@@ -56,14 +56,15 @@ pub record IsProtocolLoss (e : ConnectionError) (p : PairState) : Type 0 where
 
 -- ---- how an exchange ends without its answers
 
--- a pair with these requests made these turns
+-- a pair with these requests stands where these turns leave it
 pub record WasMade (requests : List PlainMessage) (told_before told_after : Option (List Event)) (served_before served_after : List PlainEntry) (p : PairState) : Type 0 where
   pub asked : p.client.requests ≡ requests
   pub stands : (events more : List Event) (fresh : List PlainEntry) → told_before ≡ Some events → told_after ≡ Some (events ++ more)
       → served_after ≡ served_before ++ fresh → Running p more fresh
 
--- there were requests, exactly so many rounds were made, each a whole turn where the events are told, in which all was done that could
--- be, and the pair that made them, the last one too, holds fewer answers than requests
+-- There were requests, and exactly so many rounds were made, each a whole turn where the events are told, and for each there is a pair
+-- of which it was a full one. There is a pair that stands where all of them leave it, with fewer answers than requests, and the last
+-- turn was a full one of it. That these are one pair, or the pair that ran, isn't said.
 pub record RanOut (rounds : ℕ) (requests : List PlainMessage) (told_before told_after : Option (List Event)) (moments_before moments_after : List ℕ) (served_before served_after : List PlainEntry) : Type 0 where
   pub some : requests ≢ []
   pub turns : Adds (AreWholeTurns rounds) told_before told_after
@@ -76,7 +77,8 @@ pub record RanOut (rounds : ℕ) (requests : List PlainMessage) (told_before tol
   pub last : (n : ℕ) → rounds ≡ suc n → Adds (EndsInFullTurn pair) told_before told_after
   pub fewer : held pair.client.answers < length requests
 
--- the pair lost the connection of one of its ends with this error
+-- there is a pair with these requests, standing where the events and the record leave it, that lost the connection of one of its ends
+-- with this error; that it is the pair that ran isn't said
 pub record WasLost (requests : List PlainMessage) (told_before told_after : Option (List Event)) (served_before served_after : List PlainEntry) (e : ConnectionError) : Type 0 where
   pub pair : PairState
   pub made : WasMade requests told_before told_after served_before served_after pair

@@ -1,11 +1,11 @@
-ghost use Rattle.std.specs.Prelude.{◌≡◌, ◌≢◌, ◌<◌, ◌^◌, ◌++◌, [], ℕ, false, List, Some, Ok, Err, length, IfOk, IfErr, IsOk};
+ghost use Rattle.std.specs.Prelude.{◌≡◌, ◌≢◌, ◌<◌, ◌^◌, ◌++◌, [], ℕ, false, List, Some, Ok, Err, length, map, IfOk, IfErr, IsOk};
 ghost use Rattle.qh_spec.specs.declared.link.Event.{Event};
 ghost use Rattle.qh_spec.specs.Config.{Fits};
 ghost use Rattle.qh_spec.specs.Fault.{CountsFaults};
 ghost use Rattle.qh_spec.specs.Headline.{ServedOnce, AnsweredOnce};
 ghost use Rattle.qh_spec.specs.Honest.{IsHonest};
 ghost use Rattle.qh_spec.specs.Validity.{IsFaultIndex, IsValidList};
-ghost use Rattle.qh_exchange.specs.Exchange.{IfInvalid, IfOutOfRounds, IfProtocol, IfTimedOut, IsInvalidAnswer};
+ghost use Rattle.qh_exchange.specs.Exchange.{EndsAs, IfInvalid, IfOutOfRounds, IfProtocol, IfTimedOut, IsInvalidAnswer, IsListError};
 ghost use Rattle.qh_exchange.specs.Clock.{IsClocked};
 ghost use Rattle.qh_exchange.specs.Pair.{KeepWithin};
 ghost use Rattle.qh_exchange.specs.Rounds.{AreFair, IsAsked, RoundsMade};
@@ -16,8 +16,9 @@ ghost use Rattle.qh_exchange.specs.Turn.{RanOut, WasIdle, WasLost, has_link_fail
 ghost use Rattle.qh_roles.specs.Server.{GrewByAnswers};
 
 use crate::{Config, ExchangeError, Link, Message, Pair, Service, pairs, valid};
-use qh_base::{Memory, Moment};
+use qh_base::Memory;
 use qh_message::writable;
+use qh_roles::Client;
 use std::alloc::Global;
 
 /// Exchanges requests for answers between a client and a server over a link, in at most so many rounds: `answers[i]`
@@ -69,24 +70,45 @@ pub fn exchange<V: Service, L: Link>(
     if requests.is_empty() {
         return Ok(Vec::new(alloc));
     }
-    valid(config, requests)?;
-    let mut pair = asked_pair(alloc, config, requests)?;
+    let mut pair = valid_pair(alloc, config, requests)?;
     pairs();
-    make_rounds(&mut pair, service, link, rounds)?;
-    Ok(pair.into_answers()?)
+    let made = make_rounds(&mut pair, service, link, rounds);
+    answers_of(pair, made)
 }
 
-// A pair before its first turn, with copies of these requests.
+// A pair before its first turn, with copies of these requests, where they are valid.
+fn valid_pair(alloc: Global, config: &Config, requests: &[Message]) -> Result<Pair, ExchangeError>
+    requires config { Fits config.now }
+    requires some { requests.now ≢ [] }
+    ensures asked { IfOk result (IsAsked config.now.local_id_len (conn_config config.now) (limits_of config.now) requests.now) }
+    ensures valid { IfOk result (λ _. IsValidList config.now.max_requests config.now.max_field_section_size config.now.max_request_body requests.now) }
+    ensures invalid { IfInvalid result (λ index. IsFaultIndex config.now.max_requests config.now.max_field_section_size config.now.max_request_body requests.now index) }
+    ensures errors { IfErr result IsListError }
+{
+    valid(config, requests)?;
+    Ok(asked_pair(alloc, config, requests)?)
+}
+
+// The same of requests that are valid.
 fn asked_pair(alloc: Global, config: &Config, requests: &[Message]) -> Result<Pair, Memory>
     requires config { Fits config.now }
     requires some { requests.now ≢ [] }
     requires valid { IsValidList config.now.max_requests config.now.max_field_section_size config.now.max_request_body requests.now }
     ensures { IfOk result (IsAsked config.now.local_id_len (conn_config config.now) (limits_of config.now) requests.now) }
 {
-    let mut pair = Pair::open_pair(alloc, config, Moment(0))?;
     writable();
-    pair.ask(requests)?;
-    Ok(pair)
+    let mut client = Client::new(alloc);
+    client.ask(alloc, requests)?;
+    Ok(Pair::of_client(alloc, config, client))
+}
+
+// The answers that a pair holds once its rounds are made, or the error that ended them.
+fn answers_of(pair: Pair, made: Result<(), ExchangeError>) -> Result<Vec<Message>, ExchangeError>
+    ensures ends { EndsAs made result }
+    ensures answers { IfOk result (λ answers. held pair.client.answers ≡ length pair.client.requests → map Some answers.items ≡ pair.client.answers) }
+{
+    made?;
+    Ok(pair.into_answers()?)
 }
 
 // Makes rounds until an answer is held for each request. `OutOfRounds` comes after exactly so many.

@@ -8,7 +8,7 @@ ghost use Rattle.qh_exchange.specs.Full.{AsksWhereItMay, HasAcceptedWhatArrived,
 ghost use Rattle.qh_exchange.specs.Sound.{EndsFairly, last_of};
 ghost use Rattle.qh_exchange.specs.Steps.{AreIntakes, AreNotLost, AreOutputs, AreTicking, BeginsAt, ClientPolled, IsCounted, IsLastOf, IsLinkError, IsOnSide, IsOpen, IsStill, KeepsTicking, PairStep, ServerPolled, TicksOn, ended_by, is_done};
 ghost use Rattle.qh_exchange.specs.Turn.{Adds, IsNotLost, IsProtocolLoss, IsTurnError, has_link_failed};
-ghost use Rattle.qh_roles.specs.Client.{AreAskable, held};
+ghost use Rattle.qh_roles.specs.Client.{AreAskable, Asking, held};
 ghost use Rattle.qh_roles.specs.Server.{GrewByAnswers};
 ghost use Rattle.qh_spec.specs.declared.link.Event.{Event};
 ghost use Rattle.qh_spec.specs.declared.link.Event.TheVariants.{Round};
@@ -82,16 +82,30 @@ impl Pair {
         ensures unasked { IfOk result (λ p. (p.client ≡ record { requests = []; next = 0; streams = []; answers = [] }) × (p.client_end ≡ None) × (p.is_over ≡ false)) }
     {
         let _opened = now;
-        Ok(Pair {
+        Ok(Pair::of_client(alloc, config, Client::new(alloc)))
+    }
+
+    // A pair of this client, which opened no stream.
+    pub(crate) fn of_client(alloc: Global, config: &Config, client: Client) -> Pair
+        requires fits { Fits config.now }
+        requires unopened { client.next ≡ 0 }
+        requires asking { Asking client [] }
+        requires places { length client.answers ≡ length client.requests }
+        ensures running { Running result [] [] }
+        ensures value { result ≡ record { ids = result.ids; config = conn_config config.now; client = client; server = result.server; client_end = None; server_end = None; is_over = false } }
+        ensures ids { id_length result ≡ config.now.local_id_len }
+        ensures limits { result.server.limits ≡ limits_of config.now }
+    {
+        Pair {
             alloc,
             ids: Ids::of(config.local_id_len, config.first_id_len),
             config: conn_config(config),
-            client: Client::new(alloc),
+            client,
             server: Server::new(alloc, limits_of(config)),
             client_end: None,
             server_end: None,
             is_over: false,
-        })
+        }
     }
 
     /// Takes copies of the requests. It is called once, before the first turn. Want of memory leaves the pair without requests.
@@ -114,8 +128,8 @@ impl Pair {
     }
 
     /// Makes one turn, and says whether an answer is held for each request: the link begins a round; each end takes what came for
-    /// it; what is due by now is done; the client asks and takes answers, and the server serves, as far as they go; each end
-    /// sends. It isn't called again after an `Err`. The errors: `Link` where the link failed, `TimedOut` where an end heard nothing for its
+    /// it; what is due by now is done; the client asks and takes answers, and the server serves; each end
+    /// sends. How far a stream goes in one turn is in no clause. It isn't called again after an `Err`. The errors: `Link` where the link failed, `TimedOut` where an end heard nothing for its
     /// idle time, `Protocol` where an end lost its connection otherwise, which none does over an honest link, `Memory`.
     pub fn turn<V: Service, L: Link>(
         &mut self,
@@ -148,7 +162,15 @@ impl Pair {
     pub fn into_answers(self) -> Result<Vec<Message>, Memory>
         ensures { IfOk result (λ all. held self.client.answers ≡ length self.client.requests → map Some all.items ≡ self.client.answers) }
     {
-        self.client.into_answers(self.alloc)
+        let alloc = self.alloc;
+        self.into_client().into_answers(alloc)
+    }
+
+    // The client, without its end.
+    fn into_client(self) -> Client
+        ensures { result ≡ self.client }
+    {
+        self.client
     }
 
     // No more answers are held than there are requests.

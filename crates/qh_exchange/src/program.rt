@@ -1,12 +1,15 @@
-ghost use Rattle.std.specs.Prelude.{◌≡◌, ◌⊎◌, ◌<◌, ◌^◌, ◌++◌, [], ℕ, List, map, string_bytes, All, IfOk, IfErr};
+ghost use Rattle.std.specs.Prelude.{◌≡◌, ◌⊎◌, ◌<◌, ◌^◌, ◌++◌, [], ℕ, List, Result, map, string_bytes, All, IfOk, IfErr};
+ghost use Rattle.qh_exchange.specs.declared.error.ExchangeError.{ExchangeError as AnError};
 ghost use Rattle.qh_link.specs.ScriptLink.{PlainLink};
+ghost use Rattle.qh_spec.specs.Message.{PlainMessage};
 ghost use Rattle.qh_spec.specs.Record.{PlainEntry};
 ghost use Rattle.qh_spec.specs.Config.{Fits};
 ghost use Rattle.qh_spec.specs.Echoed.{HasMaps};
 ghost use Rattle.qh_spec.specs.Script.{Script as PlainScript, IsScript, IsRefusedAt, rounds_of};
 ghost use Rattle.qh_spec.specs.Words.{Exchange, IsCommand};
 ghost use Rattle.qh_exchange.specs.Endings.{EndsAnswered, EndsFailed, IsRunAs};
-ghost use Rattle.qh_exchange.specs.Program.{AreLookedAt, Ends, HasEnded, IsAnswered, IsLastLine, ScriptEnds, TextEnds, refused_line};
+ghost use Rattle.qh_exchange.specs.Program.{AreLookedAt, Ends, HasEnded, HasRun, IsAnswered, IsAsAtEntry, IsLastLine, IsWanting, IsWantingText, LeavesWanting, ScriptEnds, TextEnds, refused_line};
+ghost use Rattle.qh_exchange.specs.Reading.{IsWritten};
 
 use crate::input::read_text;
 use crate::output::write_text;
@@ -40,9 +43,10 @@ pub(crate) struct Ending {
 /// has its answer, or where each token was looked at, 2 for other words, 3 for a script or for commands that are refused,
 /// 4 to 8 for an exchange that failed, 9 for want of memory, 10 and 11 for a fault of the input and of the output, 12 for
 /// what isn't built yet. Before the last line of status 0 stands the report, or the line of each token, before that of 4
-/// to 9 the entries of the record. Nothing is written before the input was read.
+/// to 8 the entries of the record, and before that of 9 too if there is memory for them. Nothing is written before the input
+/// was read.
 ///
-/// The service has served nothing. `exchange` puts a new link into the bench, and other words leave the bench as it is.
+/// The service has served nothing. `exchange` puts a new link into the bench for a script that is taken; else the bench stays as it is.
 pub fn run<S: Source, K: Sink>(
     alloc: Global,
     words: &[String],
@@ -51,8 +55,8 @@ pub fn run<S: Source, K: Sink>(
     bench: &mut Bench<Echo, ScriptLink>,
 ) -> u8
     requires { bench.old.service ≡ [] }
-    // Each status comes by its row of `Ends` alone.
-    ensures ends { HasEnded (map string_bytes words.now) (S.left source.old) (S.left source.new) (S.faults source.old) (S.faults source.new) bench.new.link bench.new.service
+    // Each status comes by its row of `Ends` alone. With 11 a prefix was written of a text that a row of `Ends` gives for this run.
+    ensures ends { HasEnded (map string_bytes words.now) (S.left source.old) (S.left source.new) (S.faults source.old) (S.faults source.new) bench.old.link bench.new.link bench.new.service
         (K.written sink.old) (K.written sink.new) (K.faults sink.old) (K.faults sink.new) result }
     // Status 0 means that the input was read to its end, and either the words are `exchange`, the input is a script, its
     // requests were exchanged over the link on the bench, and their report was written and nothing else; or the words are
@@ -64,6 +68,16 @@ pub fn run<S: Source, K: Sink>(
 {
     match ending_of(alloc, words, source, bench) {
         Ok(ending) => write_text(sink, &ending.text, ending.status),
+        Err(Memory) => write_wanting(alloc, sink, &bench.service),
+    }
+}
+
+// Writes the entries of the record and the line of status 9, or that line alone where there is no memory for the entries.
+fn write_wanting<K: Sink>(alloc: Global, sink: &mut K, service: &Echo) -> u8
+    ensures { (text : List ℕ) × IsWantingText service.now text × IsWritten 9 text (K.written sink.old) (K.written sink.new) (K.faults sink.old) (K.faults sink.new) result }
+{
+    match failure(alloc, ExchangeError::Memory, service) {
+        Ok(ending) => write_text(sink, &ending.text, 9),
         Err(Memory) => write_text(sink, b"memory\n", 9),
     }
 }
@@ -75,8 +89,9 @@ fn ending_of<S: Source>(
     bench: &mut Bench<Echo, ScriptLink>,
 ) -> Result<Ending, Memory>
     requires { bench.old.service ≡ [] }
-    ensures ends { IfOk result (λ e. Ends (map string_bytes words.now) (S.left source.old) (S.left source.new) (S.faults source.old) (S.faults source.new) bench.new.link bench.new.service
+    ensures ends { IfOk result (λ e. Ends (map string_bytes words.now) (S.left source.old) (S.left source.new) (S.faults source.old) (S.faults source.new) bench.old.link bench.new.link bench.new.service
         e.status e.text.items) }
+    ensures wanting { IfErr result (λ _. LeavesWanting (map string_bytes words.now) (S.left source.old) (S.left source.new) bench.old.link bench.new.link bench.new.service) }
     ensures unused { (IsCommand (map string_bytes words.now) Exchange → ⊥) → bench.new ≡ bench.old }
 {
     match read_command(words) {
@@ -94,8 +109,9 @@ fn run_exchange<S: Source>(
     bench: &mut Bench<Echo, ScriptLink>,
 ) -> Result<Ending, Memory>
     requires { bench.old.service ≡ [] }
-    ensures { (words : List (List ℕ)) → IsCommand words Exchange → IfOk result (λ e. Ends words (S.left source.old) (S.left source.new) (S.faults source.old) (S.faults source.new)
-        bench.new.link bench.new.service e.status e.text.items) }
+    ensures ends { (words : List (List ℕ)) → IsCommand words Exchange → IfOk result (λ e. Ends words (S.left source.old) (S.left source.new) (S.faults source.old) (S.faults source.new)
+        bench.old.link bench.new.link bench.new.service e.status e.text.items) }
+    ensures wanting { (words : List (List ℕ)) → IsCommand words Exchange → IfErr result (λ _. LeavesWanting words (S.left source.old) (S.left source.new) bench.old.link bench.new.link bench.new.service) }
 {
     match read_text(alloc, source)? {
         Some(text) => run_text(alloc, &text, bench),
@@ -109,7 +125,8 @@ fn run_text(
     bench: &mut Bench<Echo, ScriptLink>,
 ) -> Result<Ending, Memory>
     requires { bench.old.service ≡ [] }
-    ensures { IfOk result (λ e. TextEnds text.now bench.new.link bench.new.service e.status e.text.items) }
+    ensures ends { IfOk result (λ e. TextEnds text.now bench.old.link bench.new.link bench.new.service e.status e.text.items) }
+    ensures wanting { IfErr result (λ _. IsWanting text.now bench.old.link bench.new.link bench.new.service) }
 {
     match read_script(alloc, text) {
         Ok(script) => run_built(alloc, text, script, bench),
@@ -121,7 +138,7 @@ fn run_text(
 // The line that is refused, unless one before it, or itself, isn't built.
 fn refusal(alloc: Global, text: &[u8], number: usize) -> Result<Ending, Memory>
     requires { IsRefusedAt text.now number }
-    ensures { (link : PlainLink) (served : List PlainEntry) → IfOk result (λ e. TextEnds text.now link served e.status e.text.items) }
+    ensures { (link_before link : PlainLink) (served : List PlainEntry) → IsAsAtEntry link_before link served → IfOk result (λ e. TextEnds text.now link_before link served e.status e.text.items) }
 {
     match unbuilt_line(text) {
         Some(unbuilt) if unbuilt <= number => line(alloc, 12, "unbuilt\n"),
@@ -146,7 +163,8 @@ fn run_built(
 ) -> Result<Ending, Memory>
     requires served { bench.old.service ≡ [] }
     requires script { IsScript text.now script }
-    ensures { IfOk result (λ e. TextEnds text.now bench.new.link bench.new.service e.status e.text.items) }
+    ensures ends { IfOk result (λ e. TextEnds text.now bench.old.link bench.new.link bench.new.service e.status e.text.items) }
+    ensures wanting { IfErr result (λ _. IsWanting text.now bench.old.link bench.new.link bench.new.service) }
 {
     match unbuilt_line(text) {
         Some(_) => line(alloc, 12, "unbuilt\n"),
@@ -162,7 +180,8 @@ fn run_script(
 ) -> Result<Ending, Memory>
     requires served { bench.old.service ≡ [] }
     requires script { (text : List ℕ) × IsScript text script }
-    ensures { IfOk result (λ e. ScriptEnds script bench.new.link bench.new.service e.status e.text.items) }
+    ensures ends { IfOk result (λ e. ScriptEnds script bench.new.link bench.new.service e.status e.text.items) }
+    ensures wanting { IfErr result (λ _. (ended : Result (List PlainMessage) AnError) × HasRun script bench.new.link bench.new.service ended) }
 {
     let rounds = rounds_for(&script);
     let Script {
@@ -200,7 +219,8 @@ fn run_requests(
     requires fits { Fits config.now }
     requires rounds { rounds < 2 ^ 48 }
     requires maps { All HasMaps requests.now }
-    ensures { (s : PlainScript) → IsRunAs s config.now requests.now rounds bench.old.link → IfOk result (λ e. ScriptEnds s bench.new.link bench.new.service e.status e.text.items) }
+    ensures ends { (s : PlainScript) → IsRunAs s config.now requests.now rounds bench.old.link → IfOk result (λ e. ScriptEnds s bench.new.link bench.new.service e.status e.text.items) }
+    ensures wanting { (s : PlainScript) → IsRunAs s config.now requests.now rounds bench.old.link → (ended : Result (List PlainMessage) AnError) × HasRun s bench.new.link bench.new.service ended }
 {
     let ended = exchange(
         alloc,

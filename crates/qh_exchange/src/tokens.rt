@@ -7,7 +7,7 @@ ghost use Rattle.qh_spec.specs.TokenLog.{TokenLog as PlainLog, accepts, checked}
 ghost use Rattle.qh_spec.specs.TokenScript.{token_lines, token_report};
 ghost use Rattle.qh_spec.specs.Words.{Tokens, IsCommand};
 ghost use Rattle.qh_script.specs.Tokens.{limits_of, token_of, tokens_of};
-ghost use Rattle.qh_exchange.specs.Program.{Ends, TokensEnd};
+ghost use Rattle.qh_exchange.specs.Program.{Ends, IsAsAtEntry, TokensEnd};
 
 use crate::input::read_text;
 use crate::program::{Ending, line, refused};
@@ -20,8 +20,8 @@ use std::alloc::Global;
 
 /// Reads commands on a token log, and says of each token whether it counts. Nothing is done before all was read.
 pub(crate) fn run_tokens<S: Source>(alloc: Global, source: &mut S) -> Result<Ending, Memory>
-    ensures { (words : List (List ℕ)) (link : PlainLink) (served : List PlainEntry) → IsCommand words Tokens
-        → IfOk result (λ e. Ends words (S.left source.old) (S.left source.new) (S.faults source.old) (S.faults source.new) link served e.status e.text.items) }
+    ensures { (words : List (List ℕ)) (link : PlainLink) (served : List PlainEntry) → IsCommand words Tokens → IsAsAtEntry link link served
+        → IfOk result (λ e. Ends words (S.left source.old) (S.left source.new) (S.faults source.old) (S.faults source.new) link link served e.status e.text.items) }
 {
     match read_text(alloc, source)? {
         Some(text) => run_commands(alloc, &text),

@@ -7,5 +7,4 @@ ask-requires-clause-askable c =
 
 pub returns : goal.returns
 returns c =
-    asked _ _ _ _ _ _ c.requires.some c.in_ok-pair.ensures.running c.in_ok-pair.ensures.clocked c.in_ok-pair.ensures.ids c.in_ok-pair.ensures.config c.in_ok-pair.ensures.limits c.in_ok-pair.ensures.unasked.2
-    c.ask.ensures.rest c.ask.ensures.running c.in_ok-ask.ensures.requests c.ask.ensures.none
+    asked _ _ _ _ _ _ c.requires.some c.of_client.ensures.running c.of_client.ensures.ids c.of_client.ensures.limits c.of_client.ensures.value c.in_ok-ask.ensures.ok c.ask.ensures.unused.2

@@ -5,9 +5,15 @@ use Rattle.qh_spec.specs.Headline.{AnsweredOnce}
 use Rattle.qh_spec.specs.Message.{PlainMessage}
 use Rattle.qh_spec.proofs.HeadlineLaws.{served_nothing}
 use Rattle.qh_exchange.proofs.Turns.{grew_same, never_failed}
-use Rattle.qh_exchange.proofs.RoundsFair.{ends_fairly, list_fairly}
+use Rattle.qh_exchange.proofs.RoundsFair.{fair_by, list_fairly}
 use Rattle.qh_exchange.proofs.AskedLists.{invalid_still, is_invalid, is_nothing, is_something, list_no_link, list_not_idle, list_not_lost, list_not_out, nothing_valid}
-use Rattle.qh_exchange.proofs.ExchangeEnds.{answered_once, count_held, ends_idle, ends_out, held_by, not_invalid, nothing_asked, served_once, tells, was_lost, within_all, within_none}
+use Rattle.qh_spec.specs.Fault.{CountsFaults}
+use Rattle.qh_exchange.specs.Exchange.{IfInvalid, IfOutOfRounds, IfProtocol, IfTimedOut}
+use Rattle.qh_exchange.specs.Rounds.{AreFair, IsRoundsError, RoundsMade}
+use Rattle.qh_exchange.specs.Sound.{EndsFairly}
+use Rattle.qh_exchange.specs.Turn.{has_link_failed}
+use Rattle.std.specs.Prelude.{IfErr, IfOk}
+use Rattle.qh_exchange.proofs.ExchangeEnds.{answered_by, count_by, ends_by, held_by, idle_by, invalid_by, lost_by, nothing_asked, out_by, served_once, tells, within_all, within_none}
 use Rattle.qh_exchange.proofs.exchanges.exchange.Goals as goal
 
 -- ---- an empty list
@@ -28,53 +34,7 @@ returns-then-is_empty-clause-within_announced g c = λ before more te ue. within
 pub returns-then-is_empty-clause-not_valid : goal.returns-then-is_empty-clause-not_valid
 returns-then-is_empty-clause-not_valid g c = λ bad. absurd (bad (nothing_valid _ _ _ _ (is_nothing _ c.if-is_empty.ensures)))
 
--- ---- a list that isn't valid
-
-pub returns-in_err-valid-clause-never_twice : goal.returns-in_err-valid-clause-never_twice
-returns-in_err-valid-clause-never_twice g c = λ events te ue honest. served_nothing _ events c.args.requests.now _
-
-pub returns-in_err-valid-clause-within_announced : goal.returns-in_err-valid-clause-within_announced
-returns-in_err-valid-clause-within_announced g c = λ before more te ue. within_none _ _ _ before more te ue
-
-pub returns-in_err-valid-clause-invalid : goal.returns-in_err-valid-clause-invalid
-returns-in_err-valid-clause-invalid g c =
-    let p = err_from_is_err_and c.from_residual.result c.from_residual.ensures.1 in
-    rw (p.1, p.2) (invalid_still (Unit {0}) (held_by _ _ c.from_residual.result) _ _ _ _ c.in_err-valid.ensures.invalid)
-
-pub returns-in_err-valid-clause-not_valid : goal.returns-in_err-valid-clause-not_valid
-returns-in_err-valid-clause-not_valid g c =
-    let p = err_from_is_err_and c.from_residual.result c.from_residual.ensures.1 in
-    rw (p.1, p.2) (λ bad. (is_invalid (held_by _ _ c.from_residual.result) _ c.in_err-valid.ensures.errors, refl, refl))
-
-pub returns-in_err-valid-clause-empty : goal.returns-in_err-valid-clause-empty
-returns-in_err-valid-clause-empty g c = λ none. absurd (is_something _ c.if-is_empty.ensures none)
-
-pub returns-in_err-valid-clause-cause : goal.returns-in_err-valid-clause-cause
-returns-in_err-valid-clause-cause g c =
-    let p = err_from_is_err_and c.from_residual.result c.from_residual.ensures.1 in
-    rw (p.1, p.2) (never_failed _ _ _ (list_no_link _ c.in_err-valid.ensures.errors) (omega arith))
-
-pub returns-in_err-valid-clause-timed_out : goal.returns-in_err-valid-clause-timed_out
-returns-in_err-valid-clause-timed_out g c =
-    let p = err_from_is_err_and c.from_residual.result c.from_residual.ensures.1 in
-    rw (p.1, p.2) (list_not_idle (held_by _ _ c.from_residual.result) _ _ c.in_err-valid.ensures.errors)
-
-pub returns-in_err-valid-clause-fair : goal.returns-in_err-valid-clause-fair
-returns-in_err-valid-clause-fair g c =
-    let p = err_from_is_err_and c.from_residual.result c.from_residual.ensures.1 in
-    rw (p.1, p.2) (λ events te ue honest. list_fairly (held_by _ _ c.from_residual.result) _ _ events _ c.in_err-valid.ensures.errors)
-
-pub returns-in_err-valid-clause-lost : goal.returns-in_err-valid-clause-lost
-returns-in_err-valid-clause-lost g c =
-    let p = err_from_is_err_and c.from_residual.result c.from_residual.ensures.1 in
-    rw (p.1, p.2) (list_not_lost (held_by _ _ c.from_residual.result) _ _ c.in_err-valid.ensures.errors)
-
-pub returns-in_err-valid-clause-out_of_rounds : goal.returns-in_err-valid-clause-out_of_rounds
-returns-in_err-valid-clause-out_of_rounds g c =
-    let p = err_from_is_err_and c.from_residual.result c.from_residual.ensures.1 in
-    rw (p.1, p.2) (list_not_out (held_by _ _ c.from_residual.result) _ _ c.in_err-valid.ensures.errors)
-
--- ---- no memory for the pair
+-- ---- a list that isn't valid, or no memory for the pair
 
 pub returns-in_err-pair-clause-never_twice : goal.returns-in_err-pair-clause-never_twice
 returns-in_err-pair-clause-never_twice g c = λ events te ue honest. served_nothing _ events c.args.requests.now _
@@ -82,104 +42,101 @@ returns-in_err-pair-clause-never_twice g c = λ events te ue honest. served_noth
 pub returns-in_err-pair-clause-within_announced : goal.returns-in_err-pair-clause-within_announced
 returns-in_err-pair-clause-within_announced g c = λ before more te ue. within_none _ _ _ before more te ue
 
--- ---- the rounds ended without all answers
+pub returns-in_err-pair-clause-invalid : goal.returns-in_err-pair-clause-invalid
+returns-in_err-pair-clause-invalid g c =
+    let p = err_from_is_err_and c.from_residual.result c.from_residual.ensures.1 in
+    rw (p.1, p.2) (invalid_still (Unit {0}) (held_by _ _ c.from_residual.result) _ _ _ _ c.in_err-pair.ensures.invalid)
 
-pub returns-in_err-make_rounds-clause-told : goal.returns-in_err-make_rounds-clause-told
-returns-in_err-make_rounds-clause-told g c = tells _ _ _ _ _ _ c.in_ok-pair.ensures.running c.make_rounds.ensures.made.goes
+pub returns-in_err-pair-clause-not_valid : goal.returns-in_err-pair-clause-not_valid
+returns-in_err-pair-clause-not_valid g c =
+    let p = err_from_is_err_and c.from_residual.result c.from_residual.ensures.1 in
+    rw (p.1, p.2) (λ bad. (is_invalid (held_by _ _ c.from_residual.result) _ c.in_err-pair.ensures.errors, refl, refl))
 
-pub returns-in_err-make_rounds-clause-never_twice : goal.returns-in_err-make_rounds-clause-never_twice
-returns-in_err-make_rounds-clause-never_twice g c = served_once c.pairs.ensures.honest _ _ _ _ _ _ _ _ c.in_ok-pair.ensures.running c.in_ok-pair.ensures.asked c.in_ok-pair.ensures.ids c.make_rounds.ensures.made.goes
+pub returns-in_err-pair-clause-empty : goal.returns-in_err-pair-clause-empty
+returns-in_err-pair-clause-empty g c = λ none. absurd (is_something _ c.if-is_empty.ensures none)
 
-pub returns-in_err-make_rounds-clause-within_announced : goal.returns-in_err-make_rounds-clause-within_announced
-returns-in_err-make_rounds-clause-within_announced g c = within_all c.pairs.ensures.within _ _ _ _ _ _ _ _ c.in_ok-pair.ensures.running c.in_ok-pair.ensures.ids c.in_ok-pair.ensures.config_is c.make_rounds.ensures.made.goes
+pub returns-in_err-pair-clause-cause : goal.returns-in_err-pair-clause-cause
+returns-in_err-pair-clause-cause g c =
+    let p = err_from_is_err_and c.from_residual.result c.from_residual.ensures.1 in
+    rw (p.1, p.2) (never_failed _ _ _ (list_no_link _ c.in_err-pair.ensures.errors) (omega arith))
 
-pub returns-in_err-make_rounds-clause-answers : goal.returns-in_err-make_rounds-clause-answers
-returns-in_err-make_rounds-clause-answers g c = grew_same g.V.Service.may_answer _ _ _ _ c.in_ok-pair.ensures.limits_are c.make_rounds.ensures.answered
+pub returns-in_err-pair-clause-timed_out : goal.returns-in_err-pair-clause-timed_out
+returns-in_err-pair-clause-timed_out g c =
+    let p = err_from_is_err_and c.from_residual.result c.from_residual.ensures.1 in
+    rw (p.1, p.2) (list_not_idle (held_by _ _ c.from_residual.result) _ _ c.in_err-pair.ensures.errors)
 
-pub returns-in_err-make_rounds-clause-not_valid : goal.returns-in_err-make_rounds-clause-not_valid
-returns-in_err-make_rounds-clause-not_valid g c = λ bad. absurd (bad c.in_ok-valid.ensures.ok)
+pub returns-in_err-pair-clause-fair : goal.returns-in_err-pair-clause-fair
+returns-in_err-pair-clause-fair g c =
+    let p = err_from_is_err_and c.from_residual.result c.from_residual.ensures.1 in
+    rw (p.1, p.2) (λ events te ue honest. list_fairly (held_by _ _ c.from_residual.result) _ _ events _ c.in_err-pair.ensures.errors)
 
-pub returns-in_err-make_rounds-clause-empty : goal.returns-in_err-make_rounds-clause-empty
-returns-in_err-make_rounds-clause-empty g c = λ none. absurd (is_something _ c.if-is_empty.ensures none)
+pub returns-in_err-pair-clause-lost : goal.returns-in_err-pair-clause-lost
+returns-in_err-pair-clause-lost g c =
+    let p = err_from_is_err_and c.from_residual.result c.from_residual.ensures.1 in
+    rw (p.1, p.2) (list_not_lost (held_by _ _ c.from_residual.result) _ _ c.in_err-pair.ensures.errors)
 
--- ---- no memory for the answers
+pub returns-in_err-pair-clause-out_of_rounds : goal.returns-in_err-pair-clause-out_of_rounds
+returns-in_err-pair-clause-out_of_rounds g c =
+    let p = err_from_is_err_and c.from_residual.result c.from_residual.ensures.1 in
+    rw (p.1, p.2) (list_not_out (held_by _ _ c.from_residual.result) _ _ c.in_err-pair.ensures.errors)
 
-pub returns-in_err-into_answers-clause-told : goal.returns-in_err-into_answers-clause-told
-returns-in_err-into_answers-clause-told g c = tells _ _ _ _ _ _ c.in_ok-pair.ensures.running c.make_rounds.ensures.made.goes
-
-pub returns-in_err-into_answers-clause-never_twice : goal.returns-in_err-into_answers-clause-never_twice
-returns-in_err-into_answers-clause-never_twice g c = served_once c.pairs.ensures.honest _ _ _ _ _ _ _ _ c.in_ok-pair.ensures.running c.in_ok-pair.ensures.asked c.in_ok-pair.ensures.ids c.make_rounds.ensures.made.goes
-
-pub returns-in_err-into_answers-clause-within_announced : goal.returns-in_err-into_answers-clause-within_announced
-returns-in_err-into_answers-clause-within_announced g c = within_all c.pairs.ensures.within _ _ _ _ _ _ _ _ c.in_ok-pair.ensures.running c.in_ok-pair.ensures.ids c.in_ok-pair.ensures.config_is c.make_rounds.ensures.made.goes
-
-pub returns-in_err-into_answers-clause-answers : goal.returns-in_err-into_answers-clause-answers
-returns-in_err-into_answers-clause-answers g c = grew_same g.V.Service.may_answer _ _ _ _ c.in_ok-pair.ensures.limits_are c.make_rounds.ensures.answered
-
-pub returns-in_err-into_answers-clause-not_valid : goal.returns-in_err-into_answers-clause-not_valid
-returns-in_err-into_answers-clause-not_valid g c = λ bad. absurd (bad c.in_ok-valid.ensures.ok)
-
-pub returns-in_err-into_answers-clause-empty : goal.returns-in_err-into_answers-clause-empty
-returns-in_err-into_answers-clause-empty g c = λ none. absurd (is_something _ c.if-is_empty.ensures none)
-
--- ---- all answers
+-- ---- the rounds were made, and ended so
 
 pub returns-clause-told : goal.returns-clause-told
-returns-clause-told g c = tells _ _ _ _ _ _ c.in_ok-pair.ensures.running c.make_rounds.ensures.made.goes
+returns-clause-told g c = tells _ _ _ _ _ _ c.in_ok-pair.ensures.asked.running c.make_rounds-made.ensures.made.goes
 
 pub returns-clause-never_twice : goal.returns-clause-never_twice
-returns-clause-never_twice g c = served_once c.pairs.ensures.honest _ _ _ _ _ _ _ _ c.in_ok-pair.ensures.running c.in_ok-pair.ensures.asked c.in_ok-pair.ensures.ids c.make_rounds.ensures.made.goes
+returns-clause-never_twice g c = served_once c.pairs.ensures.honest _ _ _ _ _ _ _ _ c.in_ok-pair.ensures.asked.running c.in_ok-pair.ensures.asked.asked c.in_ok-pair.ensures.asked.ids c.make_rounds-made.ensures.made.goes
 
 pub returns-clause-within_announced : goal.returns-clause-within_announced
-returns-clause-within_announced g c = within_all c.pairs.ensures.within _ _ _ _ _ _ _ _ c.in_ok-pair.ensures.running c.in_ok-pair.ensures.ids c.in_ok-pair.ensures.config_is c.make_rounds.ensures.made.goes
+returns-clause-within_announced g c = within_all c.pairs.ensures.within _ _ _ _ _ _ _ _ c.in_ok-pair.ensures.asked.running c.in_ok-pair.ensures.asked.ids c.in_ok-pair.ensures.asked.config_is c.make_rounds-made.ensures.made.goes
 
 pub returns-clause-answers : goal.returns-clause-answers
-returns-clause-answers g c = grew_same g.V.Service.may_answer _ _ _ _ c.in_ok-pair.ensures.limits_are c.make_rounds.ensures.answered
+returns-clause-answers g c = grew_same g.V.Service.may_answer _ _ _ _ c.in_ok-pair.ensures.asked.limits_are c.make_rounds-made.ensures.answered
 
 pub returns-clause-not_valid : goal.returns-clause-not_valid
-returns-clause-not_valid g c = λ bad. absurd (bad c.in_ok-valid.ensures.ok)
+returns-clause-not_valid g c = λ bad. absurd (bad c.in_ok-pair.ensures.valid)
 
 pub returns-clause-empty : goal.returns-clause-empty
 returns-clause-empty g c = λ none. absurd (is_something _ c.if-is_empty.ensures none)
 
--- ---- why the rounds ended
+pub returns-clause-invalid : goal.returns-clause-invalid
+returns-clause-invalid g c = invalid_by c.make_rounds-made.result c.answers_of.result _ c.answers_of.ensures.ends c.make_rounds-made.ensures.made.errors
 
-pub returns-in_err-make_rounds-clause-invalid : goal.returns-in_err-make_rounds-clause-invalid
-returns-in_err-make_rounds-clause-invalid g c =
-    let p = err_from_is_err_and c.from_residual-in_err-make_rounds.result c.from_residual-in_err-make_rounds.ensures.1 in
-    rw (p.1, p.2) (not_invalid (held_by _ _ c.from_residual-in_err-make_rounds.result) _ _ c.in_err-make_rounds.ensures.made.errors)
+pub returns-clause-cause : goal.returns-clause-cause
+returns-clause-cause g c =
+    ends_by c.make_rounds-made.result c.answers_of.result (λ z. CountsFaults (g.L.Link.faults c.args.link.now) (g.L.Link.faults c.make_rounds-made.new.link) (has_link_failed z)) c.answers_of.ensures.ends
+    (λ e is. subst (λ z. CountsFaults (g.L.Link.faults c.args.link.now) (g.L.Link.faults c.make_rounds-made.new.link) (has_link_failed z)) is c.make_rounds-made.ensures.cause)
+    (λ u is. subst (λ z. CountsFaults (g.L.Link.faults c.args.link.now) (g.L.Link.faults c.make_rounds-made.new.link) (has_link_failed z)) is c.make_rounds-made.ensures.cause)
+    (λ x u is ok. subst (λ z. CountsFaults (g.L.Link.faults c.args.link.now) (g.L.Link.faults c.make_rounds-made.new.link) (has_link_failed z)) is c.make_rounds-made.ensures.cause)
 
-pub returns-in_err-make_rounds-clause-cause : goal.returns-in_err-make_rounds-clause-cause
-returns-in_err-make_rounds-clause-cause g c =
-    let p = err_from_is_err_and c.from_residual-in_err-make_rounds.result c.from_residual-in_err-make_rounds.ensures.1 in
-    rw (p.1, p.2) c.in_err-make_rounds.ensures.cause
+pub returns-clause-timed_out : goal.returns-clause-timed_out
+returns-clause-timed_out g c =
+    idle_by c.make_rounds-made.result c.answers_of.result c.in_ok-pair.pair _ _ _ c.answers_of.ensures.ends c.in_ok-pair.ensures.asked.config_is c.make_rounds-made.ensures.made.timed_out
 
-pub returns-in_err-make_rounds-clause-timed_out : goal.returns-in_err-make_rounds-clause-timed_out
-returns-in_err-make_rounds-clause-timed_out g c =
-    let p = err_from_is_err_and c.from_residual-in_err-make_rounds.result c.from_residual-in_err-make_rounds.ensures.1 in
-    rw (p.1, p.2) (ends_idle (held_by _ _ c.from_residual-in_err-make_rounds.result) _ _ _ _ _ (ap (λ (z : ConnConfig). z.idle) c.in_ok-pair.ensures.config_is) c.in_err-make_rounds.ensures.made.timed_out)
+pub returns-clause-fair : goal.returns-clause-fair
+returns-clause-fair g c =
+    fair_by c.make_rounds-made.result c.answers_of.result _ _ _ _ _ _ c.answers_of.ensures.ends c.in_ok-pair.ensures.asked.running c.in_ok-pair.ensures.asked.ids c.in_ok-pair.ensures.asked.config_is
+    c.make_rounds-made.ensures.fair
 
-pub returns-in_err-make_rounds-clause-fair : goal.returns-in_err-make_rounds-clause-fair
-returns-in_err-make_rounds-clause-fair g c =
-    let p = err_from_is_err_and c.from_residual-in_err-make_rounds.result c.from_residual-in_err-make_rounds.ensures.1 in
-    rw (p.1, p.2) (ends_fairly (held_by _ _ c.from_residual-in_err-make_rounds.result) _ _ _ _ _ _ _ c.in_ok-pair.ensures.running c.in_ok-pair.ensures.ids c.in_ok-pair.ensures.config_is c.in_err-make_rounds.ensures.fair)
+pub returns-clause-lost : goal.returns-clause-lost
+returns-clause-lost g c =
+    lost_by c.make_rounds-made.result c.answers_of.result _ _ _ _ _ _ _ c.answers_of.ensures.ends c.in_ok-pair.ensures.asked.running c.in_ok-pair.ensures.asked.asked
+    c.make_rounds-made.ensures.made.requests c.make_rounds-made.ensures.made.goes c.make_rounds-made.ensures.made.lost
 
-pub returns-in_err-make_rounds-clause-lost : goal.returns-in_err-make_rounds-clause-lost
-returns-in_err-make_rounds-clause-lost g c =
-    let p = err_from_is_err_and c.from_residual-in_err-make_rounds.result c.from_residual-in_err-make_rounds.ensures.1 in
-    rw (p.1, p.2) (was_lost (Unit {0}) (held_by _ _ c.from_residual-in_err-make_rounds.result) _ _ _ _ _ _ _ _ c.in_ok-pair.ensures.running c.in_ok-pair.ensures.asked c.in_err-make_rounds.ensures.made.requests c.in_err-make_rounds.ensures.made.goes c.in_err-make_rounds.ensures.made.lost)
-
-pub returns-in_err-make_rounds-clause-out_of_rounds : goal.returns-in_err-make_rounds-clause-out_of_rounds
-returns-in_err-make_rounds-clause-out_of_rounds g c =
-    let p = err_from_is_err_and c.from_residual-in_err-make_rounds.result c.from_residual-in_err-make_rounds.ensures.1 in
-    rw (p.1, p.2) (ends_out (held_by _ _ c.from_residual-in_err-make_rounds.result) _ _ _ _ _ _ _ _ _ _ _ (is_something _ c.if-is_empty.ensures) c.in_ok-pair.ensures.running c.in_ok-pair.ensures.asked c.in_err-make_rounds.ensures.made)
+pub returns-clause-out_of_rounds : goal.returns-clause-out_of_rounds
+returns-clause-out_of_rounds g c =
+    out_by c.make_rounds-made.result c.answers_of.result _ _ _ _ _ _ _ _ _ _ c.answers_of.ensures.ends (is_something _ c.if-is_empty.ensures) c.in_ok-pair.ensures.asked.running
+    c.in_ok-pair.ensures.asked.asked c.make_rounds-made.ensures.made
 
 -- ---- the answers
 
 pub returns-clause-answered_once : goal.returns-clause-answered_once
 returns-clause-answered_once g c =
-    answered_once c.pairs.ensures.honest _ _ _ _ _ _ _ _ _ c.in_ok-pair.ensures.running c.in_ok-pair.ensures.asked c.in_ok-pair.ensures.ids c.make_rounds.ensures.made.goes
-    (count_held _ _ _ (c.in_ok-into_answers.ensures c.in_ok-make_rounds.ensures.made.all) c.in_ok-make_rounds.ensures.made.all ∙ ap length (c.in_ok-make_rounds.ensures.made.requests ∙ c.in_ok-pair.ensures.asked)) (c.in_ok-into_answers.ensures c.in_ok-make_rounds.ensures.made.all)
+    answered_by (λ v. v.items) c.make_rounds-made.result c.answers_of.result c.pairs.ensures.honest _ _ _ _ _ _ _ _ c.answers_of.ensures.ends c.in_ok-pair.ensures.asked.running c.in_ok-pair.ensures.asked.asked
+    c.in_ok-pair.ensures.asked.ids c.make_rounds-made.ensures.made.goes c.make_rounds-made.ensures.made.requests c.make_rounds-made.ensures.made.all c.answers_of.ensures.answers
 
 pub returns-clause-count : goal.returns-clause-count
-returns-clause-count g c = count_held _ _ _ (c.in_ok-into_answers.ensures c.in_ok-make_rounds.ensures.made.all) c.in_ok-make_rounds.ensures.made.all ∙ ap length (c.in_ok-make_rounds.ensures.made.requests ∙ c.in_ok-pair.ensures.asked)
+returns-clause-count g c =
+    count_by (λ v. v.items) c.make_rounds-made.result c.answers_of.result c.in_ok-pair.pair c.make_rounds-made.new.pair _ c.answers_of.ensures.ends c.in_ok-pair.ensures.asked.asked c.make_rounds-made.ensures.made.requests
+    c.make_rounds-made.ensures.made.all c.answers_of.ensures.answers

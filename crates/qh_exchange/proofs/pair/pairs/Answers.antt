@@ -6,4 +6,4 @@ pub returns-clause-honest : goal.returns-clause-honest
 returns-clause-honest c = means c.lawful.ensures.faithful
 
 pub returns-clause-within : goal.returns-clause-within
-returns-clause-within c = keeps_within c.lawful.ensures.faithful c.lawful.ensures.within
+returns-clause-within c = keeps_within c.lawful.ensures.within

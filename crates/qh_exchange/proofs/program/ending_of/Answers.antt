@@ -1,4 +1,4 @@
-use Rattle.std.proofs.Common.{map, sym, subst}
+use Rattle.std.proofs.Common.{map, refl, sym, subst}
 use Rattle.std.specs.Prelude.{string_bytes}
 use Rattle.qh_script.specs.declared.command.Command.{Command}
 use Rattle.qh_script.specs.Command.{plain_command}
@@ -8,17 +8,17 @@ use Rattle.qh_exchange.proofs.program.ending_of.Goals as goal
 
 pub returns-in-None-clause-ends : goal.returns-in-None-clause-ends
 returns-in-None-clause-ends g c =
-    ends_as _ (Ends (map string_bytes c.args.words.now) (g.S.Source.left c.args.source.now) (g.S.Source.left c.args.source.now) (g.S.Source.faults c.args.source.now) (g.S.Source.faults c.args.source.now) c.args.bench.now.link c.args.bench.now.service)
-    _ _ (usage c.in-None.ensures) c.line-in-None.ensures
+    ends_as _ (Ends (map string_bytes c.args.words.now) (g.S.Source.left c.args.source.now) (g.S.Source.left c.args.source.now) (g.S.Source.faults c.args.source.now) (g.S.Source.faults c.args.source.now) c.args.bench.now.link c.args.bench.now.link c.args.bench.now.service)
+    _ _ (usage c.in-None.ensures (record { link_is = refl; served_none = c.requires })) c.line-in-None.ensures
 
 pub returns-in-Some-Make-clause-ends : goal.returns-in-Some-Make-clause-ends
 returns-in-Some-Make-clause-ends g c =
     let other = subst (λ (k : Command). IsOther (plain_command k)) (sym c.in-Some-Make.field-0-is) other_make in
-    ends_as _ (Ends (map string_bytes c.args.words.now) (g.S.Source.left c.args.source.now) (g.S.Source.left c.args.source.now) (g.S.Source.faults c.args.source.now) (g.S.Source.faults c.args.source.now) c.args.bench.now.link c.args.bench.now.service)
-    _ _ (unbuilt_words _ c.in-Some-Make.ensures other.0 other.1) c.line.ensures
+    ends_as _ (Ends (map string_bytes c.args.words.now) (g.S.Source.left c.args.source.now) (g.S.Source.left c.args.source.now) (g.S.Source.faults c.args.source.now) (g.S.Source.faults c.args.source.now) c.args.bench.now.link c.args.bench.now.link c.args.bench.now.service)
+    _ _ (unbuilt_words _ c.in-Some-Make.ensures other.0 other.1 (record { link_is = refl; served_none = c.requires })) c.line.ensures
 
 pub returns-in-Some-Workers-clause-ends : goal.returns-in-Some-Workers-clause-ends
 returns-in-Some-Workers-clause-ends g c =
     let other = subst (λ (k : Command). IsOther (plain_command k)) (sym c.in-Some-Workers.field-0-is) other_workers in
-    ends_as _ (Ends (map string_bytes c.args.words.now) (g.S.Source.left c.args.source.now) (g.S.Source.left c.args.source.now) (g.S.Source.faults c.args.source.now) (g.S.Source.faults c.args.source.now) c.args.bench.now.link c.args.bench.now.service)
-    _ _ (unbuilt_words _ c.in-Some-Workers.ensures other.0 other.1) c.line-in-Some-Workers.ensures
+    ends_as _ (Ends (map string_bytes c.args.words.now) (g.S.Source.left c.args.source.now) (g.S.Source.left c.args.source.now) (g.S.Source.faults c.args.source.now) (g.S.Source.faults c.args.source.now) c.args.bench.now.link c.args.bench.now.link c.args.bench.now.service)
+    _ _ (unbuilt_words _ c.in-Some-Workers.ensures other.0 other.1 (record { link_is = refl; served_none = c.requires })) c.line-in-Some-Workers.ensures

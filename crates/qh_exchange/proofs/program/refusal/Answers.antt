@@ -5,19 +5,19 @@ use Rattle.qh_exchange.proofs.Endings.{ends_as, one_unbuilt}
 use Rattle.qh_exchange.proofs.program.refusal.Goals as goal
 
 pub returns-in-Some : goal.returns-in-Some
-returns-in-Some c = λ link served.
-    ends_as _ (TextEnds c.args.text.now link served) _ _
+returns-in-Some c = λ before link served same.
+    ends_as _ (TextEnds c.args.text.now before link served) _ _
     (unbuilt c.in-Some.unbuilt c.in-Some.ensures
-    (λ m r. let e = refused_one c.args.text.now m c.args.number r c.requires in let l = c.if-unbuilt-number.true in omega (arith, e, l)))
+    (λ m r. let e = refused_one c.args.text.now m c.args.number r c.requires in let l = c.if-unbuilt-number.true in omega (arith, e, l)) same)
     c.line.ensures
 
 pub returns-in-Some-2 : goal.returns-in-Some-2
-returns-in-Some-2 c = λ link served.
-    ends_as _ (TextEnds c.args.text.now link served) _ _
+returns-in-Some-2 c = λ before link served same.
+    ends_as _ (TextEnds c.args.text.now before link served) _ _
     (refused c.args.number c.requires
-    (λ m u. let e = one_unbuilt c.args.text.now m c.in-Some.unbuilt u c.in-Some.ensures in let l = c.if-unbuilt-number.false in omega (arith, e, l)))
+    (λ m u. let e = one_unbuilt c.args.text.now m c.in-Some.unbuilt u c.in-Some.ensures in let l = c.if-unbuilt-number.false in omega (arith, e, l)) same)
     c.refused.ensures
 
 pub returns-in-None : goal.returns-in-None
-returns-in-None c = λ link served.
-    ends_as _ (TextEnds c.args.text.now link served) _ _ (refused c.args.number c.requires (λ m u. absurd (c.in-None.ensures m u))) c.refused-in-None.ensures
+returns-in-None c = λ before link served same.
+    ends_as _ (TextEnds c.args.text.now before link served) _ _ (refused c.args.number c.requires (λ m u. absurd (c.in-None.ensures m u)) same) c.refused-in-None.ensures
