@@ -5,6 +5,7 @@ use qh_base::Memory;
 use qh_buffers::{Assembler, Chunk};
 use row_text::{RowFault, Words, put_bytes, put_number, put_text};
 use std::alloc::Global;
+use std::mem;
 
 // Bytes in these rows end before this offset.
 const END: u64 = 1 << 32;
@@ -30,7 +31,7 @@ impl Pieces {
         out: &mut Vec<u8>,
     ) -> Result<(), RowFault> {
         match words.next() {
-            "new" => *self = Pieces::new(alloc),
+            "new" => drop(mem::replace(self, Pieces::new(alloc))),
             "insert" => self.insert_all(alloc, words)?,
             "many" => self.insert_many(alloc, words)?,
             "clear" => self.assembler.clear(),
@@ -84,7 +85,11 @@ impl Pieces {
         let most = words.number()? as usize;
         for piece in 0..u64::MAX {
             match self.read(most, ordered)? {
-                Some(chunk) => put_chunk(out, piece, &chunk)?,
+                Some(chunk) => {
+                    let told = put_chunk(out, piece, &chunk);
+                    drop(chunk);
+                    told?;
+                }
                 None if piece == 0 => return Ok(put_text(out, "nothing")?),
                 None => return Ok(()),
             }

@@ -5,6 +5,7 @@ use qh_base::{Memory, Side};
 use qh_link::{Event, Link, LinkFault, MAX_DATAGRAM, ScriptLink, Select, Upset, is_valid_upset};
 use row_text::{RowFault, Words, put_text};
 use std::alloc::Global;
+use std::mem;
 
 /// A link.
 #[derive(Drop)]
@@ -29,7 +30,8 @@ impl Way {
     ) -> Result<(), RowFault> {
         match words.next() {
             "new" => {
-                *self = Way::new(alloc, words.number()?);
+                let way = Way::new(alloc, words.number()?);
+                drop(mem::replace(self, way));
                 Ok(put_text(out, "new")?)
             }
             "play" => self.play(alloc, words.rest(), out),

@@ -4,6 +4,7 @@ use qh_base::{Memory, Moment, Span};
 use qh_recovery::{SentPacket, SentPackets};
 use row_text::{RowFault, Words, put_number, put_text};
 use std::alloc::Global;
+use std::mem;
 
 /// The packets that are out, each with its own number as its one frame.
 #[derive(Drop)]
@@ -26,7 +27,7 @@ impl Packets {
         out: &mut Vec<u8>,
     ) -> Result<(), RowFault> {
         match words.next() {
-            "new" => *self = Packets::new(alloc),
+            "new" => drop(mem::replace(self, Packets::new(alloc))),
             "add" => self.add(alloc, words)?,
             "many" => self.add_many(alloc, words.number()?)?,
             "acked" => self.take_acked(words.number()?, words.number()?, out)?,

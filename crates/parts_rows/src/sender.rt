@@ -4,6 +4,7 @@ use bytes::Bytes;
 use qh_buffers::SendBuffer;
 use row_text::{RowFault, Words, put_bytes, put_text};
 use std::alloc::Global;
+use std::mem;
 use std::ops::Range;
 
 // What a buffer takes in these rows ends before this offset.
@@ -41,7 +42,7 @@ impl Sender {
         out: &mut Vec<u8>,
     ) -> Result<(), RowFault> {
         match words.next() {
-            "new" => *self = Sender::new(alloc),
+            "new" => drop(mem::replace(self, Sender::new(alloc))),
             "write" => self.write(alloc, 1, words)?,
             "writes" => {
                 let count = words.number()?;

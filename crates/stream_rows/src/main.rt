@@ -22,6 +22,7 @@ use role::Role;
 use row_text::{RowFault, Table, Words, put_number, put_text, run};
 use settings::{Settings, USUAL};
 use std::alloc::Global;
+use std::mem;
 use std::process::ExitCode;
 use streams::StreamsPair;
 
@@ -109,15 +110,19 @@ impl Stories {
         self.kind = kind;
         match kind {
             Kind::Connection => self.connect(alloc, &settings)?,
-            Kind::Streams => self.streams = StreamsPair::new(alloc, &settings),
+            Kind::Streams => {
+                let streams = StreamsPair::new(alloc, &settings);
+                drop(mem::replace(&mut self.streams, streams));
+            }
         }
         put_ok(out)
     }
 
     // Makes fresh ends of a connection.
     fn connect(&mut self, alloc: Global, settings: &Settings) -> Result<(), RowFault> {
-        self.pair = Pair::new(alloc, settings)?;
-        self.role = Role::new(alloc);
+        let pair = Pair::new(alloc, settings)?;
+        drop(mem::replace(&mut self.pair, pair));
+        drop(mem::replace(&mut self.role, Role::new(alloc)));
         Ok(())
     }
 

@@ -34,7 +34,9 @@ fn tell_valid(alloc: Global, out: &mut Vec<u8>, words: &mut Words<'_>) -> Answer
     let section = words.number()?;
     let body = words.number()?;
     let message = message(alloc, words)?;
-    put_bool(out, is_valid(section, body, &message)?)
+    let valid = is_valid(section, body, &message);
+    drop(message);
+    put_bool(out, valid?)
 }
 
 fn is_valid(section: u64, body: u64, message: &Message) -> Result<bool, RowFault> {
@@ -46,7 +48,9 @@ fn tell_fault(alloc: Global, out: &mut Vec<u8>, words: &mut Words<'_>) -> Answer
     let most = words.number()?;
     let section = words.number()?;
     let requests = requests(alloc, words)?;
-    match first_fault(most, section, &requests)? {
+    let fault = first_fault(most, section, &requests);
+    drop(requests);
+    match fault? {
         Some(index) => put_named(out, "request", index as u64),
         None => put(out, "none"),
     }
@@ -70,8 +74,14 @@ fn first_fault(most: u64, section: u64, requests: &[Message]) -> Result<Option<u
 // Tells of each field of a section whether it can be read.
 fn tell_readable(alloc: Global, out: &mut Vec<u8>, words: &mut Words<'_>) -> Answer {
     let fields = known_section(alloc, words)?;
+    let told = put_readable(alloc, out, &fields);
+    drop(fields);
+    told
+}
+
+fn put_readable(alloc: Global, out: &mut Vec<u8>, fields: &[FieldLine]) -> Answer {
     put(out, "readable:")?;
-    for field in &fields {
+    for field in fields {
         put(
             out,
             if can_be_read(alloc, field)? {
@@ -98,19 +108,34 @@ fn can_be_read(alloc: Global, field: &FieldLine) -> Result<bool, RowFault> {
 fn tell_spelling(alloc: Global, out: &mut Vec<u8>, words: &mut Words<'_>) -> Answer {
     let bytes = words.bytes(alloc)?;
     let message = message(alloc, words)?;
-    put_bool(out, is_spelled(alloc, &bytes, &message)?)
+    let spelled = is_spelled(alloc, &bytes, &message);
+    drop(message);
+    put_bool(out, spelled?)
 }
 
 // Tells whether a section means the head of a message, or its fields.
 fn tell_meaning(alloc: Global, out: &mut Vec<u8>, word: &str, words: &mut Words<'_>) -> Answer {
     let fields = known_section(alloc, words)?;
+    let means = means_message(alloc, word, words, &fields);
+    drop(fields);
+    put_bool(out, means?)
+}
+
+// Whether the fields mean the head of the message that the words tell, or its fields.
+fn means_message(
+    alloc: Global,
+    word: &str,
+    words: &mut Words<'_>,
+    fields: &[FieldLine],
+) -> Result<bool, RowFault> {
     let message = message(alloc, words)?;
     let means = if word == "means-head" {
-        has_head(alloc, &fields, &message)?
+        has_head(alloc, fields, &message)
     } else {
-        has_fields(alloc, &fields, &message)?
+        has_fields(alloc, fields, &message)
     };
-    put_bool(out, means)
+    drop(message);
+    means
 }
 
 fn is_spelled(alloc: Global, bytes: &[u8], message: &Message) -> Result<bool, RowFault> {
@@ -129,8 +154,22 @@ fn has_fields(alloc: Global, fields: &[FieldLine], message: &Message) -> Result<
 fn tell_whole(alloc: Global, out: &mut Vec<u8>, words: &mut Words<'_>) -> Answer {
     let asked = read_asked(words)?;
     let message = message(alloc, words)?;
+    let whole = is_whole_behind(alloc, asked, &message, words);
+    drop(message);
+    put_bool(out, whole?)
+}
+
+// Whether the message is whole in the datagrams that the words tell.
+fn is_whole_behind(
+    alloc: Global,
+    asked: Asked,
+    message: &Message,
+    words: &mut Words<'_>,
+) -> Result<bool, RowFault> {
     let datagrams = datagrams(alloc, words)?;
-    put_bool(out, is_whole_in(alloc, asked, &message, &datagrams)?)
+    let whole = is_whole_in(alloc, asked, message, &datagrams);
+    drop(datagrams);
+    whole
 }
 
 fn is_whole_in(

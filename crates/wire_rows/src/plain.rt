@@ -49,8 +49,14 @@ fn tell_frames(out: &mut Vec<u8>, found: Option<Vec<HttpFrame>>) -> Answer {
     let Some(frames) = found else {
         return put(out, "no frames");
     };
+    let told = put_all_frames(out, &frames);
+    drop(frames);
+    told
+}
+
+fn put_all_frames(out: &mut Vec<u8>, frames: &[HttpFrame]) -> Answer {
     put(out, "frames")?;
-    for frame in &frames {
+    for frame in frames {
         put(out, " ")?;
         put_hex_number(out, frame.kind())?;
         put(out, " ")?;
@@ -67,6 +73,12 @@ fn tell_parts(out: &mut Vec<u8>, found: Option<MessageParts>) -> Answer {
     let Some(parts) = found else {
         return put(out, "no message");
     };
+    let told = put_parts(out, &parts);
+    drop(parts);
+    told
+}
+
+fn put_parts(out: &mut Vec<u8>, parts: &MessageParts) -> Answer {
     put(out, "section ")?;
     put_content(out, &parts.section)?;
     put(out, " body ")?;
@@ -87,8 +99,14 @@ fn tell_section(out: &mut Vec<u8>, found: Option<Vec<FieldLine>>) -> Answer {
     let Some(fields) = found else {
         return put(out, "no section");
     };
+    let told = put_fields(out, &fields);
+    drop(fields);
+    told
+}
+
+fn put_fields(out: &mut Vec<u8>, fields: &[FieldLine]) -> Answer {
     put(out, "fields")?;
-    for field in &fields {
+    for field in fields {
         put_field(out, field.name(), field.value())?;
     }
     Ok(())
@@ -103,8 +121,14 @@ fn tell_packets(alloc: Global, out: &mut Vec<u8>, words: &mut Words<'_>) -> Answ
     let id_length = words.number()?;
     let bytes = words.bytes(alloc)?;
     let packets = packets_in(alloc, id_length, &bytes)?;
+    let told = put_packets(out, &packets);
+    drop(packets);
+    told
+}
+
+fn put_packets(out: &mut Vec<u8>, packets: &[Packet]) -> Answer {
     put(out, "packets")?;
-    for packet in &packets {
+    for packet in packets {
         put_packet(out, packet)?;
         put_frames(out, packet.frames())?;
     }
@@ -164,7 +188,9 @@ fn tell_changed(alloc: Global, out: &mut Vec<u8>, words: &mut Words<'_>) -> Answ
     for place in 0..bytes.len() {
         flip(&mut bytes, place, mask);
         let packets = packets_in(alloc, id_length, &bytes)?;
-        put_found(out, place as u64, &packets)?;
+        let told = put_found(out, place as u64, &packets);
+        drop(packets);
+        told?;
         flip(&mut bytes, place, mask);
     }
     Ok(())
