@@ -2,3 +2,4 @@ pub mod ConnectionId
 pub mod ConnectionIdInverse
 pub mod Io
 pub mod Varint
+pub mod Standard

@@ -1,4 +1,8 @@
-ghost use Rattle.std.specs.Prelude.{None, ◌≤◌, length, IfOk};
+ghost use Rattle.std.specs.Prelude.{◌≡◌, ◌<◌, ◌≤◌, length, take, is_err, None, IfOk, OnErr};
+ghost use Rattle.std.specs.Io.KnownBytes.{Appends, Consumes, IsAtEnd, Keeps, ReadConsumes, WriteAppends};
+ghost use Rattle.qh_spec.specs.Fault.{CountsFaults};
+ghost use Rattle.qh_base.specs.Io.{moves_none};
+ghost use Rattle.qh_base.specs.Standard.{reader_of, writer_of};
 
 use super::{Failed, Sink, Source};
 use std::io::{ErrorKind, Read, Write};
@@ -13,7 +17,10 @@ pub struct StdSource<R> {
 
 impl<R> StdSource<R> {
     /// A source that has not failed yet.
-    pub fn new(inner: R) -> StdSource<R> {
+    pub fn new(inner: R) -> StdSource<R>
+        ensures reader { reader_of result ≡ inner }
+        ensures faults { result.faults ≡ 0 }
+    {
         StdSource { inner, faults: 0 }
     }
 }
@@ -23,7 +30,12 @@ impl<R: Read> Source for StdSource<R> {
 
     ghost faults = { λ s. s.faults };
 
-    fn read(&mut self, buf: &mut [u8]) -> Result<usize, Failed> {
+    /// The whole slice is lent to the reader, and its bytes are handed on.
+    fn read(&mut self, buf: &mut [u8]) -> Result<usize, Failed>
+        ensures fits { IfOk result (λ n. n ≤ length buf.new) }
+        ensures reader { ReadConsumes (R.remaining (reader_of self.old)) (R.remaining (reader_of self.new)) result buf.new }
+        ensures cause { CountsFaults self.old.faults self.new.faults (is_err result) }
+    {
         let read = read_uninterrupted(&mut self.inner, buf);
         if read.is_err() {
             self.faults = self.faults.saturating_add(1);
@@ -34,7 +46,8 @@ impl<R: Read> Source for StdSource<R> {
 
 // Reads until that isn't interrupted.
 fn read_uninterrupted<R: Read>(inner: &mut R, buf: &mut [u8]) -> Result<usize, Failed>
-    ensures { IfOk result (λ n. n ≤ length buf.new) }
+    ensures fits { IfOk result (λ n. n ≤ length buf.new) }
+    ensures consumes { ReadConsumes (R.remaining inner.old) (R.remaining inner.new) result buf.new }
 {
     for _try in 0..u64::MAX {
         match inner.read(buf) {
@@ -56,7 +69,10 @@ pub struct StdSink<W> {
 
 impl<W> StdSink<W> {
     /// A sink that has not failed yet.
-    pub fn new(inner: W) -> StdSink<W> {
+    pub fn new(inner: W) -> StdSink<W>
+        ensures writer { writer_of result ≡ inner }
+        ensures faults { result.faults ≡ 0 }
+    {
         StdSink { inner, faults: 0 }
     }
 }
@@ -66,7 +82,12 @@ impl<W: Write> Sink for StdSink<W> {
 
     ghost faults = { λ s. s.faults };
 
-    fn write(&mut self, piece: &[u8]) -> Result<usize, Failed> {
+    /// The whole piece is handed to the writer.
+    fn write(&mut self, piece: &[u8]) -> Result<usize, Failed>
+        ensures fits { IfOk result (λ n. n ≤ length piece.now) }
+        ensures writer { WriteAppends (W.contents (writer_of self.old)) (W.contents (writer_of self.new)) result piece.now }
+        ensures cause { CountsFaults self.old.faults self.new.faults (moves_none (length piece.now) result) }
+    {
         let written = write_uninterrupted(&mut self.inner, piece);
         if written.is_err() || (written == Ok(0) && !piece.is_empty()) {
             self.faults = self.faults.saturating_add(1);
@@ -77,7 +98,8 @@ impl<W: Write> Sink for StdSink<W> {
 
 // Writes until that isn't interrupted.
 fn write_uninterrupted<W: Write>(inner: &mut W, piece: &[u8]) -> Result<usize, Failed>
-    ensures { IfOk result (λ n. n ≤ length piece.now) }
+    ensures fits { IfOk result (λ n. n ≤ length piece.now) }
+    ensures appends { WriteAppends (W.contents inner.old) (W.contents inner.new) result piece.now }
 {
     for _try in 0..u64::MAX {
         match inner.write(piece) {
