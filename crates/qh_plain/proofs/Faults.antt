@@ -1,10 +1,11 @@
 -- The requests of a list, one after another, until one is at fault.
-use Rattle.std.proofs.Common.{◌≡◌, ◌≢◌, inl, inr, ℕ, ◌+◌, ◌<◌, ◌≤◌, List, length, get_or, Some, sym, ◌∙◌, subst, arith}
+use Rattle.std.proofs.Common.{◌≡◌, ◌≢◌, inl, inr, ℕ, ◌+◌, ◌<◌, ◌≤◌, Result, Ok, Err, OnErr, List, length, get_or, Some, sym, ◌∙◌, subst, arith}
 use Rattle.std.specs.Prelude.{slice_get}
 use Rattle.std.proofs.lemmas.Bool.{cases_lt}
 use Rattle.std.proofs.lemmas.Option.{slice_get_read, slice_get_within, same_Some}
 use Rattle.qh_spec.specs.Message.{PlainMessage}
 use Rattle.qh_spec.specs.Validity.{IsValidRequest, IsAtFault, IsFaultIndex, IsValidList}
+use Rattle.qh_plain.specs.Undecided.{IsUndecided, IsUndecidedList}
 
 -- the requests in front of an index aren't too many, and may be asked
 pub record AreValidUpTo (k s b : ℕ) (rs : List PlainMessage) (i : ℕ) : Type 0 where
@@ -45,3 +46,20 @@ all_valid k s b rs i v l = record {
   few = (let few = v.few in omega (arith, few, l));
   each = λ j m e. v.each j m (let h = slice_get_within rs j m e in omega (arith, h, l)) e;
 }
+
+at_undecided : (k s b : ℕ) (rs : List PlainMessage) (i : ℕ) (m : PlainMessage) → AreValidUpTo k s b rs i → i < length rs → i ≢ k → m ≡ get_or rs i m
+    → IsUndecided s b m → IsUndecidedList k s b rs
+at_undecided k s b rs i m v l n e undecided = record {
+  index = i;
+  request = m;
+  few = (let few = v.few in omega (arith, few, n));
+  is = slice_get_read rs (length rs) i m (omega arith) l e;
+  undecided = undecided;
+  before = v.each;
+}
+
+-- the same of an answer, which an error is
+pub one_undecided : {A E : Type 0} (r : Result A E) (k s b : ℕ) (rs : List PlainMessage) (i : ℕ) (m : PlainMessage) → AreValidUpTo k s b rs i → i < length rs → i ≢ k
+    → m ≡ get_or rs i m → IsUndecided s b m → OnErr r (IsUndecidedList k s b rs)
+one_undecided (Ok found) k s b rs i m v l n e undecided = tt
+one_undecided (Err error) k s b rs i m v l n e undecided = at_undecided k s b rs i m v l n e undecided

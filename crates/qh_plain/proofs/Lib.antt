@@ -17,6 +17,7 @@ pub mod SectionWeights
 pub mod SectionsRead
 pub mod Spelled
 pub mod TagReads
+pub mod Undecided
 pub mod ValueLaws
 pub mod ValueReads
 pub mod Values

@@ -11,4 +11,5 @@ pub mod Placed
 pub mod Room
 pub mod Sections
 pub mod Target
+pub mod Undecided
 pub mod Values

@@ -1,6 +1,7 @@
 //! Which requests may be asked.
-ghost use Rattle.std.specs.Prelude.{◌≡◌, ◌≢◌, ◌↔◌, ◌-◌, ◌^◌, min, codes, slice_index, option_copied, None, IfOk, IfSome, IsTrue};
+ghost use Rattle.std.specs.Prelude.{◌≡◌, ◌≢◌, [], ◌↔◌, ◌-◌, ◌^◌, min, codes, slice_index, option_copied, None, IfOk, OnErr, IfSome, IsTrue};
 ghost use Rattle.http_uri.specs.ByteClasses.{count_of, at_sign, hash_sign, slash};
+ghost use Rattle.http_uri.specs.Grammar.{or_slash};
 ghost use Rattle.qh_spec.specs.Fields.{message_fields, map_fields};
 ghost use Rattle.qh_spec.specs.Message.{target_of};
 ghost use Rattle.qh_spec.specs.Same.{bytes_under};
@@ -8,6 +9,7 @@ ghost use Rattle.qh_spec.specs.Size.{message_size};
 ghost use Rattle.qh_spec.specs.Validity.{FitsSection, IsValidTarget, AreValidHosts, AreValidTrailers, IsValidHead, IsValidRequest, IsFaultIndex, IsValidList};
 ghost use Rattle.qh_service.specs.Message.{head_of};
 ghost use Rattle.qh_plain.specs.Target.{IsWebScheme, IsPlainPath, HasPlainAuthority};
+ghost use Rattle.qh_plain.specs.Undecided.{with_slash, head_with_slash, IsUndecided, IsUndecidedList, ShowsSlash};
 
 use http_header::HeaderMap;
 use http_uri::{PathAndQuery, Uri};
@@ -93,17 +95,34 @@ fn occurrences(text: &[u8], byte: u8) -> usize
     text.iter().filter(|b| **b == byte).count()
 }
 
-// Whether a path begins with a slash and has no fragment. A path that is empty is read as a slash, so that it is told
-// apart only where it stands alone in a target.
-fn is_plain_path(path: &PathAndQuery) -> Result<bool, Memory>
-    ensures { IfOk result (λ plain. IsTrue plain ↔ IsPlainPath path.now) }
+// Whether a path, as it is shown, begins with a slash and has no fragment.
+fn shows_plain_path(path: &PathAndQuery) -> bool
+    ensures { IsTrue result ↔ IsPlainPath (or_slash path.now) }
+{
+    let text = path.as_str().as_bytes();
+    text.first() == Some(&b'/') && occurrences(text, b'#') == 0
+}
+
+// Whether a path is empty. It is shown as `/` but where it stands alone in a target, which takes a copy.
+fn is_empty_path(path: &PathAndQuery) -> Result<bool, Memory>
+    ensures { IfOk result (λ empty. IsTrue empty ↔ (path.now ≡ [])) }
 {
     let alone = Uri::from(path.clone()?);
-    if alone.path().is_empty() {
+    Ok(alone.path().is_empty())
+}
+
+// Whether a path begins with a slash and has no fragment. Only one that is shown as `/` takes memory.
+fn is_plain_path(path: &PathAndQuery) -> Result<bool, Memory>
+    ensures value { IfOk result (λ plain. IsTrue plain ↔ IsPlainPath path.now) }
+    ensures memory { OnErr result (or_slash path.now ≡ codes "/") }
+{
+    if !shows_plain_path(path) {
         return Ok(false);
     }
-    let text = path.as_str().as_bytes();
-    Ok(text.first() == Some(&b'/') && occurrences(text, b'#') == 0)
+    if path.as_str() != "/" {
+        return Ok(true);
+    }
+    Ok(!is_empty_path(path)?)
 }
 
 // Whether the authority of a target has no user part.
@@ -117,7 +136,9 @@ fn is_plain_authority(uri: &Uri) -> bool
 }
 
 fn is_valid_target(uri: &Uri) -> Result<bool, Memory>
-    ensures { IfOk result (λ valid. IsTrue valid ↔ IsValidTarget (target_of uri.now)) }
+    ensures value { IfOk result (λ valid. IsTrue valid ↔ IsValidTarget (target_of uri.now)) }
+    ensures shown { OnErr result (or_slash (target_of uri.now).path_and_query ≡ codes "/") }
+    ensures sound { OnErr result (IsValidTarget (with_slash (target_of uri.now))) }
 {
     if !is_web_scheme(uri.scheme_str()) || !is_plain_authority(uri) {
         return Ok(false);
@@ -129,37 +150,40 @@ fn is_valid_target(uri: &Uri) -> Result<bool, Memory>
 }
 
 fn is_valid_head(message: &Message) -> Result<bool, Memory>
-    ensures { IfOk result (λ valid. IsTrue valid ↔ IsValidHead message.now.head (bytes_under message.now.fields (codes "host"))) }
+    ensures value { IfOk result (λ valid. IsTrue valid ↔ IsValidHead message.now.head (bytes_under message.now.fields (codes "host"))) }
+    ensures shown { OnErr result (ShowsSlash message.now.head) }
+    ensures sound { OnErr result (IsValidHead (head_with_slash message.now.head) (bytes_under message.now.fields (codes "host"))) }
 {
     match message.head() {
         Head::Request { method, uri } => {
-            if method.as_str() == "CONNECT" || !is_valid_target(uri)? {
+            let authority = uri.authority().map(|authority| authority.as_str());
+            if method.as_str() == "CONNECT" || !are_valid_hosts(authority, message.fields()) {
                 return Ok(false);
             }
-            let authority = uri.authority().map(|authority| authority.as_str());
-            Ok(are_valid_hosts(authority, message.fields()))
+            is_valid_target(uri)
         }
         Head::Response { .. } => Ok(false),
     }
 }
 
 /// Whether an exchange takes this as a request, where its sections may have `section` bytes and its body
-/// `request_body`.
+/// `request_body`. Memory is taken only for a path that is shown as `/`, which may be empty, and after all else was
+/// found sound.
 pub fn is_valid_request(section: u64, request_body: u64, message: &Message) -> Result<bool, Memory>
-    ensures { IfOk result (λ valid. IsTrue valid ↔ IsValidRequest section request_body message.now) }
+    ensures value { IfOk result (λ valid. IsTrue valid ↔ IsValidRequest section request_body message.now) }
+    ensures memory { OnErr result (IsUndecided section request_body message.now) }
 {
-    if !is_valid_head(message)? {
+    if !has_fitting_fields(section, message)
+        || !are_valid_trailers(section, message.trailers())
+        || message.body().len() as u64 > request_body
+    {
         return Ok(false);
     }
-    Ok(
-        has_fitting_fields(section, message)
-            && are_valid_trailers(section, message.trailers())
-            && message.body().len() as u64 <= request_body,
-    )
+    is_valid_head(message)
 }
 
 /// The index of the first request that may not be asked, or that is one too many, where at most `max_requests` may be
-/// asked.
+/// asked. On want of memory each request before the one that wanted it may be asked.
 pub fn fault_index(
     max_requests: u64,
     section: u64,
@@ -168,6 +192,7 @@ pub fn fault_index(
 ) -> Result<Option<usize>, Memory>
     ensures some { IfOk result (λ found. IfSome found (IsFaultIndex max_requests section request_body requests.now)) }
     ensures none { IfOk result (λ found. (found ≡ None) → IsValidList max_requests section request_body requests.now) }
+    ensures memory { OnErr result (IsUndecidedList max_requests section request_body requests.now) }
 {
     for (index, request) in requests.iter().enumerate() {
         if index as u64 == max_requests {
