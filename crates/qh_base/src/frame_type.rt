@@ -1,4 +1,5 @@
-/// The type of a QUIC frame (RFC 9000, sections 12.4 and 19; RFC 9221, section 4). The names are those of `quinn-proto`.
+/// The type of a QUIC frame (RFC 9000, sections 12.4 and 19; RFC 9221, section 4). The names follow those of `quinn-proto`,
+/// where STREAM and DATAGRAM are ranges of types.
 #[derive(Clone, Copy, PartialEq, Eq)]
 pub struct FrameType(pub u64);
 

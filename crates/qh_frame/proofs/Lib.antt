@@ -4,6 +4,7 @@ pub mod AcksWritten
 pub mod FieldsRead
 pub mod FramesRead
 pub mod FramesWritten
+pub mod Named
 pub mod Ranges
 pub mod Shapes
 pub mod StreamsWritten

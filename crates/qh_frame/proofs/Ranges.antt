@@ -6,7 +6,7 @@ use Rattle.qh_spec.specs.Acknowledged.{AreRanges}
 use Rattle.qh_spec.specs.FrameViews.{stream_values}
 use Rattle.qh_spec.specs.QuicFrame.{StreamFrame, has_bit}
 use Rattle.qh_spec.specs.QuicFrames.{Value, Num, Text, Nums}
-use Rattle.qh_frame.specs.Range.{IsStreamInRange, IsCryptoInRange, IsAckInRange, IsCountInRange, IsNewIdInRange, AreInRange, stream_in_range, crypto_in_range, are_ranges, ack_in_range, count_in_range, new_id_in_range, in_range}
+use Rattle.qh_frame.specs.Range.{IsStreamInRange, IsCryptoInRange, IsTokenInRange, IsAckInRange, IsCountInRange, IsNewIdInRange, AreInRange, stream_in_range, crypto_in_range, token_in_range, are_ranges, ack_in_range, count_in_range, new_id_in_range, in_range}
 
 -- a test that tells whether something holds
 pub record Tells (b : Bool) (P : Type 0) : Type 0 where
@@ -37,6 +37,10 @@ stream_tells (Some s) = lt_tells (s.offset + length s.payload) (2 ^ 62)
 crypto_tells : (values : List Value) → Tells (crypto_in_range values) (IsCryptoInRange values)
 crypto_tells (Num offset ∷ Text payload ∷ more) = lt_tells (offset + length payload) (2 ^ 62)
 crypto_tells _ = always
+
+token_tells : (values : List Value) → Tells (token_in_range values) (IsTokenInRange values)
+token_tells (Text token ∷ more) = le_tells 1 (length token)
+token_tells _ = always
 
 count_tells : (values : List Value) → Tells (count_in_range values) (IsCountInRange values)
 count_tells (Num count ∷ more) = le_tells count (2 ^ 60)
@@ -81,6 +85,7 @@ range_tells kind values =
     if_tells (kind / 8 == 1) _ _ _ _ (stream_tells (stream_values (has_bit 1 kind) values))
     (if_tells (kind / 2 == 1) _ _ _ _ (ack_tells values)
     (if_tells (kind == 6) _ _ _ _ (crypto_tells values)
+    (if_tells (kind == 7) _ _ _ _ (token_tells values)
     (if_tells (kind / 2 == 9) _ _ _ _ (count_tells values)
     (if_tells (kind / 2 == 11) _ _ _ _ (count_tells values)
-    (if_tells (kind == 24) _ _ _ _ (new_id_tells values) always)))))
+    (if_tells (kind == 24) _ _ _ _ (new_id_tells values) always))))))

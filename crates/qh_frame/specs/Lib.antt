@@ -6,4 +6,5 @@ pub mod FrameBytes
 pub mod Plain
 pub mod Range
 pub mod StreamAt
+pub mod TypeOf
 pub mod WrittenForm

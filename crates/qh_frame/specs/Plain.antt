@@ -64,4 +64,4 @@ plain_of (kind.PathResponse bytes) = frame 27 (Text bytes ∷ [])
 plain_of (kind.ConnectionClose code frame_type reason) = frame 28 (Num code ∷ Num frame_type ∷ Text reason.now ∷ [])
 plain_of (kind.ApplicationClose code reason) = frame 29 (Num code ∷ Text reason.now ∷ [])
 plain_of kind.HandshakeDone = frame 30 []
-plain_of (kind.Datagram payload) = frame 49 (Text payload.now ∷ [])
+plain_of (kind.Datagram payload has_length) = frame 49 (Text payload.now ∷ [])

@@ -15,6 +15,11 @@ abbrev pub IsCryptoInRange : List Value → Type 0
 IsCryptoInRange (Num offset ∷ Text payload ∷ more) = offset + length payload < 2 ^ 62
 IsCryptoInRange _ = Unit {0}
 
+-- NEW_TOKEN: the token isn't empty (section 19.7)
+abbrev pub IsTokenInRange : List Value → Type 0
+IsTokenInRange (Text token ∷ more) = 1 ≤ length token
+IsTokenInRange _ = Unit {0}
+
 -- ACK: no range goes below 0 (section 19.3.1)
 abbrev pub IsAckInRange : List Value → Type 0
 IsAckInRange (Num greatest ∷ delay ∷ Nums ranges ∷ more) = AreRanges greatest ranges
@@ -35,9 +40,10 @@ AreInRange kind values =
     MatchBool (kind / 8 == 1) (IsStreamInRange (stream_values (has_bit 1 kind) values))
     (MatchBool (kind / 2 == 1) (IsAckInRange values)
     (MatchBool (kind == 6) (IsCryptoInRange values)
+    (MatchBool (kind == 7) (IsTokenInRange values)
     (MatchBool (kind / 2 == 9) (IsCountInRange values)
     (MatchBool (kind / 2 == 11) (IsCountInRange values)
-    (MatchBool (kind == 24) (IsNewIdInRange values) (Unit {0}))))))
+    (MatchBool (kind == 24) (IsNewIdInRange values) (Unit {0})))))))
 
 -- the frame's values may stand in it
 abbrev pub IsInRange : QuicFrame → Type 0
@@ -51,6 +57,10 @@ stream_in_range (Some s) = nat_lt (s.offset + length s.payload) (2 ^ 62)
 abbrev pub crypto_in_range : List Value → Bool
 crypto_in_range (Num offset ∷ Text payload ∷ more) = nat_lt (offset + length payload) (2 ^ 62)
 crypto_in_range _ = true
+
+abbrev pub token_in_range : List Value → Bool
+token_in_range (Text token ∷ more) = nat_le 1 (length token)
+token_in_range _ = true
 
 unfoldable pub are_ranges : ℕ → List ℕ → Bool
 are_ranges greatest [] = false
@@ -74,6 +84,7 @@ in_range kind values =
     if kind / 8 == 1 then stream_in_range (stream_values (has_bit 1 kind) values)
     else if kind / 2 == 1 then ack_in_range values
     else if kind == 6 then crypto_in_range values
+    else if kind == 7 then token_in_range values
     else if kind / 2 == 9 then count_in_range values
     else if kind / 2 == 11 then count_in_range values
     else if kind == 24 then new_id_in_range values

@@ -6,6 +6,14 @@ mod ranges;
 
 use qh_base::VarInt;
 
+/// How many packets came with each ECN mark (RFC 9000, section 19.3.2).
+#[derive(Clone, Copy)]
+pub struct EcnCounts {
+    pub ect0: VarInt,
+    pub ect1: VarInt,
+    pub ce: VarInt,
+}
+
 /// An ACK frame over the bytes of its packet (RFC 9000, section 19.3).
 #[derive(Clone, Copy)]
 pub struct Ack<'a> {
@@ -13,6 +21,8 @@ pub struct Ack<'a> {
     pub greatest: VarInt,
     /// How long its receipt was kept back, in units that the transport parameters tell.
     pub delay: VarInt,
+    /// The counts that the type 03 has. None for the type 02.
+    pub ecn: Option<EcnCounts>,
     // How many numbers below the greatest its range has.
     first: VarInt,
     // How many gaps with a range follow, and where they begin.

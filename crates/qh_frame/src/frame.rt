@@ -1,5 +1,8 @@
+ghost use Rattle.std.specs.Prelude.{◌≡◌};
+ghost use Rattle.qh_frame.specs.TypeOf.{type_of};
+
 use crate::Ack;
-use qh_base::{ConnectionId, Dir, ResetToken, StreamId, VarInt};
+use qh_base::{ConnectionId, Dir, FrameType, ResetToken, StreamId, VarInt};
 
 /// A STREAM frame over the bytes of its packet (RFC 9000, section 19.8).
 #[derive(Clone, Copy)]
@@ -19,7 +22,7 @@ pub enum Frame<'a> {
     Padding,
     /// Asks for an acknowledgement (section 19.2).
     Ping,
-    /// Packets that came (section 19.3). The counts of marks that the type 03 has are left out.
+    /// Packets that came (section 19.3).
     Ack(Ack<'a>),
     /// The end of what its sender sends on a stream, with the size that the stream has (section 19.4).
     ResetStream {
@@ -101,7 +104,48 @@ pub enum Frame<'a> {
     /// A datagram of the application (RFC 9221, section 4).
     Datagram {
         payload: &'a [u8],
+        /// Whether its length stands in front of the payload: the type 31, else 30, which goes on to the packet's end.
+        has_length: bool,
     },
+}
+
+impl Frame<'_> {
+    /// The type that names the frame in an error. All types of STREAM are named by the first of them.
+    pub fn frame_type(&self) -> FrameType
+        ensures { result.0 ≡ type_of self.now }
+    {
+        match self {
+            Frame::Padding => FrameType::PADDING,
+            Frame::Ping => FrameType::PING,
+            Frame::Ack(Ack { ecn: None, .. }) => FrameType::ACK,
+            Frame::Ack(_) => FrameType::ACK_ECN,
+            Frame::ResetStream { .. } => FrameType::RESET_STREAM,
+            Frame::StopSending { .. } => FrameType::STOP_SENDING,
+            Frame::Crypto { .. } => FrameType::CRYPTO,
+            Frame::NewToken { .. } => FrameType::NEW_TOKEN,
+            Frame::Stream(_) => FrameType::STREAM,
+            Frame::MaxData(_) => FrameType::MAX_DATA,
+            Frame::MaxStreamData { .. } => FrameType::MAX_STREAM_DATA,
+            Frame::MaxStreams { dir: Dir::Bi, .. } => FrameType::MAX_STREAMS_BIDI,
+            Frame::MaxStreams { dir: Dir::Uni, .. } => FrameType::MAX_STREAMS_UNI,
+            Frame::DataBlocked { .. } => FrameType::DATA_BLOCKED,
+            Frame::StreamDataBlocked { .. } => FrameType::STREAM_DATA_BLOCKED,
+            Frame::StreamsBlocked { dir: Dir::Bi, .. } => FrameType::STREAMS_BLOCKED_BIDI,
+            Frame::StreamsBlocked { dir: Dir::Uni, .. } => FrameType::STREAMS_BLOCKED_UNI,
+            Frame::NewConnectionId { .. } => FrameType::NEW_CONNECTION_ID,
+            Frame::RetireConnectionId { .. } => FrameType::RETIRE_CONNECTION_ID,
+            Frame::PathChallenge(_) => FrameType::PATH_CHALLENGE,
+            Frame::PathResponse(_) => FrameType::PATH_RESPONSE,
+            Frame::ConnectionClose { .. } => FrameType::CONNECTION_CLOSE,
+            Frame::ApplicationClose { .. } => FrameType::APPLICATION_CLOSE,
+            Frame::HandshakeDone => FrameType::HANDSHAKE_DONE,
+            Frame::Datagram {
+                has_length: true,
+                ..
+            } => FrameType::DATAGRAM_WITH_LENGTH,
+            Frame::Datagram { .. } => FrameType::DATAGRAM,
+        }
+    }
 }
 
 /// Bytes that no frame begins, or one whose values may not stand in it.

@@ -11,7 +11,7 @@ mod stream;
 mod write;
 mod written_ack;
 
-pub use ack::{Ack, AckRange};
+pub use ack::{Ack, AckRange, EcnCounts};
 pub use frame::{Frame, FrameFault, Stream};
 pub use laws::written_forms;
 pub use put::{

@@ -1,4 +1,4 @@
-ghost use Rattle.std.specs.Prelude.{◌≡◌, ℕ, ◌<◌, ◌+◌, ◌^◌, ◌++◌, List, [], ◌∷◌, length, replicate, OnOk, OnErr, if◌then◌else◌};
+ghost use Rattle.std.specs.Prelude.{◌≡◌, ℕ, ◌<◌, ◌≤◌, ◌+◌, ◌^◌, ◌++◌, List, [], ◌∷◌, length, replicate, OnOk, OnErr, if◌then◌else◌};
 ghost use Rattle.qh_frame.specs.FrameBytes.{IsPut};
 ghost use Rattle.qh_frame.specs.Plain.{frame, by_dir, stream_of};
 ghost use Rattle.qh_frame.specs.WrittenForm.{stream_form};
@@ -54,10 +54,11 @@ pub fn put_crypto(out: &mut Vec<u8>, offset: VarInt, payload: &[u8]) -> Result<(
     put_one_counted(out, 6, offset, payload)
 }
 
-/// Appends a NEW_TOKEN frame (RFC 9000, section 19.7), or nothing.
+/// Appends a NEW_TOKEN frame (RFC 9000, section 19.7), or nothing. A token is never empty.
 #[tactic(auto, unfolding(qh_spec::specs::QuicFrames::shape_of))]
 pub fn put_new_token(out: &mut Vec<u8>, token: &[u8]) -> Result<(), Memory>
-    requires { length token.now < 2 ^ 62 }
+    requires some { 1 ≤ length token.now }
+    requires short { length token.now < 2 ^ 62 }
     ensures ok { OnOk result (IsPut out.old.items out.new.items (frame 7 (Text token.now ∷ [])) (9 + length token.now)) }
     ensures err { OnErr result (out.new.items ≡ out.old.items) }
 {

@@ -1,9 +1,11 @@
-ghost use Rattle.std.specs.Prelude.{◌≡◌, ◌<◌, ◌≤◌, ◌/◌, List, IfOk, IfErr};
+ghost use Rattle.std.specs.Prelude.{◌≡◌, ◌<◌, ◌≤◌, ◌/◌, List, IfOk, IfErr, IfSome};
 ghost use Rattle.std.specs.Option.{option_map};
 ghost use Rattle.qh_frame.specs.AckAt.{behind_counts};
 ghost use Rattle.qh_frame.specs.FrameAt.{fields_at, Begins, BeginsWithType, HasNoFrame};
 ghost use Rattle.qh_frame.specs.Plain.{plain_of};
 ghost use Rattle.qh_frame.specs.StreamAt.{stream_at, ranged_stream};
+ghost use Rattle.qh_frame.specs.TypeOf.{HasType, named, type_of};
+ghost use Rattle.qh_spec.specs.FrameTypes as frame_types;
 ghost use Rattle.qh_spec.specs.QuicFrame.{has_bit};
 
 mod limits;
@@ -11,7 +13,7 @@ mod others;
 
 use crate::fields::{number_of, value_of};
 use crate::stream::stream_of;
-use crate::{Ack, Frame, FrameFault};
+use crate::{Ack, EcnCounts, Frame, FrameFault};
 use limits::{
     data_blocked, max_data, max_stream_data, max_streams_bi, max_streams_uni, reset_stream,
     stop_sending, stream_data_blocked, streams_blocked_bi, streams_blocked_uni,
@@ -24,6 +26,7 @@ use others::{
 /// Reads the frame that begins the bytes, and says what follows it. A type may be written in any form.
 pub fn get_frame(bytes: &[u8]) -> Result<(Frame<'_>, &[u8]), FrameFault>
     ensures found { IfOk result (λ f. Begins bytes.now (plain_of f.0) f.1.now) }
+    ensures kind { IfOk result (λ f. HasType bytes.now f.0) }
     ensures none { IfErr result (λ _. HasNoFrame bytes.now) }
     ensures fault { IfErr result (λ e. BeginsWithType bytes.now e.frame) }
 {
@@ -38,9 +41,11 @@ pub fn get_frame(bytes: &[u8]) -> Result<(Frame<'_>, &[u8]), FrameFault>
 
 // The fields behind a type.
 fn fields_of(kind: u64, bytes: &[u8]) -> Option<(Frame<'_>, &[u8])>
-    ensures { option_map (λ f. (plain_of f.0, f.1.now)) result ≡ fields_at kind bytes.now }
+    ensures fields { option_map (λ f. (plain_of f.0, f.1.now)) result ≡ fields_at kind bytes.now }
+    ensures named { IfSome result (λ f. type_of f.0 ≡ named kind) }
 {
     match kind {
+        2 | 3 => ack(kind, bytes),
         0..8 => first_of(kind, bytes),
         8..16 => stream(kind, bytes),
         16..24 => limit_of(kind, bytes),
@@ -54,13 +59,13 @@ fn fields_of(kind: u64, bytes: &[u8]) -> Option<(Frame<'_>, &[u8])>
 // The same of the types below those of STREAM.
 #[tactic(auto, unfolding(crate::specs::FrameAt::fields_at, qh_spec::specs::QuicFrames::shape_of))]
 fn first_of(kind: u64, bytes: &[u8]) -> Option<(Frame<'_>, &[u8])>
-    requires { kind < 8 }
+    requires low { kind < 8 }
+    requires other { kind / 2 ≡ 1 → ⊥ }
     ensures { option_map (λ f. (plain_of f.0, f.1.now)) result ≡ fields_at kind bytes.now }
 {
     match kind {
         0 => Some((Frame::Padding, bytes)),
         1 => Some((Frame::Ping, bytes)),
-        2 | 3 => ack(kind, bytes),
         4 => reset_stream(bytes),
         5 => stop_sending(bytes),
         6 => crypto(bytes),
@@ -104,10 +109,11 @@ fn last_of(kind: u64, bytes: &[u8]) -> Option<(Frame<'_>, &[u8])>
     }
 }
 
-// ACK. The three counts of the type 03 are left out.
+// ACK, of either type.
 fn ack(kind: u64, bytes: &[u8]) -> Option<(Frame<'_>, &[u8])>
     requires { kind / 2 ≡ 1 }
-    ensures { option_map (λ f. (plain_of f.0, f.1.now)) result ≡ fields_at kind bytes.now }
+    ensures fields { option_map (λ f. (plain_of f.0, f.1.now)) result ≡ fields_at kind bytes.now }
+    ensures named { IfSome result (λ f. type_of f.0 ≡ kind) }
 {
     if kind == 2 {
         ack_alone(bytes)
@@ -117,7 +123,8 @@ fn ack(kind: u64, bytes: &[u8]) -> Option<(Frame<'_>, &[u8])>
 }
 
 fn ack_alone(bytes: &[u8]) -> Option<(Frame<'_>, &[u8])>
-    ensures { option_map (λ f. (plain_of f.0, f.1.now)) result ≡ fields_at 2 bytes.now }
+    ensures fields { option_map (λ f. (plain_of f.0, f.1.now)) result ≡ fields_at 2 bytes.now }
+    ensures named { IfSome result (λ f. type_of f.0 ≡ frame_types.ack) }
 {
     let Some((ack, rest)) = Ack::read(bytes) else {
         return None;
@@ -127,20 +134,22 @@ fn ack_alone(bytes: &[u8]) -> Option<(Frame<'_>, &[u8])>
 
 #[tactic(auto, unfolding(crate::specs::AckAt::behind_counts))]
 fn ack_with_counts(bytes: &[u8]) -> Option<(Frame<'_>, &[u8])>
-    ensures { option_map (λ f. (plain_of f.0, f.1.now)) result ≡ behind_counts (fields_at 2 bytes.now) }
+    ensures fields { option_map (λ f. (plain_of f.0, f.1.now)) result ≡ behind_counts (fields_at 2 bytes.now) }
+    ensures named { IfSome result (λ f. type_of f.0 ≡ frame_types.ack_ecn) }
 {
-    let Some((ack, rest)) = Ack::read(bytes) else {
+    let Some((mut ack, rest)) = Ack::read(bytes) else {
         return None;
     };
-    let Some((_, rest)) = number_of(rest) else {
+    let Some((ect0, rest)) = number_of(rest) else {
         return None;
     };
-    let Some((_, rest)) = number_of(rest) else {
+    let Some((ect1, rest)) = number_of(rest) else {
         return None;
     };
-    let Some((_, rest)) = number_of(rest) else {
+    let Some((ce, rest)) = number_of(rest) else {
         return None;
     };
+    ack.ecn = Some(EcnCounts { ect0, ect1, ce });
     Some((Frame::Ack(ack), rest))
 }
 

@@ -1,4 +1,4 @@
-ghost use Rattle.std.specs.Prelude.{◌≡◌, ◌⊎◌, ◌↔◌, ◌≤◌, ◌+◌, ◌∷◌, [], ℕ, IfSome, MatchOption};
+ghost use Rattle.std.specs.Prelude.{◌≡◌, ◌⊎◌, ◌↔◌, ◌≤◌, ◌+◌, ◌∷◌, [], ℕ, IfSome, None, MatchOption};
 ghost use Rattle.std.specs.Option.{option_map};
 ghost use Rattle.qh_frame.specs.AckAt.{end_of};
 ghost use Rattle.qh_frame.specs.FieldsAt.{pairs_at};
@@ -50,6 +50,7 @@ impl<'a> Ack<'a> {
         Some(Ack {
             greatest,
             delay: self.delay,
+            ecn: self.ecn,
             first: number(first),
             pairs: self.pairs - 1,
             bytes: rest,
@@ -59,7 +60,8 @@ impl<'a> Ack<'a> {
     // Reads the fields of the type 02, and says what follows them.
     #[tactic(auto, unfolding(crate::specs::FrameAt::fields_at, crate::specs::FieldsAt::ranges_at, crate::specs::AckAt::end_of, qh_spec::specs::QuicFrames::shape_of))]
     pub(crate) fn read(bytes: &'a [u8]) -> Option<(Ack<'a>, &'a [u8])>
-        ensures { option_map (λ f. (ack_of f.0, f.1.now)) result ≡ fields_at 2 bytes.now }
+        ensures fields { option_map (λ f. (ack_of f.0, f.1.now)) result ≡ fields_at 2 bytes.now }
+        ensures ecn { IfSome result (λ f. f.0.ecn ≡ None) }
     {
         let Some((greatest, rest)) = number_of(bytes) else {
             return None;
@@ -81,6 +83,7 @@ impl<'a> Ack<'a> {
             Ack {
                 greatest,
                 delay,
+                ecn: None,
                 first,
                 pairs,
                 bytes: rest,

@@ -1,7 +1,9 @@
-ghost use Rattle.std.specs.Prelude.{◌≡◌, List};
+ghost use Rattle.std.specs.Prelude.{◌≡◌, List, IfSome};
 ghost use Rattle.std.specs.Option.{option_map};
 ghost use Rattle.qh_frame.specs.FrameAt.{fields_at};
 ghost use Rattle.qh_frame.specs.Plain.{plain_of};
+ghost use Rattle.qh_frame.specs.TypeOf.{type_of};
+ghost use Rattle.qh_spec.specs.FrameTypes as frame_types;
 
 use crate::Frame;
 use crate::fields::{array_of, counted_of, number_of, short_of};
@@ -32,6 +34,9 @@ pub(super) fn new_token(bytes: &[u8]) -> Option<(Frame<'_>, &[u8])>
     let Some((token, rest)) = counted_of(bytes) else {
         return None;
     };
+    if token.is_empty() {
+        return None;
+    }
     Some((Frame::NewToken { token }, rest))
 }
 
@@ -109,12 +114,19 @@ pub(super) fn application_close(bytes: &[u8]) -> Option<(Frame<'_>, &[u8])>
 // DATAGRAM with its length.
 #[tactic(auto, unfolding(crate::specs::FrameAt::fields_at, qh_spec::specs::QuicFrames::shape_of))]
 pub(super) fn datagram_with_length(bytes: &[u8]) -> Option<(Frame<'_>, &[u8])>
-    ensures { option_map (λ f. (plain_of f.0, f.1.now)) result ≡ fields_at 49 bytes.now }
+    ensures fields { option_map (λ f. (plain_of f.0, f.1.now)) result ≡ fields_at 49 bytes.now }
+    ensures named { IfSome result (λ f. type_of f.0 ≡ frame_types.datagram_with_length) }
 {
     let Some((payload, rest)) = counted_of(bytes) else {
         return None;
     };
-    Some((Frame::Datagram { payload }, rest))
+    Some((
+        Frame::Datagram {
+            payload,
+            has_length: true,
+        },
+        rest,
+    ))
 }
 
 // NEW_CONNECTION_ID.
@@ -157,7 +169,14 @@ pub(super) fn new_connection_id(bytes: &[u8]) -> Option<(Frame<'_>, &[u8])>
 // DATAGRAM to the packet's end.
 #[tactic(auto, unfolding(crate::specs::FrameAt::fields_at, qh_spec::specs::QuicFrames::shape_of))]
 pub(super) fn datagram_to_the_end(bytes: &[u8]) -> Option<(Frame<'_>, &[u8])>
-    ensures { option_map (λ f. (plain_of f.0, f.1.now)) result ≡ fields_at 48 bytes.now }
+    ensures fields { option_map (λ f. (plain_of f.0, f.1.now)) result ≡ fields_at 48 bytes.now }
+    ensures named { IfSome result (λ f. type_of f.0 ≡ frame_types.datagram) }
 {
-    Some((Frame::Datagram { payload: bytes }, &bytes[bytes.len()..]))
+    Some((
+        Frame::Datagram {
+            payload: bytes,
+            has_length: false,
+        },
+        &bytes[bytes.len()..],
+    ))
 }
