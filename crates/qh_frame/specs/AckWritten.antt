@@ -1,6 +1,7 @@
 -- An ACK of ranges of packet numbers, the greatest first (RFC 9000, section 19.3.1).
 use Rattle.std.specs.Prelude.{◌⊎◌, ℕ, ◌+◌, ◌-◌, ◌^◌, ◌<◌, ◌≤◌, List, [], ◌∷◌}
 use Rattle.qh_frame.specs.declared.ack.AckRange.{AckRange}
+use Rattle.qh_spec.specs.FrameTypes as frame_types
 use Rattle.qh_spec.specs.QuicFrames.{QuicFrame, Num, Nums}
 
 -- each range is below the last one, with a number between them that is in neither
@@ -24,5 +25,5 @@ gaps above [] = []
 gaps above (r ∷ more) = (above - (r.greatest + 2)) ∷ ((r.greatest - r.least) ∷ gaps r.least more)
 
 abbrev pub ack_frame : ℕ → List AckRange → QuicFrame
-ack_frame delay [] = record { kind = 2; values = [] }
-ack_frame delay (r ∷ more) = record { kind = 2; values = Num r.greatest ∷ Num delay ∷ Nums ((r.greatest - r.least) ∷ gaps r.least more) ∷ [] }
+ack_frame delay [] = record { kind = frame_types.ack; values = [] }
+ack_frame delay (r ∷ more) = record { kind = frame_types.ack; values = Num r.greatest ∷ Num delay ∷ Nums ((r.greatest - r.least) ∷ gaps r.least more) ∷ [] }

@@ -1,6 +1,7 @@
 -- Which values may stand in a frame, beside their form.
 use Rattle.std.specs.Prelude.{ℕ, ◌+◌, ◌-◌, ◌/◌, ◌^◌, ◌<◌, ◌≤◌, ◌==◌, ◌&&◌, nat_lt, nat_le, Bool, true, false, MatchBool, List, [], ◌∷◌, length, Option, Some, None, if◌then◌else◌}
 use Rattle.qh_spec.specs.Acknowledged.{AreRanges}
+use Rattle.qh_spec.specs.FrameTypes as frame_types
 use Rattle.qh_spec.specs.FrameViews.{stream_values}
 use Rattle.qh_spec.specs.QuicFrame.{StreamFrame, has_bit}
 use Rattle.qh_spec.specs.QuicFrames.{QuicFrame, Value, Num, Text, Nums}
@@ -37,13 +38,13 @@ IsNewIdInRange _ = Unit {0}
 
 abbrev pub AreInRange : ℕ → List Value → Type 0
 AreInRange kind values =
-    MatchBool (kind / 8 == 1) (IsStreamInRange (stream_values (has_bit 1 kind) values))
-    (MatchBool (kind / 2 == 1) (IsAckInRange values)
-    (MatchBool (kind == 6) (IsCryptoInRange values)
-    (MatchBool (kind == 7) (IsTokenInRange values)
-    (MatchBool (kind / 2 == 9) (IsCountInRange values)
-    (MatchBool (kind / 2 == 11) (IsCountInRange values)
-    (MatchBool (kind == 24) (IsNewIdInRange values) (Unit {0})))))))
+    MatchBool (frame_types.is_stream_type kind) (IsStreamInRange (stream_values (has_bit 1 kind) values))
+    (MatchBool (frame_types.is_ack_type kind) (IsAckInRange values)
+    (MatchBool (kind == frame_types.crypto) (IsCryptoInRange values)
+    (MatchBool (kind == frame_types.new_token) (IsTokenInRange values)
+    (MatchBool (frame_types.is_max_streams_type kind) (IsCountInRange values)
+    (MatchBool (frame_types.is_streams_blocked_type kind) (IsCountInRange values)
+    (MatchBool (kind == frame_types.new_connection_id) (IsNewIdInRange values) (Unit {0})))))))
 
 -- the frame's values may stand in it
 abbrev pub IsInRange : QuicFrame → Type 0
@@ -81,11 +82,11 @@ new_id_in_range _ = true
 
 abbrev pub in_range : ℕ → List Value → Bool
 in_range kind values =
-    if kind / 8 == 1 then stream_in_range (stream_values (has_bit 1 kind) values)
-    else if kind / 2 == 1 then ack_in_range values
-    else if kind == 6 then crypto_in_range values
-    else if kind == 7 then token_in_range values
-    else if kind / 2 == 9 then count_in_range values
-    else if kind / 2 == 11 then count_in_range values
-    else if kind == 24 then new_id_in_range values
+    if frame_types.is_stream_type kind then stream_in_range (stream_values (has_bit 1 kind) values)
+    else if frame_types.is_ack_type kind then ack_in_range values
+    else if kind == frame_types.crypto then crypto_in_range values
+    else if kind == frame_types.new_token then token_in_range values
+    else if frame_types.is_max_streams_type kind then count_in_range values
+    else if frame_types.is_streams_blocked_type kind then count_in_range values
+    else if kind == frame_types.new_connection_id then new_id_in_range values
     else true

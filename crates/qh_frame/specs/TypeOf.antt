@@ -1,5 +1,5 @@
 -- The type by which an error names a frame (RFC 9000, section 19.19).
-use Rattle.std.specs.Prelude.{◌≡◌, ℕ, ◌/◌, ◌==◌, List, Option, Some, None, if◌then◌else◌}
+use Rattle.std.specs.Prelude.{◌≡◌, ℕ, List, Option, Some, None, if◌then◌else◌}
 use Rattle.qh_frame.specs.Plain.{plain_of}
 use Rattle.qh_frame.specs.declared.ack.EcnCounts.{EcnCounts}
 use Rattle.qh_frame.specs.declared.frame.Frame.{Frame}
@@ -21,7 +21,7 @@ type_of f = (plain_of f).kind
 
 -- the name of a type: the types of STREAM are 08 to 0f (section 19.8)
 abbrev pub named : ℕ → ℕ
-named kind = if kind / 8 == 1 then frame_types.stream else kind
+named kind = if frame_types.is_stream_type kind then frame_types.stream else kind
 
 -- the bytes begin with a type, in any form, that is named as the frame is (section 12.4)
 abbrev pub HasType : List ℕ → Frame → Type 0

@@ -1,5 +1,6 @@
 -- The form in which a frame is written, where it has several (RFC 9000, sections 19.3 and 19.8; RFC 9221, section 4).
 use Rattle.std.specs.Prelude.{◌/◌, ◌==◌, List, [], ◌∷◌, Option, Some, None, if◌then◌else◌}
+use Rattle.qh_spec.specs.FrameTypes as frame_types
 use Rattle.qh_spec.specs.FrameViews.{stream_values}
 use Rattle.qh_spec.specs.QuicFrame.{StreamFrame, stream_kind, has_bit}
 use Rattle.qh_spec.specs.QuicFrames.{QuicFrame, Value, Num, Text}
@@ -20,7 +21,7 @@ or_frame None f = f
 -- STREAM as above, ACK as type 02, DATAGRAM with its length, and all others as they are
 abbrev pub written_form : QuicFrame → QuicFrame
 written_form f =
-    if f.kind / 8 == 1 then or_frame (stream_values (has_bit 1 f.kind) f.values) f
-    else if f.kind == 3 then record { kind = 2; values = ack_values f.values }
-    else if f.kind == 48 then record { kind = 49; values = f.values }
+    if frame_types.is_stream_type f.kind then or_frame (stream_values (has_bit 1 f.kind) f.values) f
+    else if f.kind == frame_types.ack_ecn then record { kind = frame_types.ack; values = ack_values f.values }
+    else if f.kind == frame_types.datagram then record { kind = frame_types.datagram_with_length; values = f.values }
     else f

@@ -8,6 +8,7 @@ mod laws;
 mod put;
 mod read;
 mod stream;
+mod types;
 mod write;
 mod written_ack;
 

@@ -13,6 +13,12 @@ mod others;
 
 use crate::fields::{number_of, value_of};
 use crate::stream::stream_of;
+use crate::types::{
+    ACK, ACK_ECN, APPLICATION_CLOSE, CONNECTION_CLOSE, CRYPTO, DATA_BLOCKED, DATAGRAM,
+    DATAGRAM_WITH_LENGTH, HANDSHAKE_DONE, MAX_DATA, MAX_STREAM_DATA, MAX_STREAMS_BIDI,
+    MAX_STREAMS_UNI, NEW_CONNECTION_ID, PADDING, PATH_CHALLENGE, PATH_RESPONSE, PING, RESET_STREAM,
+    RETIRE_CONNECTION_ID, STOP_SENDING, STREAM, STREAM_DATA_BLOCKED, STREAMS_BLOCKED_BIDI,
+};
 use crate::{Ack, EcnCounts, Frame, FrameFault};
 use limits::{
     data_blocked, max_data, max_stream_data, max_streams_bi, max_streams_uni, reset_stream,
@@ -45,13 +51,13 @@ fn fields_of(kind: u64, bytes: &[u8]) -> Option<(Frame<'_>, &[u8])>
     ensures named { IfSome result (λ f. type_of f.0 ≡ named kind) }
 {
     match kind {
-        2 | 3 => ack(kind, bytes),
-        0..8 => first_of(kind, bytes),
-        8..16 => stream(kind, bytes),
-        16..24 => limit_of(kind, bytes),
-        24..31 => last_of(kind, bytes),
-        48 => datagram_to_the_end(bytes),
-        49 => datagram_with_length(bytes),
+        ACK | ACK_ECN => ack(kind, bytes),
+        PADDING..STREAM => first_of(kind, bytes),
+        STREAM..MAX_DATA => stream(kind, bytes),
+        MAX_DATA..NEW_CONNECTION_ID => limit_of(kind, bytes),
+        NEW_CONNECTION_ID..=HANDSHAKE_DONE => last_of(kind, bytes),
+        DATAGRAM => datagram_to_the_end(bytes),
+        DATAGRAM_WITH_LENGTH => datagram_with_length(bytes),
         _ => None,
     }
 }
@@ -64,11 +70,11 @@ fn first_of(kind: u64, bytes: &[u8]) -> Option<(Frame<'_>, &[u8])>
     ensures { option_map (λ f. (plain_of f.0, f.1.now)) result ≡ fields_at kind bytes.now }
 {
     match kind {
-        0 => Some((Frame::Padding, bytes)),
-        1 => Some((Frame::Ping, bytes)),
-        4 => reset_stream(bytes),
-        5 => stop_sending(bytes),
-        6 => crypto(bytes),
+        PADDING => Some((Frame::Padding, bytes)),
+        PING => Some((Frame::Ping, bytes)),
+        RESET_STREAM => reset_stream(bytes),
+        STOP_SENDING => stop_sending(bytes),
+        CRYPTO => crypto(bytes),
         _ => new_token(bytes),
     }
 }
@@ -80,13 +86,13 @@ fn limit_of(kind: u64, bytes: &[u8]) -> Option<(Frame<'_>, &[u8])>
     ensures { option_map (λ f. (plain_of f.0, f.1.now)) result ≡ fields_at kind bytes.now }
 {
     match kind {
-        16 => max_data(bytes),
-        17 => max_stream_data(bytes),
-        18 => max_streams_bi(bytes),
-        19 => max_streams_uni(bytes),
-        20 => data_blocked(bytes),
-        21 => stream_data_blocked(bytes),
-        22 => streams_blocked_bi(bytes),
+        MAX_DATA => max_data(bytes),
+        MAX_STREAM_DATA => max_stream_data(bytes),
+        MAX_STREAMS_BIDI => max_streams_bi(bytes),
+        MAX_STREAMS_UNI => max_streams_uni(bytes),
+        DATA_BLOCKED => data_blocked(bytes),
+        STREAM_DATA_BLOCKED => stream_data_blocked(bytes),
+        STREAMS_BLOCKED_BIDI => streams_blocked_bi(bytes),
         _ => streams_blocked_uni(bytes),
     }
 }
@@ -99,12 +105,12 @@ fn last_of(kind: u64, bytes: &[u8]) -> Option<(Frame<'_>, &[u8])>
     ensures { option_map (λ f. (plain_of f.0, f.1.now)) result ≡ fields_at kind bytes.now }
 {
     match kind {
-        24 => new_connection_id(bytes),
-        25 => retire_connection_id(bytes),
-        26 => path_challenge(bytes),
-        27 => path_response(bytes),
-        28 => connection_close(bytes),
-        29 => application_close(bytes),
+        NEW_CONNECTION_ID => new_connection_id(bytes),
+        RETIRE_CONNECTION_ID => retire_connection_id(bytes),
+        PATH_CHALLENGE => path_challenge(bytes),
+        PATH_RESPONSE => path_response(bytes),
+        CONNECTION_CLOSE => connection_close(bytes),
+        APPLICATION_CLOSE => application_close(bytes),
         _ => Some((Frame::HandshakeDone, bytes)),
     }
 }
@@ -115,7 +121,7 @@ fn ack(kind: u64, bytes: &[u8]) -> Option<(Frame<'_>, &[u8])>
     ensures fields { option_map (λ f. (plain_of f.0, f.1.now)) result ≡ fields_at kind bytes.now }
     ensures named { IfSome result (λ f. type_of f.0 ≡ kind) }
 {
-    if kind == 2 {
+    if kind == ACK {
         ack_alone(bytes)
     } else {
         ack_with_counts(bytes)
@@ -123,7 +129,7 @@ fn ack(kind: u64, bytes: &[u8]) -> Option<(Frame<'_>, &[u8])>
 }
 
 fn ack_alone(bytes: &[u8]) -> Option<(Frame<'_>, &[u8])>
-    ensures fields { option_map (λ f. (plain_of f.0, f.1.now)) result ≡ fields_at 2 bytes.now }
+    ensures fields { option_map (λ f. (plain_of f.0, f.1.now)) result ≡ fields_at frame_types.ack bytes.now }
     ensures named { IfSome result (λ f. type_of f.0 ≡ frame_types.ack) }
 {
     let Some((ack, rest)) = Ack::read(bytes) else {
@@ -134,7 +140,7 @@ fn ack_alone(bytes: &[u8]) -> Option<(Frame<'_>, &[u8])>
 
 #[tactic(auto, unfolding(crate::specs::AckAt::behind_counts))]
 fn ack_with_counts(bytes: &[u8]) -> Option<(Frame<'_>, &[u8])>
-    ensures fields { option_map (λ f. (plain_of f.0, f.1.now)) result ≡ behind_counts (fields_at 2 bytes.now) }
+    ensures fields { option_map (λ f. (plain_of f.0, f.1.now)) result ≡ behind_counts (fields_at frame_types.ack bytes.now) }
     ensures named { IfSome result (λ f. type_of f.0 ≡ frame_types.ack_ecn) }
 {
     let Some((mut ack, rest)) = Ack::read(bytes) else {

@@ -5,7 +5,7 @@ ghost use Rattle.qh_spec.specs.Acknowledged.{Covers};
 
 use crate::AckRange;
 use crate::write::put_numbers;
-use qh_base::{Memory, VarInt};
+use qh_base::{FrameType, Memory, VarInt};
 
 /// Appends an ACK frame (RFC 9000, section 19.3) of ranges, the greatest first, or nothing.
 pub fn put_ack(out: &mut Vec<u8>, delay: VarInt, ranges: &[AckRange]) -> Result<(), Memory>
@@ -31,7 +31,7 @@ fn append_ack(out: &mut Vec<u8>, delay: u64, ranges: &[AckRange]) -> Result<(), 
     put_numbers(
         out,
         &[
-            2,
+            FrameType::ACK.0,
             first.greatest,
             delay,
             below.len() as u64,

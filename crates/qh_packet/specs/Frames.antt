@@ -3,11 +3,12 @@ use Rattle.std.specs.Prelude.{◌≡◌, ℕ, ◌==◌, Bool, ◌||◌, not, Lis
 use Rattle.std.specs.List.{AllByRecursion, list_any}
 use Rattle.qh_frame.specs.FrameAt.{BeginsWithType, HasNoFrame}
 use Rattle.qh_frame.specs.Range.{IsInRange}
+use Rattle.qh_spec.specs.FrameTypes as frame_types
 use Rattle.qh_spec.specs.QuicFrames.{QuicFrame, IsQuicFrame, AreQuicFrames}
 
 -- all but PADDING, ACK and CONNECTION_CLOSE (RFC 9002, section 2)
 abbrev pub is_ack_eliciting : QuicFrame → Bool
-is_ack_eliciting f = not (f.kind == 0 || (f.kind == 2 || (f.kind == 3 || (f.kind == 28 || f.kind == 29))))
+is_ack_eliciting f = not (f.kind == frame_types.padding || (f.kind == frame_types.ack || (f.kind == frame_types.ack_ecn || (f.kind == frame_types.connection_close || f.kind == frame_types.application_close))))
 
 -- the bytes are these frames, at least one, each with values in range; one of them wants an acknowledgement or none does
 pub record AreSurveyed (bytes : List ℕ) (is_eliciting : Bool) : Type 0 where

@@ -1,5 +1,5 @@
 -- The types of QUIC's frames (RFC 9000, sections 12.4 and 19; RFC 9221, section 4).
-use Rattle.std.specs.Prelude.{ℕ}
+use Rattle.std.specs.Prelude.{ℕ, ◌/◌, ◌==◌, Bool}
 
 abbrev pub padding : ℕ
 padding = 0x00
@@ -82,3 +82,19 @@ datagram = 0x30
 
 abbrev pub datagram_with_length : ℕ
 datagram_with_length = 0x31
+
+-- one of the eight types of STREAM, 08 to 0f (section 19.8)
+abbrev pub is_stream_type : ℕ → Bool
+is_stream_type kind = kind / 8 == 1
+
+-- one of the two types of ACK (section 19.3)
+abbrev pub is_ack_type : ℕ → Bool
+is_ack_type kind = kind / 2 == 1
+
+-- one of the two types of MAX_STREAMS (section 19.11)
+abbrev pub is_max_streams_type : ℕ → Bool
+is_max_streams_type kind = kind / 2 == 9
+
+-- one of the two types of STREAMS_BLOCKED (section 19.14)
+abbrev pub is_streams_blocked_type : ℕ → Bool
+is_streams_blocked_type kind = kind / 2 == 11

@@ -1,5 +1,6 @@
 -- Frames of QUIC (RFC 9000, section 19, and RFC 9221) by the fields that each type has.
 use Rattle.std.specs.Prelude.{◌≡◌, ℕ, ◌+◌, ◌*◌, ◌/◌, ◌<◌, Bool, ◌==◌, List, [], ◌∷◌, ◌++◌, length, Option, Some, None, if◌then◌else◌}
+use Rattle.qh_spec.specs.FrameTypes as frame_types
 use Rattle.qh_spec.specs.QuicFrame.{has_bit}
 use Rattle.qh_spec.specs.Varint.{IsVarint}
 
@@ -37,32 +38,32 @@ stream_shape with_offset with_length =
 -- the fields of each type, in order (RFC 9000, sections 19.1 to 19.20; RFC 9221, section 4)
 unfoldable pub shape_of : ℕ → Option (List Part)
 shape_of kind =
-    if kind == 0 then Some []  -- PADDING
-    else if kind == 1 then Some []  -- PING
-    else if kind == 2 then Some (Number ∷ Number ∷ Ranges ∷ [])  -- ACK: greatest, delay, ranges
-    else if kind == 3 then Some (Number ∷ Number ∷ Ranges ∷ Number ∷ Number ∷ Number ∷ [])  -- ACK with counts of marks
-    else if kind == 4 then Some (Number ∷ Number ∷ Number ∷ [])  -- RESET_STREAM: id, code, final size
-    else if kind == 5 then Some (Number ∷ Number ∷ [])  -- STOP_SENDING: id, code
-    else if kind == 6 then Some (Number ∷ Counted ∷ [])  -- CRYPTO: offset, bytes
-    else if kind == 7 then Some (Counted ∷ [])  -- NEW_TOKEN
-    else if kind / 8 == 1 then Some (stream_shape (has_bit 4 kind) (has_bit 2 kind))  -- STREAM: id, offset, bytes
-    else if kind == 16 then Some (Number ∷ [])  -- MAX_DATA
-    else if kind == 17 then Some (Number ∷ Number ∷ [])  -- MAX_STREAM_DATA: id, limit
-    else if kind == 18 then Some (Number ∷ [])  -- MAX_STREAMS, two-way
-    else if kind == 19 then Some (Number ∷ [])  -- MAX_STREAMS, one-way
-    else if kind == 20 then Some (Number ∷ [])  -- DATA_BLOCKED
-    else if kind == 21 then Some (Number ∷ Number ∷ [])  -- STREAM_DATA_BLOCKED: id, limit
-    else if kind == 22 then Some (Number ∷ [])  -- STREAMS_BLOCKED, two-way
-    else if kind == 23 then Some (Number ∷ [])  -- STREAMS_BLOCKED, one-way
-    else if kind == 24 then Some (Number ∷ Number ∷ ShortCounted ∷ Fixed 16 ∷ [])  -- NEW_CONNECTION_ID: sequence, retire prior to, id, token
-    else if kind == 25 then Some (Number ∷ [])  -- RETIRE_CONNECTION_ID
-    else if kind == 26 then Some (Fixed 8 ∷ [])  -- PATH_CHALLENGE
-    else if kind == 27 then Some (Fixed 8 ∷ [])  -- PATH_RESPONSE
-    else if kind == 28 then Some (Number ∷ Number ∷ Counted ∷ [])  -- CONNECTION_CLOSE: code, type, reason
-    else if kind == 29 then Some (Number ∷ Counted ∷ [])  -- CONNECTION_CLOSE of the application
-    else if kind == 30 then Some []  -- HANDSHAKE_DONE
-    else if kind == 48 then Some (Left ∷ [])  -- DATAGRAM to the packet's end
-    else if kind == 49 then Some (Counted ∷ [])  -- DATAGRAM with a length
+    if kind == frame_types.padding then Some []
+    else if kind == frame_types.ping then Some []
+    else if kind == frame_types.ack then Some (Number ∷ Number ∷ Ranges ∷ [])  -- greatest, delay, ranges
+    else if kind == frame_types.ack_ecn then Some (Number ∷ Number ∷ Ranges ∷ Number ∷ Number ∷ Number ∷ [])  -- greatest, delay, ranges, and the counts of ECN marks
+    else if kind == frame_types.reset_stream then Some (Number ∷ Number ∷ Number ∷ [])  -- id, code, final size
+    else if kind == frame_types.stop_sending then Some (Number ∷ Number ∷ [])  -- id, code
+    else if kind == frame_types.crypto then Some (Number ∷ Counted ∷ [])  -- offset, bytes
+    else if kind == frame_types.new_token then Some (Counted ∷ [])  -- token
+    else if frame_types.is_stream_type kind then Some (stream_shape (has_bit 4 kind) (has_bit 2 kind))  -- id, offset, bytes
+    else if kind == frame_types.max_data then Some (Number ∷ [])  -- limit
+    else if kind == frame_types.max_stream_data then Some (Number ∷ Number ∷ [])  -- id, limit
+    else if kind == frame_types.max_streams_bidi then Some (Number ∷ [])  -- count
+    else if kind == frame_types.max_streams_uni then Some (Number ∷ [])  -- count
+    else if kind == frame_types.data_blocked then Some (Number ∷ [])  -- limit
+    else if kind == frame_types.stream_data_blocked then Some (Number ∷ Number ∷ [])  -- id, limit
+    else if kind == frame_types.streams_blocked_bidi then Some (Number ∷ [])  -- count
+    else if kind == frame_types.streams_blocked_uni then Some (Number ∷ [])  -- count
+    else if kind == frame_types.new_connection_id then Some (Number ∷ Number ∷ ShortCounted ∷ Fixed 16 ∷ [])  -- sequence, retire prior to, id, token
+    else if kind == frame_types.retire_connection_id then Some (Number ∷ [])  -- sequence
+    else if kind == frame_types.path_challenge then Some (Fixed 8 ∷ [])
+    else if kind == frame_types.path_response then Some (Fixed 8 ∷ [])
+    else if kind == frame_types.connection_close then Some (Number ∷ Number ∷ Counted ∷ [])  -- code, type, reason
+    else if kind == frame_types.application_close then Some (Number ∷ Counted ∷ [])  -- code, reason
+    else if kind == frame_types.handshake_done then Some []
+    else if kind == frame_types.datagram then Some (Left ∷ [])
+    else if kind == frame_types.datagram_with_length then Some (Counted ∷ [])
     else None
 
 -- the bytes begin with the number and go on with the rest (RFC 9000, section 16)

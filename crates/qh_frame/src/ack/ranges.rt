@@ -5,6 +5,7 @@ ghost use Rattle.qh_frame.specs.FieldsAt.{pairs_at};
 ghost use Rattle.qh_frame.specs.FrameAt.{fields_at};
 ghost use Rattle.qh_frame.specs.Plain.{ack_of, ranges_of, GoesOn, IsCovered};
 ghost use Rattle.qh_spec.specs.Acknowledged.{Covers};
+ghost use Rattle.qh_spec.specs.FrameTypes as frame_types;
 
 use crate::fields::{number_of, value_of};
 use crate::write::number;
@@ -60,7 +61,7 @@ impl<'a> Ack<'a> {
     // Reads the fields of the type 02, and says what follows them.
     #[tactic(auto, unfolding(crate::specs::FrameAt::fields_at, crate::specs::FieldsAt::ranges_at, crate::specs::AckAt::end_of, qh_spec::specs::QuicFrames::shape_of))]
     pub(crate) fn read(bytes: &'a [u8]) -> Option<(Ack<'a>, &'a [u8])>
-        ensures fields { option_map (λ f. (ack_of f.0, f.1.now)) result ≡ fields_at 2 bytes.now }
+        ensures fields { option_map (λ f. (ack_of f.0, f.1.now)) result ≡ fields_at frame_types.ack bytes.now }
         ensures ecn { IfSome result (λ f. f.0.ecn ≡ None) }
     {
         let Some((greatest, rest)) = number_of(bytes) else {

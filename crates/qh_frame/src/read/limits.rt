@@ -2,6 +2,7 @@ ghost use Rattle.std.specs.Prelude.{◌≡◌, List};
 ghost use Rattle.std.specs.Option.{option_map};
 ghost use Rattle.qh_frame.specs.FrameAt.{fields_at};
 ghost use Rattle.qh_frame.specs.Plain.{plain_of};
+ghost use Rattle.qh_spec.specs.FrameTypes as frame_types;
 
 use crate::Frame;
 use crate::fields::number_of;
@@ -13,7 +14,7 @@ const MAX_STREAMS: u64 = 1 << 60;
 // RESET_STREAM.
 #[tactic(auto, unfolding(crate::specs::FrameAt::fields_at, qh_spec::specs::QuicFrames::shape_of))]
 pub(super) fn reset_stream(bytes: &[u8]) -> Option<(Frame<'_>, &[u8])>
-    ensures { option_map (λ f. (plain_of f.0, f.1.now)) result ≡ fields_at 4 bytes.now }
+    ensures { option_map (λ f. (plain_of f.0, f.1.now)) result ≡ fields_at frame_types.reset_stream bytes.now }
 {
     let Some((id, rest)) = number_of(bytes) else {
         return None;
@@ -37,7 +38,7 @@ pub(super) fn reset_stream(bytes: &[u8]) -> Option<(Frame<'_>, &[u8])>
 // STOP_SENDING.
 #[tactic(auto, unfolding(crate::specs::FrameAt::fields_at, qh_spec::specs::QuicFrames::shape_of))]
 pub(super) fn stop_sending(bytes: &[u8]) -> Option<(Frame<'_>, &[u8])>
-    ensures { option_map (λ f. (plain_of f.0, f.1.now)) result ≡ fields_at 5 bytes.now }
+    ensures { option_map (λ f. (plain_of f.0, f.1.now)) result ≡ fields_at frame_types.stop_sending bytes.now }
 {
     let Some((id, rest)) = number_of(bytes) else {
         return None;
@@ -57,7 +58,7 @@ pub(super) fn stop_sending(bytes: &[u8]) -> Option<(Frame<'_>, &[u8])>
 // MAX_DATA.
 #[tactic(auto, unfolding(crate::specs::FrameAt::fields_at, qh_spec::specs::QuicFrames::shape_of))]
 pub(super) fn max_data(bytes: &[u8]) -> Option<(Frame<'_>, &[u8])>
-    ensures { option_map (λ f. (plain_of f.0, f.1.now)) result ≡ fields_at 16 bytes.now }
+    ensures { option_map (λ f. (plain_of f.0, f.1.now)) result ≡ fields_at frame_types.max_data bytes.now }
 {
     let Some((limit, rest)) = number_of(bytes) else {
         return None;
@@ -68,7 +69,7 @@ pub(super) fn max_data(bytes: &[u8]) -> Option<(Frame<'_>, &[u8])>
 // MAX_STREAM_DATA.
 #[tactic(auto, unfolding(crate::specs::FrameAt::fields_at, qh_spec::specs::QuicFrames::shape_of))]
 pub(super) fn max_stream_data(bytes: &[u8]) -> Option<(Frame<'_>, &[u8])>
-    ensures { option_map (λ f. (plain_of f.0, f.1.now)) result ≡ fields_at 17 bytes.now }
+    ensures { option_map (λ f. (plain_of f.0, f.1.now)) result ≡ fields_at frame_types.max_stream_data bytes.now }
 {
     let Some((id, rest)) = number_of(bytes) else {
         return None;
@@ -88,7 +89,7 @@ pub(super) fn max_stream_data(bytes: &[u8]) -> Option<(Frame<'_>, &[u8])>
 // MAX_STREAMS, two-way.
 #[tactic(auto, unfolding(crate::specs::FrameAt::fields_at, qh_spec::specs::QuicFrames::shape_of))]
 pub(super) fn max_streams_bi(bytes: &[u8]) -> Option<(Frame<'_>, &[u8])>
-    ensures { option_map (λ f. (plain_of f.0, f.1.now)) result ≡ fields_at 18 bytes.now }
+    ensures { option_map (λ f. (plain_of f.0, f.1.now)) result ≡ fields_at frame_types.max_streams_bidi bytes.now }
 {
     let Some((count, rest)) = number_of(bytes) else {
         return None;
@@ -108,7 +109,7 @@ pub(super) fn max_streams_bi(bytes: &[u8]) -> Option<(Frame<'_>, &[u8])>
 // MAX_STREAMS, one-way.
 #[tactic(auto, unfolding(crate::specs::FrameAt::fields_at, qh_spec::specs::QuicFrames::shape_of))]
 pub(super) fn max_streams_uni(bytes: &[u8]) -> Option<(Frame<'_>, &[u8])>
-    ensures { option_map (λ f. (plain_of f.0, f.1.now)) result ≡ fields_at 19 bytes.now }
+    ensures { option_map (λ f. (plain_of f.0, f.1.now)) result ≡ fields_at frame_types.max_streams_uni bytes.now }
 {
     let Some((count, rest)) = number_of(bytes) else {
         return None;
@@ -128,7 +129,7 @@ pub(super) fn max_streams_uni(bytes: &[u8]) -> Option<(Frame<'_>, &[u8])>
 // DATA_BLOCKED.
 #[tactic(auto, unfolding(crate::specs::FrameAt::fields_at, qh_spec::specs::QuicFrames::shape_of))]
 pub(super) fn data_blocked(bytes: &[u8]) -> Option<(Frame<'_>, &[u8])>
-    ensures { option_map (λ f. (plain_of f.0, f.1.now)) result ≡ fields_at 20 bytes.now }
+    ensures { option_map (λ f. (plain_of f.0, f.1.now)) result ≡ fields_at frame_types.data_blocked bytes.now }
 {
     let Some((offset, rest)) = number_of(bytes) else {
         return None;
@@ -139,7 +140,7 @@ pub(super) fn data_blocked(bytes: &[u8]) -> Option<(Frame<'_>, &[u8])>
 // STREAM_DATA_BLOCKED.
 #[tactic(auto, unfolding(crate::specs::FrameAt::fields_at, qh_spec::specs::QuicFrames::shape_of))]
 pub(super) fn stream_data_blocked(bytes: &[u8]) -> Option<(Frame<'_>, &[u8])>
-    ensures { option_map (λ f. (plain_of f.0, f.1.now)) result ≡ fields_at 21 bytes.now }
+    ensures { option_map (λ f. (plain_of f.0, f.1.now)) result ≡ fields_at frame_types.stream_data_blocked bytes.now }
 {
     let Some((id, rest)) = number_of(bytes) else {
         return None;
@@ -159,7 +160,7 @@ pub(super) fn stream_data_blocked(bytes: &[u8]) -> Option<(Frame<'_>, &[u8])>
 // STREAMS_BLOCKED, two-way.
 #[tactic(auto, unfolding(crate::specs::FrameAt::fields_at, qh_spec::specs::QuicFrames::shape_of))]
 pub(super) fn streams_blocked_bi(bytes: &[u8]) -> Option<(Frame<'_>, &[u8])>
-    ensures { option_map (λ f. (plain_of f.0, f.1.now)) result ≡ fields_at 22 bytes.now }
+    ensures { option_map (λ f. (plain_of f.0, f.1.now)) result ≡ fields_at frame_types.streams_blocked_bidi bytes.now }
 {
     let Some((limit, rest)) = number_of(bytes) else {
         return None;
@@ -179,7 +180,7 @@ pub(super) fn streams_blocked_bi(bytes: &[u8]) -> Option<(Frame<'_>, &[u8])>
 // STREAMS_BLOCKED, one-way.
 #[tactic(auto, unfolding(crate::specs::FrameAt::fields_at, qh_spec::specs::QuicFrames::shape_of))]
 pub(super) fn streams_blocked_uni(bytes: &[u8]) -> Option<(Frame<'_>, &[u8])>
-    ensures { option_map (λ f. (plain_of f.0, f.1.now)) result ≡ fields_at 23 bytes.now }
+    ensures { option_map (λ f. (plain_of f.0, f.1.now)) result ≡ fields_at frame_types.streams_blocked_uni bytes.now }
 {
     let Some((limit, rest)) = number_of(bytes) else {
         return None;

@@ -12,7 +12,7 @@ use qh_base::{ConnectionId, ResetToken};
 // CRYPTO.
 #[tactic(auto, unfolding(crate::specs::FrameAt::fields_at, qh_spec::specs::QuicFrames::shape_of))]
 pub(super) fn crypto(bytes: &[u8]) -> Option<(Frame<'_>, &[u8])>
-    ensures { option_map (λ f. (plain_of f.0, f.1.now)) result ≡ fields_at 6 bytes.now }
+    ensures { option_map (λ f. (plain_of f.0, f.1.now)) result ≡ fields_at frame_types.crypto bytes.now }
 {
     let Some((offset, rest)) = number_of(bytes) else {
         return None;
@@ -29,7 +29,7 @@ pub(super) fn crypto(bytes: &[u8]) -> Option<(Frame<'_>, &[u8])>
 // NEW_TOKEN.
 #[tactic(auto, unfolding(crate::specs::FrameAt::fields_at, qh_spec::specs::QuicFrames::shape_of))]
 pub(super) fn new_token(bytes: &[u8]) -> Option<(Frame<'_>, &[u8])>
-    ensures { option_map (λ f. (plain_of f.0, f.1.now)) result ≡ fields_at 7 bytes.now }
+    ensures { option_map (λ f. (plain_of f.0, f.1.now)) result ≡ fields_at frame_types.new_token bytes.now }
 {
     let Some((token, rest)) = counted_of(bytes) else {
         return None;
@@ -43,7 +43,7 @@ pub(super) fn new_token(bytes: &[u8]) -> Option<(Frame<'_>, &[u8])>
 // RETIRE_CONNECTION_ID.
 #[tactic(auto, unfolding(crate::specs::FrameAt::fields_at, qh_spec::specs::QuicFrames::shape_of))]
 pub(super) fn retire_connection_id(bytes: &[u8]) -> Option<(Frame<'_>, &[u8])>
-    ensures { option_map (λ f. (plain_of f.0, f.1.now)) result ≡ fields_at 25 bytes.now }
+    ensures { option_map (λ f. (plain_of f.0, f.1.now)) result ≡ fields_at frame_types.retire_connection_id bytes.now }
 {
     let Some((sequence, rest)) = number_of(bytes) else {
         return None;
@@ -54,7 +54,7 @@ pub(super) fn retire_connection_id(bytes: &[u8]) -> Option<(Frame<'_>, &[u8])>
 // PATH_CHALLENGE.
 #[tactic(auto, unfolding(crate::specs::FrameAt::fields_at, qh_spec::specs::QuicFrames::shape_of))]
 pub(super) fn path_challenge(bytes: &[u8]) -> Option<(Frame<'_>, &[u8])>
-    ensures { option_map (λ f. (plain_of f.0, f.1.now)) result ≡ fields_at 26 bytes.now }
+    ensures { option_map (λ f. (plain_of f.0, f.1.now)) result ≡ fields_at frame_types.path_challenge bytes.now }
 {
     let Some((bytes, rest)) = array_of(bytes) else {
         return None;
@@ -65,7 +65,7 @@ pub(super) fn path_challenge(bytes: &[u8]) -> Option<(Frame<'_>, &[u8])>
 // PATH_RESPONSE.
 #[tactic(auto, unfolding(crate::specs::FrameAt::fields_at, qh_spec::specs::QuicFrames::shape_of))]
 pub(super) fn path_response(bytes: &[u8]) -> Option<(Frame<'_>, &[u8])>
-    ensures { option_map (λ f. (plain_of f.0, f.1.now)) result ≡ fields_at 27 bytes.now }
+    ensures { option_map (λ f. (plain_of f.0, f.1.now)) result ≡ fields_at frame_types.path_response bytes.now }
 {
     let Some((bytes, rest)) = array_of(bytes) else {
         return None;
@@ -76,7 +76,7 @@ pub(super) fn path_response(bytes: &[u8]) -> Option<(Frame<'_>, &[u8])>
 // CONNECTION_CLOSE of the transport.
 #[tactic(auto, unfolding(crate::specs::FrameAt::fields_at, qh_spec::specs::QuicFrames::shape_of))]
 pub(super) fn connection_close(bytes: &[u8]) -> Option<(Frame<'_>, &[u8])>
-    ensures { option_map (λ f. (plain_of f.0, f.1.now)) result ≡ fields_at 28 bytes.now }
+    ensures { option_map (λ f. (plain_of f.0, f.1.now)) result ≡ fields_at frame_types.connection_close bytes.now }
 {
     let Some((code, rest)) = number_of(bytes) else {
         return None;
@@ -100,7 +100,7 @@ pub(super) fn connection_close(bytes: &[u8]) -> Option<(Frame<'_>, &[u8])>
 // CONNECTION_CLOSE of the application.
 #[tactic(auto, unfolding(crate::specs::FrameAt::fields_at, qh_spec::specs::QuicFrames::shape_of))]
 pub(super) fn application_close(bytes: &[u8]) -> Option<(Frame<'_>, &[u8])>
-    ensures { option_map (λ f. (plain_of f.0, f.1.now)) result ≡ fields_at 29 bytes.now }
+    ensures { option_map (λ f. (plain_of f.0, f.1.now)) result ≡ fields_at frame_types.application_close bytes.now }
 {
     let Some((code, rest)) = number_of(bytes) else {
         return None;
@@ -114,7 +114,7 @@ pub(super) fn application_close(bytes: &[u8]) -> Option<(Frame<'_>, &[u8])>
 // DATAGRAM with its length.
 #[tactic(auto, unfolding(crate::specs::FrameAt::fields_at, qh_spec::specs::QuicFrames::shape_of))]
 pub(super) fn datagram_with_length(bytes: &[u8]) -> Option<(Frame<'_>, &[u8])>
-    ensures fields { option_map (λ f. (plain_of f.0, f.1.now)) result ≡ fields_at 49 bytes.now }
+    ensures fields { option_map (λ f. (plain_of f.0, f.1.now)) result ≡ fields_at frame_types.datagram_with_length bytes.now }
     ensures named { IfSome result (λ f. type_of f.0 ≡ frame_types.datagram_with_length) }
 {
     let Some((payload, rest)) = counted_of(bytes) else {
@@ -132,7 +132,7 @@ pub(super) fn datagram_with_length(bytes: &[u8]) -> Option<(Frame<'_>, &[u8])>
 // NEW_CONNECTION_ID.
 #[tactic(auto, unfolding(crate::specs::FrameAt::fields_at, qh_spec::specs::QuicFrames::shape_of))]
 pub(super) fn new_connection_id(bytes: &[u8]) -> Option<(Frame<'_>, &[u8])>
-    ensures { option_map (λ f. (plain_of f.0, f.1.now)) result ≡ fields_at 24 bytes.now }
+    ensures { option_map (λ f. (plain_of f.0, f.1.now)) result ≡ fields_at frame_types.new_connection_id bytes.now }
 {
     let Some((sequence, rest)) = number_of(bytes) else {
         return None;
@@ -169,7 +169,7 @@ pub(super) fn new_connection_id(bytes: &[u8]) -> Option<(Frame<'_>, &[u8])>
 // DATAGRAM to the packet's end.
 #[tactic(auto, unfolding(crate::specs::FrameAt::fields_at, qh_spec::specs::QuicFrames::shape_of))]
 pub(super) fn datagram_to_the_end(bytes: &[u8]) -> Option<(Frame<'_>, &[u8])>
-    ensures fields { option_map (λ f. (plain_of f.0, f.1.now)) result ≡ fields_at 48 bytes.now }
+    ensures fields { option_map (λ f. (plain_of f.0, f.1.now)) result ≡ fields_at frame_types.datagram bytes.now }
     ensures named { IfSome result (λ f. type_of f.0 ≡ frame_types.datagram) }
 {
     Some((
