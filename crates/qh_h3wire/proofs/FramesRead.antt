@@ -1,5 +1,6 @@
 -- What reading a frame tells.
 use Rattle.std.proofs.Common.{◌≡◌, ◌≢◌, ℕ, ◌+◌, ◌<◌, ◌≤◌, ◌==◌, ◌||◌, nat_lt, true, false, List, [], ◌++◌, length, take, drop, refl, sym, ap, ◌∙◌, arith, inl, inr, Option, Some, None, Result, Ok, Err, subst, append_assoc, append-nil, length-append}
+use Rattle.std.specs.Prelude.{IsErrOf}
 use Rattle.std.proofs.lemmas.Bool.{cases_lt, cases_Bool, lt-ltb, le-ltb, eqb-true, eqb-false, or_cases, or_parts}
 use Rattle.std.proofs.lemmas.List.{get_or-take, get_or_past, length-take, take-append-drop, take_at, drop_at, length-take-le, take_all}
 use Rattle.qh_base.specs.Varint.{varint_at}
@@ -9,13 +10,12 @@ use Rattle.qh_spec.specs.Lists.{In}
 use Rattle.qh_spec.specs.Spelling.{known_kinds}
 use Rattle.qh_spec.specs.Varint.{IsVarint}
 use Rattle.qh_h3wire.proofs.Pairs.{Spelled, pair_spelled, pair_again, rest_is, rest_bytes}
-use Rattle.qh_h3wire.proofs.SettingsRead.{at_means, at_fault}
-use Rattle.qh_h3wire.specs.Frame.{IsDataHeader, MeansFrame, headers, cancel_push, settings, push_promise, goaway, max_push_id, IfFrame, IfHeaders, IfDataLen, IfForbidden, IfUnknown, IfMalformed, IfSettingsError, IfIncomplete, IsMeant, reserved_kinds, IsReservedFrame, IsUnknownFrame, id_kinds, IsMalformedFrame, IsFaultySettings, HasNoFrame, HasSoundSettings, IsRead}
+use Rattle.qh_h3wire.proofs.SettingsRead.{at_means, at_fault, fault_read}
+use Rattle.qh_h3wire.specs.Frame.{IsDataHeader, MeansFrame, headers, cancel_push, settings, push_promise, goaway, max_push_id, IfFrame, IfHeaders, IfDataLen, IfForbidden, IfUnknown, IfMalformed, IfSettingsError, IfIncomplete, IsMeant, reserved_kinds, IsReservedFrame, IsUnknownFrame, id_kinds, IsMalformedFrame, IsFaultySettings, HasNoFrame, HasSoundSettings, TakesMemory, IsRead}
 use Rattle.qh_h3wire.specs.FrameAt.{id_of, with_id, with_settings, promise_from, is_reserved_kind, of_other_kind, whole_frame, frame_after, frame_from, frame_at}
 use Rattle.qh_h3wire.specs.Pair.{pair_at}
 use Rattle.qh_h3wire.specs.Settings.{PlainSettings}
 use Rattle.qh_h3wire.specs.SettingsAt.{settings_at}
-use Rattle.qh_h3wire.specs.SettingsReading.{HasSoundFront}
 use Rattle.qh_h3wire.specs.declared.frame.Frame.{Frame}
 use Rattle.qh_h3wire.specs.declared.frame.Frame.TheVariants.{Headers, CancelPush, Goaway, MaxPushId, DataLen}
 use Rattle.qh_h3wire.specs.declared.frame.FrameError.{FrameError}
@@ -99,16 +99,6 @@ cut_payload bytes p h k l = record {
       let same = same_pair p (record { first = 0; second = m; size = length is.kind_bytes + length is.length_bytes }) (pair_at bytes) h (data_pair bytes n m is) in
       k (ap (λ (z : Pair). z.first) same);
 }
-
--- a SETTINGS frame in front has the payload that the two numbers tell
-pub sound_settings : (bytes : List ℕ) (p : Pair) → pair_at bytes ≡ Some p → (p.first ≡ 4 → HasSoundFront (take p.second (drop p.size bytes))) → HasSoundSettings bytes
-sound_settings bytes p h on k payload is =
-    let r = frame_pair bytes k (record { kind = 4; payload = payload }) is in
-    let same = same_pair p (record { first = 4; second = length payload; size = length is.kind_bytes + length is.length_bytes }) (pair_at bytes) h r.0 in
-    let rest : drop p.size bytes ≡ payload ++ drop k bytes = ap (λ (z : Pair). drop z.size bytes) same ∙ r.1 in
-    let count : p.second ≡ length payload = ap (λ (z : Pair). z.second) same in
-    let whole : take p.second (drop p.size bytes) ≡ payload = ap (take p.second) rest ∙ take_at payload (drop k bytes) p.second (sym count) in
-    subst HasSoundFront whole (on (ap (λ (z : Pair). z.first) same))
 
 -- all that an answer and the bytes that it used tell
 pub record Facts (e : Result Frame FrameError × ℕ) (bytes : List ℕ) : Type 0 where
@@ -459,3 +449,24 @@ read_facts bytes (Err (error.Incomplete n)) used are h = subst (λ (z : Result F
 read_facts bytes (Err (error.Settings f)) used are h = subst (λ (z : Result Frame FrameError × ℕ). Facts z bytes) (sym h) (at_facts bytes are)
 read_facts bytes (Err (error.InvalidStreamId id)) used are h = subst (λ (z : Result Frame FrameError × ℕ). Facts z bytes) (sym h) (at_facts bytes are)
 read_facts bytes (Err (error.InvalidPushId id)) used are h = subst (λ (z : Result Frame FrameError × ℕ). Facts z bytes) (sym h) (at_facts bytes are)
+
+-- a SETTINGS frame in front is read as what its payload tells
+settings_in_front : (bytes : List ℕ) (k : ℕ) (payload : List ℕ) → IsBytes bytes → IsHttpFrame (take k bytes) (record { kind = 4; payload = payload })
+    → IsBytes payload × ((frame_at bytes).0 ≡ with_settings (settings_at payload))
+unfolding frame_at
+settings_in_front bytes k payload are is =
+    let size : ℕ = length is.kind_bytes + length is.length_bytes in
+    let r = frame_pair bytes k (record { kind = 4; payload = payload }) is in
+    let there : length payload ≤ length (drop size bytes) = (let l = ap length r.1 in let sum = length-append payload (drop k bytes) in omega arith) in
+    let all : nat_lt (length (drop size bytes)) (length payload) ≡ false = le-ltb (length (drop size bytes)) (length payload) there in
+    let whole : take (length payload) (drop size bytes) ≡ payload = ap (take (length payload)) r.1 ∙ take_at payload (drop k bytes) (length payload) refl in (
+      subst IsBytes whole (part_bytes (length payload) (drop size bytes) (rest_bytes size bytes are)),
+      ap (λ (z : Option Pair). (frame_from z bytes).0) r.0 ∙ rw all (ap (λ (z : List ℕ). with_settings (settings_at z)) whole),
+    )
+
+-- so want of memory stands for no fault of settings
+pub sound_settings : (bytes : List ℕ) (r : Result Frame FrameError) (used : ℕ) → IsBytes bytes → IsRead r used (frame_at bytes) → IsErrOf r error.Memory → HasSoundSettings bytes
+sound_settings bytes r used are read memory k payload is e fault =
+    let told : TakesMemory (frame_at bytes).0 = (subst (λ (z : Result Frame FrameError). IsRead z used (frame_at bytes)) memory read).1 in
+    let front = settings_in_front bytes k payload are is in
+    subst TakesMemory (front.1 ∙ ap with_settings (fault_read payload e front.0 fault)) told

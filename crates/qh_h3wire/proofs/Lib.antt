@@ -12,6 +12,7 @@ pub mod ReadBack
 pub mod Readable
 pub mod Requests
 pub mod Room
+pub mod SettingsFaults
 pub mod SettingsFrames
 pub mod SettingsRead
 pub mod SettingsReading

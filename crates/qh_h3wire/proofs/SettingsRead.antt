@@ -123,7 +123,7 @@ entry_again bytes rest e is =
     ap pair_at (ap (λ (z : List ℕ). z ++ rest) is.whole ∙ append_assoc is.id_bytes is.value_bytes rest)
     ∙ pair_again is.id_bytes is.value_bytes rest e.id e.value is.id_is is.value_is
 
-entry_size : (bytes : List ℕ) (e : Entry) (is : IsEntry bytes e) → length bytes ≡ length is.id_bytes + length is.value_bytes
+pub entry_size : (bytes : List ℕ) (e : Entry) (is : IsEntry bytes e) → length bytes ≡ length is.id_bytes + length is.value_bytes
 entry_size bytes e is = ap length is.whole ∙ length-append is.id_bytes is.value_bytes
 
 entry_some : (bytes : List ℕ) (e : Entry) → IsEntry bytes e → 0 < length bytes

@@ -13,7 +13,7 @@ use Rattle.qh_h3wire.specs.SettingsAt.{has_id, own_fault, fault_of, entry_of}
 use Rattle.qh_base.proofs.Varints.{IsBytes}
 use Rattle.qh_h3wire.proofs.SettingsRead.{no_id, so_far_cut, so_far_more, so_far_fault, allowed_is, fault_is, pair_shortens}
 use Rattle.qh_h3wire.specs.Pair.{pair_at}
-use Rattle.qh_h3wire.specs.SettingsReading.{with_entry, HasRead, SoFar, IsReading, RefusesEntry, RefusesSettings}
+use Rattle.qh_h3wire.specs.SettingsReading.{with_entry, HasRead, SoFar, IsReading, RefusesEntry, StopsReading}
 use Rattle.qh_h3wire.specs.declared.pair.Pair.{Pair}
 use Rattle.qh_h3wire.specs.SettingsValue.{plain_of}
 use Rattle.qh_spec.proofs.Members.{distinct_more}
@@ -147,10 +147,8 @@ refused : (payload rest : List ℕ) (old : Reading) (p : Pair) (f : SettingsErro
 refused payload rest old p f are h r e = so_far_fault payload rest r.front p f are r.so_far h (fault_is r.front (entry_of p) f e)
 
 pub front_refused : (payload rest : List ℕ) (old : Reading) (p : Pair) (f : SettingsError) → IsBytes rest → pair_at rest ≡ Some p → IsReading payload rest old
-    → ((front : List Entry) → HasRead front old → RefusesEntry f front (entry_of p)) → RefusesSettings f payload
-front_refused payload rest old p Memory are h r on =
-    let more = so_far_more payload rest r.front p are r.so_far h (allowed_is r.front (entry_of p) (on r.front r.read)) in
-    (r.front ++ entry_of p ∷ [], drop p.size rest, more, λ e. let l = ap length e in omega (arith, l, length-append r.front (entry_of p ∷ [])))
+    → ((front : List Entry) → HasRead front old → RefusesEntry f front (entry_of p)) → StopsReading f payload
+front_refused payload rest old p Memory are h r on = tt
 front_refused payload rest old p Malformed are h r on = refused payload rest old p Malformed are h r (on r.front r.read)
 front_refused payload rest old p (Repeated id) are h r on = refused payload rest old p (Repeated id) are h r (on r.front r.read)
 front_refused payload rest old p (Forbidden id) are h r on = refused payload rest old p (Forbidden id) are h r (on r.front r.read)
@@ -163,12 +161,6 @@ entry_refused front e Malformed h = h
 entry_refused front e (Repeated id) h = h
 entry_refused front e (Forbidden id) h = h
 entry_refused front e (Value id value) h = h
-
--- an id that is new, for which there was no memory
-pub unmade : (front : List Entry) (old : Reading) (e : Entry) (own : Option SettingsError) → HasRead front old → contains nat_cmp old.seen e.id ≡ false → own ≡ own_fault e
-    → RefusesEntry (unwrap_or own Memory) front e
-unmade front old e None r new own = let fresh : has_id e.id front ≡ false = sym (r.seen e.id) ∙ new in (rw fresh (sym own))
-unmade front old e (Some f) r new own = let fresh : has_id e.id front ≡ false = sym (r.seen e.id) ∙ new in entry_refused front e f (rw fresh (sym own))
 
 -- settings so far hold two others at most
 

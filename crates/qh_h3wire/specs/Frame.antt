@@ -5,8 +5,7 @@ use Rattle.qh_spec.specs.Lists.{In}
 use Rattle.qh_spec.specs.Spelling.{known_kinds}
 use Rattle.qh_spec.specs.Varint.{IsVarint}
 use Rattle.qh_h3wire.specs.HttpFrameTypes as types
-use Rattle.qh_h3wire.specs.Settings.{PlainSettings, MeansSettings, IsSettingsFault}
-use Rattle.qh_h3wire.specs.SettingsReading.{HasSoundFront}
+use Rattle.qh_h3wire.specs.Settings.{PlainSettings, MeansSettings, IsSettingsFault, HasNoFault}
 use Rattle.qh_h3wire.specs.SettingsValue.{settings_value}
 use Rattle.qh_h3wire.specs.declared.frame.Frame.{Frame}
 use Rattle.qh_h3wire.specs.declared.frame.Frame.TheVariants.{Headers, CancelPush, Settings, PushPromise, Goaway, MaxPushId, DataLen}
@@ -73,7 +72,7 @@ pub record IsMeant (bytes : List ℕ) (frame : Frame) : Type 0 where
 
 -- the types that HTTP/2 had and HTTP/3 reserves (section 7.2.8)
 abbrev pub reserved_kinds : List ℕ
-reserved_kinds = 2 ∷ 6 ∷ 8 ∷ 9 ∷ []
+reserved_kinds = types.http2_priority ∷ types.http2_ping ∷ types.http2_window_update ∷ types.http2_continuation ∷ []
 
 -- a frame of a reserved type
 pub record IsReservedFrame (bytes : List ℕ) (kind : ℕ) : Type 0 where
@@ -104,21 +103,20 @@ pub record IsFaultySettings (bytes : List ℕ) (e : SettingsError) : Type 0 wher
   pub is : IsHttpFrame bytes (record { kind = types.settings; payload = payload })
   pub fault : IsSettingsFault payload e
 
--- If the bytes begin with a SETTINGS frame, it begins with an entry that isn't at fault; of those behind it nothing is said.
+-- if the bytes begin with a SETTINGS frame, nothing is wrong with its payload
 abbrev pub HasSoundSettings : List ℕ → Type 0
-HasSoundSettings bytes = (k : ℕ) (payload : List ℕ) → IsHttpFrame (take k bytes) (record { kind = types.settings; payload = payload }) → HasSoundFront payload
+HasSoundSettings bytes = (k : ℕ) (payload : List ℕ) → IsHttpFrame (take k bytes) (record { kind = types.settings; payload = payload }) → HasNoFault payload
 
 -- no front of the bytes is a frame, nor the header of a DATA frame
 pub record HasNoFrame (bytes : List ℕ) : Type 0 where
   pub no_frame : (k : ℕ) (f : HttpFrame) → IsHttpFrame (take k bytes) f → ⊥
   pub no_data_header : (k n : ℕ) → IsDataHeader (take k bytes) n → ⊥
 
--- the answers in whose place want of memory may be told: those that keep a payload, and those of SETTINGS
+-- the answers in whose place want of memory may be told: the frames that keep a payload, and settings
 abbrev pub TakesMemory : Result Frame FrameError → Type 0
 TakesMemory (Ok (Headers section)) = Unit {0}
 TakesMemory (Ok (PushPromise id section)) = Unit {0}
 TakesMemory (Ok (Settings s)) = Unit {0}
-TakesMemory (Err (error.Settings e)) = Unit {0}
 TakesMemory _ = ⊥
 
 -- the answer about a whole frame is the expected one, but for want of memory

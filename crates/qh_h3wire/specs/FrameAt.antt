@@ -38,7 +38,8 @@ promise_from (Some found) payload = Ok (PushPromise found.0 (drop found.1 payloa
 
 -- the types that HTTP/2 had and HTTP/3 reserves (section 7.2.8)
 abbrev pub is_reserved_kind : ℕ → Bool
-is_reserved_kind kind = (kind == 2) || ((kind == 6) || ((kind == 8) || (kind == 9)))
+is_reserved_kind kind =
+    (kind == types.http2_priority) || ((kind == types.http2_ping) || ((kind == types.http2_window_update) || (kind == types.http2_continuation)))
 
 -- a frame of a type that has no meaning here
 abbrev pub of_other_kind : ℕ → Result Frame FrameError

@@ -106,6 +106,10 @@ pub data IsSettingsFault (payload : List ℕ) : SettingsError → Type 0 where
   cut : (front : List Entry) (bytes rest : List ℕ) → payload ≡ bytes ++ rest → AreEntries bytes front → AreAllowed [] front → rest ≢ []
       → ((entry_bytes more : List ℕ) (e : Entry) → rest ≡ entry_bytes ++ more → IsEntry entry_bytes e → ⊥) → IsSettingsFault payload Malformed
 
+-- nothing is wrong with the payload
+abbrev pub HasNoFault : List ℕ → Type 0
+HasNoFault payload = (e : SettingsError) → IsSettingsFault payload e → ⊥
+
 -- an entry in the shortest forms
 abbrev pub entry_bytes : ℕ × ℕ → List ℕ
 entry_bytes p = varint p.0 ++ varint p.1

@@ -1,10 +1,10 @@
 -- What was read of a SETTINGS frame so far, as the code keeps it.
-use Rattle.std.specs.Prelude.{◌≡◌, ◌≢◌, ◌<◌, ◌^◌, ℕ, length, ◌==◌, List, [], ◌∷◌, ◌++◌, None, Some, Result, MatchResult, if◌then◌else◌}
+use Rattle.std.specs.Prelude.{◌≡◌, ◌<◌, ◌^◌, ℕ, length, ◌==◌, List, [], ◌∷◌, ◌++◌, None, Some, Result, MatchResult, if◌then◌else◌}
 use Rattle.std.specs.List.{AllByRecursion}
 use Rattle.std.specs.Borrow.{Bor}
 use Rattle.std.specs.BTreeSet.{contains}
 use Rattle.std.specs.Ordering.{nat_cmp}
-use Rattle.qh_h3wire.specs.Settings.{Entry, AreEntries, AreAllowed, PlainSettings, settings_of, is_kept, pair_of, IsSettingsFault}
+use Rattle.qh_h3wire.specs.Settings.{Entry, AreEntries, AreAllowed, PlainSettings, settings_of, is_kept, pair_of, IsSettingsFault, HasNoFault}
 use Rattle.qh_h3wire.specs.SettingsAt.{has_id, fault_of}
 use Rattle.qh_h3wire.specs.SettingsIds as ids
 use Rattle.qh_h3wire.specs.SettingsValue.{plain_of}
@@ -36,9 +36,9 @@ pub record IsReading (payload rest : List ℕ) (r : Reading) : Type 0 where
   pub so_far : SoFar payload rest front
   pub read : HasRead front r
 
--- the fault of the entry behind these, or want of memory for one that has none
+-- the fault of the entry behind these; want of memory tells nothing of it
 abbrev pub RefusesEntry : SettingsError → List Entry → Entry → Type 0
-RefusesEntry Memory front e = fault_of front e ≡ None
+RefusesEntry Memory front e = Unit {0}
 RefusesEntry f front e = fault_of front e ≡ Some f
 
 -- the entry was read behind these, or it is at fault
@@ -46,19 +46,20 @@ abbrev pub TakesEntry : {T : Type 0} → Result T SettingsError → List Entry �
 TakesEntry result front e new =
     MatchResult result (λ _. (fault_of front e ≡ None) × HasRead (front ++ e ∷ []) new) (λ f. RefusesEntry f front e)
 
--- the payload begins with an entry that isn't at fault, or with several; of those behind them nothing is said
-abbrev pub HasSoundFront : List ℕ → Type 0
-HasSoundFront payload = (front : List Entry) × (rest : List ℕ) × SoFar payload rest front × (front ≢ [])
+-- the fault of a payload; want of memory tells nothing of it
+abbrev pub StopsReading : SettingsError → List ℕ → Type 0
+StopsReading Memory payload = Unit {0}
+StopsReading e payload = IsSettingsFault payload e
 
--- the fault of a payload, or want of memory for an entry that has none
+-- the fault of a payload, or want of memory for one that has none
 abbrev pub RefusesSettings : SettingsError → List ℕ → Type 0
-RefusesSettings Memory payload = HasSoundFront payload
+RefusesSettings Memory payload = HasNoFault payload
 RefusesSettings e payload = IsSettingsFault payload e
 
 -- an entry was read in front of the rest, or the payload is at fault
 abbrev pub TakesFront : Result (Bor (List ℕ)) SettingsError → (payload rest : List ℕ) → Reading → Type 0
 TakesFront result payload rest new =
-    MatchResult result (λ after. (length after.now < length rest) × IsReading payload after.now new) (λ e. RefusesSettings e payload)
+    MatchResult result (λ after. (length after.now < length rest) × IsReading payload after.now new) (λ e. StopsReading e payload)
 
 -- the numbers of each pair have forms
 abbrev pub HaveForms : List (ℕ × ℕ) → Type 0

@@ -6,10 +6,8 @@ ghost use Rattle.qh_h3wire.specs.Frame.{IsDataHeader, MeansFrame, IfFrame, IfHea
 ghost use Rattle.qh_h3wire.specs.FrameAt.{id_at, with_settings, promise_from, whole_frame, frame_at};
 ghost use Rattle.qh_h3wire.specs.FrameBytes.{IsWritable, IsInRoom, frame_bytes, as_read, used_bytes, settings_frame, shared_payload, head_bytes};
 ghost use Rattle.qh_h3wire.specs.FrameFault.{code_of};
-ghost use Rattle.qh_h3wire.specs.HttpFrameTypes as types;
 ghost use Rattle.qh_h3wire.specs.Settings.{AreWritable};
 ghost use Rattle.qh_h3wire.specs.SettingsAt.{settings_at};
-ghost use Rattle.qh_h3wire.specs.SettingsReading.{HasSoundFront};
 ghost use Rattle.qh_h3wire.specs.SettingsValue.{plain_of};
 ghost use Rattle.qh_h3wire.specs.declared.frame.Frame.{Frame as AFrame};
 ghost use Rattle.qh_h3wire.specs.Grown.{HasGrown};
@@ -171,6 +169,18 @@ const GOAWAY: u64 = 7;
 /// The type of a MAX_PUSH_ID frame (section 7.2.7).
 const MAX_PUSH_ID: u64 = 13;
 
+/// The type of a PRIORITY frame of HTTP/2 (section 7.2.8).
+const HTTP2_PRIORITY: u64 = 2;
+
+/// The type of a PING frame of HTTP/2.
+const HTTP2_PING: u64 = 6;
+
+/// The type of a WINDOW_UPDATE frame of HTTP/2.
+const HTTP2_WINDOW_UPDATE: u64 = 8;
+
+/// The type of a CONTINUATION frame of HTTP/2.
+const HTTP2_CONTINUATION: u64 = 9;
+
 /// The first of the types that readers skip (section 7.2.8).
 const GREASE: u64 = 0x21;
 
@@ -241,7 +251,7 @@ impl Frame {
     /// Reads the frame that begins the bytes, and says how many bytes it used. Of a DATA frame these are the type and
     /// the length, whether or not the payload is there. A frame that is refused, or to be skipped, is used up with its
     /// payload. After `Incomplete` and `Memory` nothing is used. `Memory` is answered only for a frame that keeps a payload,
-    /// and for a SETTINGS frame behind at least one entry that isn't at fault.
+    /// and for a SETTINGS frame whose payload has no fault.
     pub fn decode(alloc: Global, bytes: &[u8]) -> (Result<Frame, FrameError>, usize)
         ensures exact { IsRead result.0 result.1 (frame_at bytes.now) }
         ensures within { result.1 ≤ length bytes.now }
@@ -314,7 +324,6 @@ fn write_settings(out: &mut Vec<u8>, settings: &Settings) -> Result<(), Memory>
 fn decode_by_list(alloc: Global, bytes: &[u8]) -> (Result<Frame, FrameError>, usize)
     ensures exact { IsRead result.0 result.1 (frame_at bytes.now) }
     ensures within { result.1 ≤ length bytes.now }
-    ensures memory { IsErrOf result.0 FrameError.Memory → HasSoundSettings bytes.now }
 {
     let Some(
         Pair {
@@ -342,8 +351,7 @@ fn decode_by_list(alloc: Global, bytes: &[u8]) -> (Result<Frame, FrameError>, us
 
 // A frame that isn't DATA, with its payload.
 fn read_whole(alloc: Global, kind: u64, payload: &[u8]) -> Result<Frame, FrameError>
-    ensures whole { IsWholeRead result (whole_frame kind payload.now) }
-    ensures memory { IsErrOf result FrameError.Memory → kind ≡ types.settings → HasSoundFront payload.now }
+    ensures { IsWholeRead result (whole_frame kind payload.now) }
 {
     match kind {
         HEADERS => Ok(Frame::Headers(Bytes::copy_from_slice(alloc, payload)?)),
@@ -352,15 +360,16 @@ fn read_whole(alloc: Global, kind: u64, payload: &[u8]) -> Result<Frame, FrameEr
         PUSH_PROMISE => read_promise(alloc, payload),
         GOAWAY => Ok(Frame::Goaway(read_id(payload)?)),
         MAX_PUSH_ID => Ok(Frame::MaxPushId(read_id(payload)?.into_inner())),
-        2 | 6 | 8 | 9 => Err(FrameError::ForbiddenFrame(kind)),
+        HTTP2_PRIORITY | HTTP2_PING | HTTP2_WINDOW_UPDATE | HTTP2_CONTINUATION => {
+            Err(FrameError::ForbiddenFrame(kind))
+        }
         _ => Err(FrameError::UnknownFrame(kind)),
     }
 }
 
 // The settings that the payload means.
 fn read_settings(alloc: Global, payload: &[u8]) -> Result<Frame, FrameError>
-    ensures whole { IsWholeRead result (with_settings (settings_at payload.now)) }
-    ensures memory { IsErrOf result FrameError.Memory → HasSoundFront payload.now }
+    ensures { IsWholeRead result (with_settings (settings_at payload.now)) }
 {
     match Settings::decode(alloc, payload) {
         Ok(settings) => Ok(Frame::Settings(settings)),

@@ -1,8 +1,8 @@
-ghost use Rattle.std.specs.Prelude.{◌≡◌, ℕ, ◌<◌, ◌^◌, ◌++◌, List, length, flat_map, MatchResult, OnOk, OnErr};
-ghost use Rattle.qh_h3wire.specs.Settings.{Entry, PlainSettings, MeansSettings, IsSettingsFault, AreWritable, entry_bytes, limited, switched, settings_bytes};
+ghost use Rattle.std.specs.Prelude.{◌≡◌, ℕ, ◌<◌, ◌^◌, ◌++◌, List, length, flat_map, MatchOption, MatchResult, OnOk, OnErr};
+ghost use Rattle.qh_h3wire.specs.Settings.{Entry, PlainSettings, AreEntries, MeansSettings, IsSettingsFault, HasNoFault, AreWritable, entry_bytes, limited, switched, settings_bytes};
 ghost use Rattle.qh_h3wire.specs.Grown.{HasGrown};
-ghost use Rattle.qh_h3wire.specs.SettingsAt.{entry_of, own_fault};
-ghost use Rattle.qh_h3wire.specs.SettingsReading.{HaveForms, with_entry, HasRead, IsReading, RefusesSettings, TakesEntry, TakesFront};
+ghost use Rattle.qh_h3wire.specs.SettingsAt.{entry_of, has_id, own_fault};
+ghost use Rattle.qh_h3wire.specs.SettingsReading.{HaveForms, with_entry, HasRead, IsReading, RefusesSettings, StopsReading, TakesEntry, TakesFront};
 ghost use Rattle.qh_h3wire.specs.SettingsValue.{plain_of, default_settings};
 ghost use Rattle.qh_h3wire.specs.declared.settings.SettingsError.{SettingsError as AnError};
 
@@ -38,7 +38,7 @@ pub enum SettingsError {
     Forbidden(u64),
     /// A flag, with its id, is neither 0 nor 1.
     Value(u64, u64),
-    /// The allocator had no memory for an entry. The first one isn't at fault; of those behind it the contract says nothing.
+    /// The allocator had no memory, and the payload has no fault.
     Memory,
 }
 
@@ -99,6 +99,16 @@ impl Settings {
     /// Reads the payload of a SETTINGS frame.
     pub(crate) fn decode(alloc: Global, payload: &[u8]) -> Result<Settings, SettingsError>
         ensures { MatchResult result (λ s. MeansSettings payload.now (plain_of s)) (λ e. RefusesSettings e payload.now) }
+    {
+        match Settings::read(alloc, payload) {
+            Err(SettingsError::Memory) => Err(fault_in(payload).unwrap_or(SettingsError::Memory)),
+            answer => answer,
+        }
+    }
+
+    // The same, but `Memory` says nothing of the payload.
+    fn read(alloc: Global, payload: &[u8]) -> Result<Settings, SettingsError>
+        ensures { MatchResult result (λ s. MeansSettings payload.now (plain_of s)) (λ e. StopsReading e payload.now) }
     {
         let mut reading = Reading {
             seen: BTreeSet::new(alloc),
@@ -165,19 +175,53 @@ impl Reading {
         requires { length self.old.settings.other.items < 8 }
         ensures { (front : List Entry) → HasRead front self.old → TakesEntry result front (entry_of entry) self.new }
     {
-        let own = own_fault(entry);
         match self.seen.insert(entry.first) {
             Ok(true) => {}
             Ok(false) => return Err(SettingsError::Repeated(entry.first)),
-            // An id that was seen takes no memory: this one is new.
-            Err(_) => return Err(own.unwrap_or(SettingsError::Memory)),
+            Err(_) => return Err(SettingsError::Memory),
         }
-        if let Some(fault) = own {
+        if let Some(fault) = own_fault(entry) {
             return Err(fault);
         }
         self.settings.set(entry);
         Ok(())
     }
+}
+
+// The fault of a payload. It takes no memory: it looks for each id among the entries before it, in a time that grows with the
+// square of their number. So it is called only if the allocator had no memory, and the buffer that holds the frame bounds
+// what a peer can make of it.
+fn fault_in(payload: &[u8]) -> Option<SettingsError>
+    ensures { MatchOption result (HasNoFault payload.now) (λ e. IsSettingsFault payload.now e) }
+{
+    let mut at = 0;
+    while at < payload.len() {
+        let Some(entry) = Pair::read(&payload[at..]) else {
+            return Some(SettingsError::Malformed);
+        };
+        if has_id(&payload[..at], entry.first) {
+            return Some(SettingsError::Repeated(entry.first));
+        }
+        if let Some(fault) = own_fault(entry) {
+            return Some(fault);
+        }
+        at += entry.size;
+    }
+    None
+}
+
+// Whether one of the entries has this id.
+fn has_id(entries: &[u8], id: u64) -> bool
+    ensures { (es : List Entry) → AreEntries entries.now es → result ≡ has_id id es }
+{
+    let mut rest = entries;
+    while let Some(entry) = Pair::read(rest) {
+        if entry.first == id {
+            return true;
+        }
+        rest = &rest[entry.size..];
+    }
+    false
 }
 
 // Why an entry may stand nowhere.
@@ -239,5 +283,5 @@ fn write_switch(out: &mut Vec<u8>, id: u64, on: bool) -> Result<(), Memory>
 /// The payload of a SETTINGS frame has one fault at most, and none where it means settings.
 pub fn settings_faults()
     ensures one { (payload : List ℕ) (e f : AnError) → IsSettingsFault payload e → IsSettingsFault payload f → e ≡ f }
-    ensures none { (payload : List ℕ) (s : PlainSettings) (e : AnError) → MeansSettings payload s → IsSettingsFault payload e → ⊥ }
+    ensures none { (payload : List ℕ) (s : PlainSettings) → MeansSettings payload s → HasNoFault payload }
 {}

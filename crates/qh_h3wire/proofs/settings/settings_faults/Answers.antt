@@ -5,4 +5,4 @@ pub returns-clause-one : goal.returns-clause-one
 returns-clause-one c = one_settings_fault
 
 pub returns-clause-none : goal.returns-clause-none
-returns-clause-none c = means_or_fault
+returns-clause-none c payload s means e = means_or_fault payload s e means

@@ -1,5 +1,5 @@
 use Rattle.std.proofs.Common.{arith}
-use Rattle.qh_h3wire.proofs.FramesRead.{read_facts}
+use Rattle.qh_h3wire.proofs.FramesRead.{read_facts, sound_settings}
 use Rattle.qh_h3wire.proofs.frame.Frame.decode.Goals as goal
 
 pub returns-clause-found : goal.returns-clause-found
@@ -25,3 +25,6 @@ returns-clause-settings c = (read_facts c.args.bytes.now c.decode_by_list.result
 
 pub returns-clause-incomplete : goal.returns-clause-incomplete
 returns-clause-incomplete c = (read_facts c.args.bytes.now c.decode_by_list.result.0 c.decode_by_list.result.1 (λ i. omega (arith, c.type_inv.bytes i)) c.decode_by_list.ensures.exact).incomplete
+
+pub returns-clause-memory : goal.returns-clause-memory
+returns-clause-memory c = sound_settings c.args.bytes.now c.decode_by_list.result.0 c.decode_by_list.result.1 (λ i. omega (arith, c.type_inv.bytes i)) c.decode_by_list.ensures.exact

@@ -1,6 +1,6 @@
 use Rattle.std.proofs.Common.{length}
 use Rattle.qh_h3wire.specs.SettingsReading.{IsReading}
-use Rattle.qh_h3wire.proofs.settings.Settings.decode.Given as goal
+use Rattle.qh_h3wire.proofs.settings.Settings.read.Given as goal
 
 abbrev pub invariant-loop-rest : goal.invariant-loop-rest
 invariant-loop-rest l = IsReading l.payload l.rest l.reading
