@@ -13,7 +13,7 @@ use Rattle.qh_spec.specs.Refusal as told
 use Rattle.qh_spec.specs.Refusal.{HeaderFault, fields_map, IsOneTooMany, IsTaken, IsFieldFault, AreTaken, IsRefused}
 use Rattle.qh_h3wire.specs.HeadFields.{with_fields, with_parsed}
 use Rattle.qh_h3wire.specs.Header.{trailer_header, IsHeaderOf}
-use Rattle.qh_h3wire.specs.HeadReading.{AreRead, RefusesLine, TakesLine, RefusesLines}
+use Rattle.qh_h3wire.specs.HeadReading.{AreRead, RefusesLine, TakesLine}
 use Rattle.qh_h3wire.specs.HeaderFault.{IfFault, IsParsed, RefusesField, RefusesMore, HasRoomFor}
 use Rattle.qh_h3wire.specs.PlainHeader.{PlainHeader}
 use Rattle.qh_h3wire.specs.declared.headers.HeaderError.{HeaderError}
@@ -49,7 +49,7 @@ refused_more front (g ∷ fs) rest f e a r =
     inr (a.0, refused_more (front ++ g ∷ []) fs rest f e a.1 (subst (λ (z : List Field). IsFieldFault z f e) (sym (append_assoc front (g ∷ []) fs)) r))
 
 -- an error whose fault is one of this field is one of the whole list
-fault_in : (P Q : HeaderFault → Type 0) (e : HeaderError) → ((a : HeaderFault) → P a → Q a) → IfFault e P → IfFault e Q
+pub fault_in : (P Q : HeaderFault → Type 0) (e : HeaderError) → ((a : HeaderFault) → P a → Q a) → IfFault e P → IfFault e Q
 fault_in P Q InvalidHeaderName w h = w told.InvalidHeaderName h
 fault_in P Q InvalidHeaderValue w h = w told.InvalidHeaderValue h
 fault_in P Q InvalidRequest w h = w told.InvalidRequest h
@@ -59,7 +59,7 @@ fault_in P Q MissingAuthority w h = w told.MissingAuthority h
 fault_in P Q ContradictedAuthority w h = w told.ContradictedAuthority h
 fault_in P Q Memory w h = tt
 
-readable_of : (f : Field) (p : ParsedField) → IsParsed f p → IsReadable f
+pub readable_of : (f : Field) (p : ParsedField) → IsParsed f p → IsReadable f
 readable_of f (Method m) h = method h.0 h.1
 readable_of f (Scheme s) h = scheme h.0 h.1
 readable_of f (Authority a) h = authority h.0 h.1
@@ -85,7 +85,7 @@ unread front f MissingMethod r = absurd r
 unread front f MissingStatus r = absurd r
 unread front f MissingAuthority r = absurd r
 unread front f ContradictedAuthority r = absurd r
-unread front f Memory r = r
+unread front f Memory r = tt
 
 no_room : (front : List Field) (f : Field) (p : ParsedField) → IsParsed f p → RefusesMore InvalidHeaderName (fields_map front) p → IsFieldFault front f told.InvalidHeaderName
 no_room front f (Plain n v) h r = inr (plain h.0 h.1, (h.0, subst (λ (z : List ℕ). RefusesAppend (fields_map front) z) h.2 r))
@@ -103,7 +103,7 @@ unkept front f p MissingMethod h r = absurd r
 unkept front f p MissingStatus h r = absurd r
 unkept front f p MissingAuthority h r = absurd r
 unkept front f p ContradictedAuthority h r = absurd r
-unkept front f p Memory h r = inl (readable_of f p h)
+unkept front f p Memory h r = tt
 
 other : (f : Field) (own name : List ℕ) → f.name ≡ own → slice_index own 2 ≢ slice_index name 2 → f.name ≢ name
 other f own name e n same = apart f.name own name e same n
@@ -185,25 +185,18 @@ pub line_kept : {T : Type 0} (r : Result T HeaderError) (front : List Field) (f 
 line_kept (Ok x) front f p m n a b h k room more r = one_read front f p m n a b h room k r
 line_kept (Err e) front f p m n a b h k room more r = unkept front f p e h (subst (λ (z : Entries FieldValue). RefusesMore e z p) r.is.fields_are more)
 
-in_list : (fs : List Field) (i : ℕ) (f : Field) (e : HeaderError) → fs ≡ take i fs ++ f ∷ drop (suc i) fs → AreTaken [] (take i fs) → IfFault e (IsFieldFault (take i fs) f) → IfFault e (IsRefused [] fs)
+pub split_at : (fs : List Field) (i : ℕ) (f : Field) → i < length fs → f ≡ get_or fs i f → fs ≡ take i fs ++ f ∷ drop (suc i) fs
+split_at fs i f l same = field_split fs i f l ∙ ap (λ (z : Field). take i fs ++ z ∷ drop (suc i) fs) (sym same)
+
+pub in_list : (fs : List Field) (i : ℕ) (f : Field) (e : HeaderError) → fs ≡ take i fs ++ f ∷ drop (suc i) fs → AreTaken [] (take i fs) → IfFault e (IsFieldFault (take i fs) f) → IfFault e (IsRefused [] fs)
 in_list fs i f e split t h =
     subst (λ (z : List Field). IfFault e (IsRefused [] z)) (sym split)
     (fault_in (IsFieldFault (take i fs) f) (IsRefused [] (take i fs ++ f ∷ drop (suc i) fs)) e (λ a r. refused_more [] (take i fs) (drop (suc i) fs) f a t r) h)
 
-refused_at : (fs : List Field) (i : ℕ) (f : Field) (e : HeaderError) → fs ≡ take i fs ++ f ∷ drop (suc i) fs → AreTaken [] (take i fs) → RefusesLine e (take i fs) f → RefusesLines e fs
-refused_at fs i f Memory split t h = record { front = take i fs; line = f; rest = drop (suc i) fs; whole = split; taken = t; sound = h }
-refused_at fs i f InvalidHeaderName split t h = in_list fs i f InvalidHeaderName split t h
-refused_at fs i f InvalidHeaderValue split t h = in_list fs i f InvalidHeaderValue split t h
-refused_at fs i f InvalidRequest split t h = in_list fs i f InvalidRequest split t h
-refused_at fs i f MissingMethod split t h = in_list fs i f MissingMethod split t h
-refused_at fs i f MissingStatus split t h = in_list fs i f MissingStatus split t h
-refused_at fs i f MissingAuthority split t h = in_list fs i f MissingAuthority split t h
-refused_at fs i f ContradictedAuthority split t h = in_list fs i f ContradictedAuthority split t h
-
 -- a line isn't kept
-pub line_refused : (fs : List Field) (i : ℕ) (f : Field) (e : HeaderError) (h : PlainHeader) → i < length fs → f ≡ get_or fs i f → AreRead (take i fs) h → RefusesLine e (take i fs) f → RefusesLines e fs
-line_refused fs i f e h l same r fault =
-    refused_at fs i f e (field_split fs i f l ∙ ap (λ (z : Field). take i fs ++ z ∷ drop (suc i) fs) (sym same)) r.taken fault
+pub line_refused : (fs : List Field) (i : ℕ) (f : Field) (e : HeaderError) (h : PlainHeader) → i < length fs → f ≡ get_or fs i f → AreRead (take i fs) h → RefusesLine e (take i fs) f
+    → IfFault e (IsRefused [] fs)
+line_refused fs i f e h l same r fault = in_list fs i f e (split_at fs i f l same) r.taken fault
 
 -- a line more is kept
 pub line_more : (fs : List Field) (i : ℕ) (f : Field) (h : PlainHeader) → i < length fs → f ≡ get_or fs i f → AreRead (take i fs ++ f ∷ []) h → AreRead (take (i + 1) fs) h
@@ -214,14 +207,3 @@ line_more fs i f h l e r =
 -- all were read
 pub all_read : (fs : List Field) (i : ℕ) (h : PlainHeader) → length fs ≤ i → AreRead (take i fs) h → AreRead fs h
 all_read fs i h l r = subst (λ (z : List Field). AreRead z h) (take_all i fs l) r
-
--- what is told of lines that are refused
-pub fault_told : (e : HeaderError) (fs : List Field) → RefusesLines e fs → IfFault e (IsRefused [] fs)
-fault_told Memory fs h = tt
-fault_told InvalidHeaderName fs h = h
-fault_told InvalidHeaderValue fs h = h
-fault_told InvalidRequest fs h = h
-fault_told MissingMethod fs h = h
-fault_told MissingStatus fs h = h
-fault_told MissingAuthority fs h = h
-fault_told ContradictedAuthority fs h = h

@@ -4,6 +4,7 @@ pub mod FramesWritten
 pub mod Growing
 pub mod Heads
 pub mod Lengths
+pub mod LinesAgain
 pub mod Listed
 pub mod Means
 pub mod Pairs

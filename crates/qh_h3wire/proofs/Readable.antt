@@ -10,7 +10,7 @@ use Rattle.http_uri.specs.Grammar.{IsScheme, IsAuthority, IsPathInput}
 use Rattle.qh_spec.specs.Fields.{Field}
 use Rattle.qh_spec.specs.Meaning.{IsReadable, method, scheme, authority, path, status, plain, is_pseudo_name}
 use Rattle.qh_spec.specs.Refusal.{IsReadableName}
-use Rattle.qh_h3wire.specs.HeaderFault.{IsSoundLine, RefusesValue, RefusesSeen, RefusesPlain, RefusesField}
+use Rattle.qh_h3wire.specs.HeaderFault.{RefusesSeen, RefusesPlain, RefusesField}
 use Rattle.qh_h3wire.specs.Kinds.{HasKind}
 use Rattle.qh_h3wire.specs.declared.headers.HeaderError.{HeaderError}
 use Rattle.qh_h3wire.specs.declared.headers.HeaderError.TheVariants.{InvalidHeaderName, InvalidHeaderValue, InvalidRequest, MissingMethod, MissingStatus, MissingAuthority, ContradictedAuthority, Memory}
@@ -76,26 +76,10 @@ read_status f e (path p v) = absurd (apart f.name (codes ":status") (codes ":pat
 read_status f e (status p v) = v
 read_status f e (plain h v) = absurd (named f.name (codes ":status") e refl h)
 
--- a value that isn't of its kind, or that wasn't looked at
-refused_as : (e : HeaderError) (f : Field) (P : Type 0) → IsReadableName f.name → IsSoundLine f → (IsReadable f → P) → RefusesValue e P → RefusesField e f
-refused_as InvalidHeaderValue f P n s r h = (n, λ i. h (r i))
-refused_as Memory f P n s r h = s
-refused_as InvalidHeaderName f P n s r h = absurd h
-refused_as InvalidRequest f P n s r h = absurd h
-refused_as MissingMethod f P n s r h = absurd h
-refused_as MissingStatus f P n s r h = absurd h
-refused_as MissingAuthority f P n s r h = absurd h
-refused_as ContradictedAuthority f P n s r h = absurd h
-
-refused_in : {T : Type 0} (r : Result T HeaderError) (f : Field) (value : List ℕ) (P : List ℕ → Type 0) → value ≡ f.value → IsReadableName f.name → IsSoundLine f → (IsReadable f → P f.value)
-    → IfErr r (λ e. RefusesValue e (P value)) → IfErr r (λ e. RefusesField e f)
-refused_in (Ok x) f value P same n s r h = tt
-refused_in (Err e) f value P same n s r h = refused_as e f (P f.value) n s r (subst (λ (z : List ℕ). RefusesValue e (P z)) same h)
-
 -- a value that isn't of its kind, or that wasn't kept
 seen_as : (e : HeaderError) (f : Field) (P : Type 0) → IsReadableName f.name → (P → IsReadable f) → (IsReadable f → P) → RefusesSeen e P → RefusesField e f
 seen_as InvalidHeaderValue f P n w r h = (n, λ i. h (r i))
-seen_as Memory f P n w r h = inl (w h)
+seen_as Memory f P n w r h = w h
 seen_as InvalidHeaderName f P n w r h = absurd h
 seen_as InvalidRequest f P n w r h = absurd h
 seen_as MissingMethod f P n w r h = absurd h
@@ -115,22 +99,22 @@ method_refused r f name value n own same =
     seen_in r f value IsToken same (inl (inl (sym is))) (λ v. method is v) (read_method f is)
 
 pub scheme_refused : {T : Type 0} (r : Result T HeaderError) (f : Field) (name value : List ℕ) → name ≡ codes ":scheme" → name ≡ f.name → value ≡ f.value
-    → IfErr r (λ e. RefusesValue e (IsScheme value)) → IfErr r (λ e. RefusesField e f)
+    → IfErr r (λ e. RefusesSeen e (IsScheme value)) → IfErr r (λ e. RefusesField e f)
 scheme_refused r f name value n own same =
     let is : f.name ≡ codes ":scheme" = sym own ∙ n in
-    refused_in r f value IsScheme same (inl (inr (inl (sym is)))) (inr (inl (sym is))) (read_scheme f is)
+    seen_in r f value IsScheme same (inl (inr (inl (sym is)))) (λ v. scheme is v) (read_scheme f is)
 
 pub authority_refused : {T : Type 0} (r : Result T HeaderError) (f : Field) (name value : List ℕ) → name ≡ codes ":authority" → name ≡ f.name → value ≡ f.value
-    → IfErr r (λ e. RefusesValue e (IsAuthority value)) → IfErr r (λ e. RefusesField e f)
+    → IfErr r (λ e. RefusesSeen e (IsAuthority value)) → IfErr r (λ e. RefusesField e f)
 authority_refused r f name value n own same =
     let is : f.name ≡ codes ":authority" = sym own ∙ n in
-    refused_in r f value IsAuthority same (inl (inr (inr (inl (sym is))))) (inr (inr (inl (sym is)))) (read_authority f is)
+    seen_in r f value IsAuthority same (inl (inr (inr (inl (sym is))))) (λ v. authority is v) (read_authority f is)
 
 pub path_refused : {T : Type 0} (r : Result T HeaderError) (f : Field) (name value : List ℕ) → name ≡ codes ":path" → name ≡ f.name → value ≡ f.value
-    → IfErr r (λ e. RefusesValue e (IsPathInput value)) → IfErr r (λ e. RefusesField e f)
+    → IfErr r (λ e. RefusesSeen e (IsPathInput value)) → IfErr r (λ e. RefusesField e f)
 path_refused r f name value n own same =
     let is : f.name ≡ codes ":path" = sym own ∙ n in
-    refused_in r f value IsPathInput same (inl (inr (inr (inr (inl (sym is)))))) (inr (inr (inr (inl (sym is))))) (read_path f is)
+    seen_in r f value IsPathInput same (inl (inr (inr (inr (inl (sym is)))))) (λ v. path is v) (read_path f is)
 
 pub status_refused : {T : Type 0} (r : Result T HeaderError) (f : Field) (name value : List ℕ) → name ≡ codes ":status" → name ≡ f.name → value ≡ f.value
     → IfErr r (λ e. RefusesSeen e (IsCodeText value)) → IfErr r (λ e. RefusesField e f)

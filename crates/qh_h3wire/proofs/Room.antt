@@ -12,7 +12,7 @@ use Rattle.http_header.proofs.PlacesLemmas.{ContainsKey-from_entry}
 use Rattle.qh_spec.specs.Fields.{Field, map_fields}
 use Rattle.qh_spec.specs.Meaning.{AreReadable, is_pseudo_name}
 use Rattle.qh_spec.specs.Refusal.{fields_map, AreTaken}
-use Rattle.qh_h3wire.proofs.FieldLists.{map_plain}
+use Rattle.qh_h3wire.proofs.FieldLists.{map_plain, map_pseudo}
 
 count_cons : (e : Entry FieldValue) (m : Entries FieldValue) → value_count (e ∷ m) ≡ length e.1 + value_count m
 count_cons e m = sum_by-cons (λ (x : Entry FieldValue). length x.1) e m
@@ -113,6 +113,35 @@ same_more front k v left names t r h =
     let count = ap value_count e ∙ c in
     let names_are = ap length e ∙ n in
     (record { values_fit = omega (arith, a, count); names_fit = omega (arith, b, names_are) }, subst (λ (z : Entries FieldValue). HasName z k) (sym e) (there (fields_map front) k (plain_value v.bytes)))
+
+sizes_more : (front : List Field) (f : Field)
+    → (value_count (fields_map (front ++ f ∷ [])) ≤ value_count (fields_map front) + 1) × (length (fields_map (front ++ f ∷ [])) ≤ length (fields_map front) + 1)
+sizes_more front f =
+    elim (cases_Bool (is_pseudo_name f.name)) [
+      | inl t ↦ let e = map_pseudo front f t in let count = ap value_count e in let names = ap length e in (omega arith, omega arith)
+      | inr t ↦
+          let e = map_plain front f t in
+          let c = count_append (fields_map front) f.name (plain_value f.value) in
+          let n = names_append (fields_map front) f.name (plain_value f.value) in
+          let count = ap value_count e in
+          let names = ap length e in
+          (omega arith, omega arith)
+    ]
+
+-- fields that leave room, whatever their names are, are kept
+roomy_taken : (front fs : List Field) → HasRoom front (length fs) (length fs) → AreReadable fs → AreTaken front fs
+roomy_taken front [] room r = tt
+roomy_taken front (f ∷ fs) room r =
+    let more = sizes_more front f in
+    let a = room.values_fit in
+    let b = room.names_fit in
+    let x = more.0 in
+    let y = more.1 in
+    let left : HasRoom (front ++ f ∷ []) (length fs) (length fs) = record { values_fit = omega arith; names_fit = omega arith } in
+    ((r.0, λ o. new_name front f.name (length fs) (length fs) room o.1), roomy_taken (front ++ f ∷ []) fs left r.1)
+
+pub few_taken : (fs : List Field) → length fs ≤ 24576 → AreReadable fs → AreTaken [] fs
+few_taken fs few = roomy_taken [] fs (record { values_fit = omega arith; names_fit = omega arith })
 
 -- what follows is kept behind any fields that leave room for it
 abbrev IsKeptBehind : List Field → ℕ → ℕ → Type 0

@@ -4,9 +4,9 @@ use Rattle.std.proofs.lemmas.Bool.{eq-eqb, ne_eqb}
 use Rattle.std.proofs.lemmas.List.{take-append-drop, take_at, drop_at, drop_all}
 use Rattle.qh_base.proofs.Varints.{IsBytes}
 use Rattle.qh_h3wire.proofs.Pairs.{rest_bytes}
-use Rattle.qh_h3wire.proofs.SettingsRead.{has_in, allowed_is, fault_is, entry_again, entry_size, pair_shortens, so_far_none, so_far_more, so_far_end, so_far_fault, so_far_cut, means_or_fault}
+use Rattle.qh_h3wire.proofs.SettingsRead.{has_in, allowed_is, fault_is, entry_again, entry_size, pair_shortens, so_far_more, so_far_end, so_far_fault, so_far_cut, means_or_fault}
 use Rattle.qh_h3wire.specs.Pair.{pair_at}
-use Rattle.qh_h3wire.specs.Settings.{Entry, IsEntry, AreEntries, IsAllowed, AreAllowed, settings_of, IsSettingsFault, HasNoFault}
+use Rattle.qh_h3wire.specs.Settings.{Entry, IsEntry, AreEntries, AreAllowed, settings_of, IsSettingsFault, HasNoFault}
 use Rattle.qh_h3wire.specs.SettingsAt.{has_id, own_fault, fault_of, entry_of}
 use Rattle.qh_h3wire.specs.SettingsReading.{SoFar}
 use Rattle.qh_h3wire.specs.declared.pair.Pair.{Pair}

@@ -1,5 +1,5 @@
 -- Why no head was made.
-use Rattle.std.specs.Prelude.{◌≡◌, ◌⊎◌, List, [], ◌∷◌, ◌++◌, ℕ, codes, bytes_eq, Option, Some, None, Result, Ok, Err, if◌then◌else◌}
+use Rattle.std.specs.Prelude.{◌≡◌, List, ℕ, codes, bytes_eq, Option, Some, None, Result, Ok, Err, if◌then◌else◌}
 use Rattle.http.specs.StatusCode.{code_digits, IsCodeText}
 use Rattle.http_header.specs.FieldName.{IsHeaderName}
 use Rattle.http_header.specs.FieldValue.{FieldValue, IsFieldValue, plain_value}
@@ -7,10 +7,9 @@ use Rattle.http_header.specs.HeaderMap.{Entries, RefusesAppend}
 use Rattle.http_header.specs.Token.{IsToken}
 use Rattle.http_uri.specs.Grammar.{IsScheme, IsAuthority, IsPathInput, without_fragment}
 use Rattle.qh_spec.specs.Fields.{Field}
-use Rattle.qh_spec.specs.Lists.{In}
 use Rattle.qh_spec.specs.Meaning.{IsReadable}
 use Rattle.qh_spec.specs.Refusal as told
-use Rattle.qh_spec.specs.Refusal.{HeaderFault, IsReadableName, AreTaken}
+use Rattle.qh_spec.specs.Refusal.{HeaderFault, IsReadableName}
 use Rattle.qh_h3wire.specs.declared.headers.HeaderError.{HeaderError}
 use Rattle.qh_h3wire.specs.declared.headers.HeaderError.TheVariants.{InvalidHeaderName, InvalidHeaderValue, InvalidRequest, MissingMethod, MissingStatus, MissingAuthority, ContradictedAuthority, Memory}
 use Rattle.qh_h3wire.specs.declared.headers.field.ParsedField.{ParsedField}
@@ -56,27 +55,6 @@ IsParsed f (Path p) = (f.name ≡ codes ":path") × IsPathInput f.value × (p �
 IsParsed f (Status s) = (f.name ≡ codes ":status") × IsCodeText f.value × (code_digits s ≡ f.value)
 IsParsed f (Plain n v) = IsHeaderName f.name × IsFieldValue f.value × (n ≡ f.name) × (v ≡ plain_value f.value)
 
--- Of a line for which memory was wanting: it can be read, or it is a scheme, an authority or a path, whose value is only
--- looked at in memory of its own.
-abbrev pub IsSoundLine : Field → Type 0
-IsSoundLine f = IsReadable f ⊎ In f.name (codes ":scheme" ∷ codes ":authority" ∷ codes ":path" ∷ [])
-
--- Some line is sound behind lines that are kept, as the first one may be. Of the lines behind it, and of the room in a map, nothing
--- is said.
-pub record IsInterrupted (fields : List Field) : Type 0 where
-  pub front : List Field
-  pub line : Field
-  pub rest : List Field
-  pub whole : fields ≡ front ++ line ∷ rest
-  pub taken : AreTaken [] front
-  pub sound : IsSoundLine line
-
--- a value isn't of its kind, or there was no memory to look at it
-abbrev pub RefusesValue : HeaderError → Type 0 → Type 0
-RefusesValue InvalidHeaderValue P = P → ⊥
-RefusesValue Memory P = Unit {0}
-RefusesValue _ P = ⊥
-
 -- a value isn't of its kind, or it is and there was no memory to keep it
 abbrev pub RefusesSeen : HeaderError → Type 0 → Type 0
 RefusesSeen InvalidHeaderValue P = P → ⊥
@@ -90,11 +68,11 @@ RefusesPlain InvalidHeaderValue f = IsHeaderName f.name × (IsFieldValue f.value
 RefusesPlain Memory f = IsHeaderName f.name × IsFieldValue f.value
 RefusesPlain _ f = ⊥
 
--- a field isn't read
+-- why a field isn't read; want of memory stands for no fault of it
 abbrev pub RefusesField : HeaderError → Field → Type 0
 RefusesField InvalidHeaderName f = IsReadableName f.name → ⊥
 RefusesField InvalidHeaderValue f = IsReadableName f.name × (IsReadable f → ⊥)
-RefusesField Memory f = IsSoundLine f
+RefusesField Memory f = IsReadable f
 RefusesField _ f = ⊥
 
 -- a map has no room for a value of this name, or there was no memory

@@ -1,16 +1,18 @@
 //! The heads of messages (RFC 9114, section 4.3), as `h3`'s `proto::headers` has them.
-ghost use Rattle.std.specs.Prelude.{◌≡◌, ◌≢◌, ◌↔◌, ◌⊎◌, ℕ, List, [], None, Some, Ok, IfOk, IfErr, IsErrOf, IsSome, IsNone, MatchResult, option_copied};
+ghost use Rattle.std.specs.Prelude.{◌≡◌, ◌≢◌, ◌↔◌, ◌⊎◌, ℕ, List, [], take, None, Some, Ok, IfOk, IfErr, IsErrOf, IsSome, IsNone, MatchResult, option_copied};
 ghost use Rattle.std.specs.Option.{option_map};
 ghost use Rattle.qh_spec.specs.Fields.{Field};
-ghost use Rattle.qh_spec.specs.Meaning.{MeansRequest, MeansResponse};
+ghost use Rattle.qh_spec.specs.Meaning.{AreReadable, MeansRequest, MeansResponse};
 ghost use Rattle.qh_spec.specs.Message.{PlainTarget, target_of};
 ghost use Rattle.qh_spec.specs.Refusal.{AreTaken, IsRefused, IsRequestFault, IsResponseFault, MissingStatus};
 ghost use Rattle.qh_h3wire.specs.HeadFields.{with_fields};
+ghost use Rattle.qh_h3wire.specs.HeadReading.{most_names};
 ghost use Rattle.qh_h3wire.specs.Header.{request_header, response_header, trailer_header, written_fields, IsHeaderOf, IsSendable, IsTargetOf, map_host};
 ghost use Rattle.qh_h3wire.specs.HeadParts.{IsPartsAnswer, IsTargetAnswer, IsUriAnswer};
-ghost use Rattle.qh_h3wire.specs.HeaderFault.{authority_fault, IfFault, IsAuthorityAnswer, IsHostAnswer, IsInterrupted, IsPartsFault};
+ghost use Rattle.qh_h3wire.specs.HeaderFault.{authority_fault, IfFault, IsAuthorityAnswer, IsHostAnswer, IsPartsFault};
 ghost use Rattle.qh_h3wire.specs.PlainHeader.{PlainHeader};
 
+use field::fault_of_lines;
 use http::{Method, StatusCode};
 use http_header::{HeaderMap, HeaderValue};
 use http_uri::{Authority, Parts, PathAndQuery, Scheme, Uri};
@@ -22,6 +24,7 @@ use std::marker::Model;
 use thiserror::Error;
 
 mod field;
+mod grammar;
 mod pseudo;
 
 /// The head of a message, and its fields. A contract sees it as a plain value.
@@ -125,12 +128,12 @@ impl Header {
 
     /// Reads field lines. A pseudo field that comes again counts by its last value. The first line that isn't kept
     /// decides the fault: its name comes first, then its value, and then that a map has no room for it. `Memory` is
-    /// answered only if the first line can be read, or is a scheme, an authority or a path.
+    /// answered only if the lines can be read; of those behind the first 24576, as many as a map may have names, it says nothing.
     pub fn from_fields(alloc: Global, fields: Vec<HeaderField>) -> Result<Header, HeaderError>
         ensures taken { IfOk result (λ h. AreTaken [] fields.items) }
         ensures value { IfOk result (IsHeaderOf fields.items) }
         ensures refused { IfErr result (λ e. IfFault e (IsRefused [] fields.items)) }
-        ensures memory { IsErrOf result HeaderError.Memory → IsInterrupted fields.items }
+        ensures memory { IsErrOf result HeaderError.Memory → AreReadable (take most_names fields.items) }
     {
         let mut pseudo = Pseudo::empty();
         let mut map = HeaderMap::new(alloc);
@@ -142,7 +145,10 @@ impl Header {
             Err(fault) => {
                 drop(pseudo);
                 drop(map);
-                Err(fault)
+                Err(match fault {
+                    HeaderError::Memory => fault_of_lines(alloc, fields.as_slice()),
+                    fault => fault,
+                })
             }
         }
     }

@@ -1,16 +1,19 @@
 //! Field lines, read.
-ghost use Rattle.std.specs.Prelude.{codes, IfOk, IfErr};
+ghost use Rattle.std.specs.Prelude.{◌≢◌, codes, IfOk, IfErr, MatchOption};
 ghost use Rattle.http.specs.StatusCode.{IsCodeText};
 ghost use Rattle.http_header.specs.FieldValue.{IsFieldValue};
 ghost use Rattle.http_header.specs.Token.{IsToken};
 ghost use Rattle.http_uri.specs.Grammar.{IsAuthority, IsPathInput, IsScheme};
-ghost use Rattle.qh_h3wire.specs.HeaderFault.{IsParsed, RefusesField, RefusesPlain, RefusesSeen, RefusesValue};
+ghost use Rattle.qh_spec.specs.Meaning.{IsReadable};
+ghost use Rattle.qh_h3wire.specs.HeaderFault.{IsParsed, RefusesField, RefusesPlain, RefusesSeen};
+ghost use Rattle.qh_h3wire.specs.HeadReading.{RefusesLines};
 ghost use Rattle.qh_h3wire.specs.Kinds.{IsKind};
 
 use super::HeaderError;
+use super::grammar::{is_authority, is_path_input, is_scheme};
 use http::method::MethodError;
 use http::{Method, StatusCode};
-use http_header::{HeaderName, HeaderNameError, HeaderValue, HeaderValueError};
+use http_header::{HeaderName, HeaderNameError, HeaderValue, HeaderValueError, MAX_KEYS};
 use http_uri::{Authority, PathAndQuery, Scheme, UriError};
 use qh_qpack::HeaderField;
 use std::alloc::Global;
@@ -55,7 +58,7 @@ pub(super) enum ParsedField {
 }
 
 impl ParsedField {
-    /// The field as its name tells it.
+    /// The field as its name tells it. `Memory` is answered only for a field that can be read.
     pub(super) fn parse(alloc: Global, field: &HeaderField) -> Result<ParsedField, HeaderError>
         ensures ok { IfOk result (IsParsed field.now) }
         ensures err { IfErr result (λ e. RefusesField e field.now) }
@@ -84,34 +87,34 @@ impl ParsedField {
 
     fn parse_scheme(alloc: Global, value: &[u8]) -> Result<ParsedField, HeaderError>
         ensures ok { IfOk result (IsParsed (record { name = codes ":scheme"; value = value.now })) }
-        ensures err { IfErr result (λ e. RefusesValue e (IsScheme value.now)) }
+        ensures err { IfErr result (λ e. RefusesSeen e (IsScheme value.now)) }
     {
         match Scheme::from_bytes(alloc, value) {
             Ok(scheme) => Ok(ParsedField::Scheme(scheme)),
-            Err(UriError::Invalid(_)) => Err(HeaderError::InvalidHeaderValue),
-            Err(UriError::OutOfMemory) => Err(HeaderError::Memory),
+            Err(UriError::OutOfMemory) if is_scheme(value) => Err(HeaderError::Memory),
+            Err(_) => Err(HeaderError::InvalidHeaderValue),
         }
     }
 
     fn parse_authority(alloc: Global, value: &[u8]) -> Result<ParsedField, HeaderError>
         ensures ok { IfOk result (IsParsed (record { name = codes ":authority"; value = value.now })) }
-        ensures err { IfErr result (λ e. RefusesValue e (IsAuthority value.now)) }
+        ensures err { IfErr result (λ e. RefusesSeen e (IsAuthority value.now)) }
     {
         match Authority::from_bytes(alloc, value) {
             Ok(authority) => Ok(ParsedField::Authority(authority)),
-            Err(UriError::Invalid(_)) => Err(HeaderError::InvalidHeaderValue),
-            Err(UriError::OutOfMemory) => Err(HeaderError::Memory),
+            Err(UriError::OutOfMemory) if is_authority(value) => Err(HeaderError::Memory),
+            Err(_) => Err(HeaderError::InvalidHeaderValue),
         }
     }
 
     fn parse_path(alloc: Global, value: &[u8]) -> Result<ParsedField, HeaderError>
         ensures ok { IfOk result (IsParsed (record { name = codes ":path"; value = value.now })) }
-        ensures err { IfErr result (λ e. RefusesValue e (IsPathInput value.now)) }
+        ensures err { IfErr result (λ e. RefusesSeen e (IsPathInput value.now)) }
     {
         match PathAndQuery::from_bytes(alloc, value) {
             Ok(path) => Ok(ParsedField::Path(path)),
-            Err(UriError::Invalid(_)) => Err(HeaderError::InvalidHeaderValue),
-            Err(UriError::OutOfMemory) => Err(HeaderError::Memory),
+            Err(UriError::OutOfMemory) if is_path_input(value) => Err(HeaderError::Memory),
+            Err(_) => Err(HeaderError::InvalidHeaderValue),
         }
     }
 
@@ -150,5 +153,32 @@ fn value_fault(alloc: Global, value: &[u8]) -> HeaderError
     match HeaderValue::from_bytes(alloc, value) {
         Err(HeaderValueError::Invalid) => HeaderError::InvalidHeaderValue,
         _ => HeaderError::Memory,
+    }
+}
+
+/// The fault of the first line that can't be read, or `Memory` if none of the first `MAX_KEYS` lines has one. It is called
+/// if there was no memory to keep the lines; what it reads of them isn't kept.
+pub(super) fn fault_of_lines(alloc: Global, lines: &[HeaderField]) -> HeaderError
+    ensures { RefusesLines result lines.now }
+{
+    for line in &lines[..lines.len().min(MAX_KEYS)] {
+        if let Some(fault) = fault_of_line(alloc, line) {
+            return fault;
+        }
+    }
+    HeaderError::Memory
+}
+
+/// Why a line can't be read.
+fn fault_of_line(alloc: Global, line: &HeaderField) -> Option<HeaderError>
+    ensures { MatchOption result (IsReadable line.now) (λ e. RefusesField e line.now × (e ≢ HeaderError.Memory)) }
+{
+    match ParsedField::parse(alloc, line) {
+        Ok(field) => {
+            drop(field);
+            None
+        }
+        Err(HeaderError::Memory) => None,
+        Err(fault) => Some(fault),
     }
 }

@@ -1,5 +1,4 @@
-use Rattle.std.proofs.Common.{◌≡◌, ◌<◌, ◌≤◌, ◌-◌, List, ℕ, Bool, Option, Some, length, take, drop, sym, ap, ◌∙◌, subst, arith, true, false, length-drop, refl}
-use Rattle.qh_base.proofs.Varints.{IsBytes}
+use Rattle.std.proofs.Common.{◌≤◌, List, ℕ, length, drop, sym, ap, ◌∙◌, subst, arith, length-drop}
 use Rattle.qh_h3wire.proofs.Pairs.{rest_bytes}
 use Rattle.qh_h3wire.proofs.SettingsRead.{pair_shortens}
 use Rattle.qh_h3wire.proofs.SettingsReading.{slice_is}
