@@ -26,7 +26,7 @@ use Rattle.qh_h3wire.specs.PlainHeader.{PlainHeader}
 use Rattle.qh_h3wire.specs.declared.headers.HeaderError.{HeaderError}
 use Rattle.qh_h3wire.specs.declared.headers.HeaderError.TheVariants.{InvalidHeaderName, InvalidHeaderValue, InvalidRequest, MissingMethod, MissingStatus, MissingAuthority, ContradictedAuthority, Memory}
 use Rattle.qh_h3wire.proofs.Readable.{read_authority}
-use Rattle.qh_h3wire.proofs.Requests.{authority_found, both_fit, Unlike, unlike_clause, target_made, no_target, request_fault, answer_missing, answer_invalid, answer_memory, answer_method, found_one, found_alike}
+use Rattle.qh_h3wire.proofs.Requests.{authority_found, both_fit, Unlike, unlike_clause, target_made, no_target, request_fault, answer_missing, answer_invalid, answer_memory, answer_method, found_one, found_alike, uri_error, memory_target}
 
 -- each value of a name is of the kind that readable fields of this name have
 all_values : (name : List ℕ) (P : List ℕ → Type 0) (fs : List Field) → ((f : Field) → f.name ≡ name → IsReadable f → P f.value) → AreReadable fs → AllByRecursion P (values_of name fs)
@@ -187,7 +187,7 @@ pub record PartsFacts (r : Answer) (h : PlainHeader) : Type 0 where
   pub missing_authority : IsErrOf r MissingAuthority ↔ (IsSome h.method × (h.authority ≡ None) × (map_host h.fields ≡ None))
   pub contradicted : IsErrOf r ContradictedAuthority ↔ (IsSome h.method × Unlike h.authority (map_host h.fields))
   pub invalid : IsErrOf r InvalidRequest → (t : PlainTarget) → IsTargetOf h t → ⊥
-  pub memory : IsErrOf r Memory → h.authority ≡ None
+  pub memory : IsErrOf r Memory → (h.authority ≡ None) × ((t : PlainTarget) × IsTargetOf h t)
   pub no_other : IfErr r IsPartsFault
   pub means : IfOk r (λ p. (fs : List Field) → AreTaken [] fs → IsHeaderOf fs h → MeansRequest fs p.0 (target_of p.1))
   pub refused : IfErr r (λ e. (fs : List Field) → AreTaken [] fs → IsHeaderOf fs h → IfFault e (IsRequestFault fs))
@@ -224,8 +224,8 @@ no_method_facts h m =
       refused = λ fs t i. sym i.method ∙ m;
     }
 
-no_authority_facts : (h : PlainHeader) (e : HeaderError) → IsSome h.method → IsAuthorityAnswer (Err e) h.authority (map_host h.fields) → PartsFacts (Err e) h
-no_authority_facts h e m answer =
+no_authority_facts : (h : PlainHeader) (e : HeaderError) → IsSome h.method → IsAuthorityAnswer (Err e) h.authority (map_host h.fields) → IsUriAnswer (Err e) (Err e) h.scheme h.path → PartsFacts (Err e) h
+no_authority_facts h e m answer uri =
     let own = h.authority in
     let host = map_host h.fields in
     let missing = answer_missing (List ℕ × Target × Entries FieldValue) own host e answer in
@@ -235,7 +235,11 @@ no_authority_facts h e m answer =
       missing_authority = (λ g. let both = missing.0 g in (m, both.0, both.1), λ u. missing.1 (u.1, u.2));
       contradicted = unlike_clause (List ℕ × Target × Entries FieldValue) h.method own host e m answer;
       invalid = λ g t is. let f : e ≡ InvalidRequest = cc in answer_invalid own host e answer f is.name is.authority;
-      memory = λ g. let f : e ≡ Memory = cc in answer_memory own host e answer f;
+      memory = λ g.
+          let f : e ≡ Memory = cc in
+          let a : IsAuthorityAnswer (Err Memory) own host = subst (λ (z : HeaderError). IsAuthorityAnswer (Err z) own host) f answer in
+          let u : IsUriAnswer (Err e) (Err Memory) h.scheme h.path = subst (λ (z : HeaderError). IsUriAnswer (Err e) (Err z) h.scheme h.path) f uri in
+          (answer_memory own host e answer f, memory_target h a u.1);
       no_other = request_fault own host e answer;
       means = tt;
       refused = no_authority h e m answer;
@@ -258,13 +262,14 @@ refused_facts : (h : PlainHeader) (e : HeaderError) (a : Result (List ℕ) Heade
     → PartsFacts (Err e) h
 refused_facts h e (Ok a) m answer uri = subst (λ (z : HeaderError). PartsFacts (Err z) h) (sym uri.0) (unfit_facts h a m answer uri.1)
 refused_facts h e (Err f) m answer uri =
-    let same : e ≡ f = (let both : ◌≡◌ {A = Result Target HeaderError} (Err e) (Err f) = uri in cc) in
-    subst (λ (z : HeaderError). PartsFacts (Err z) h) (sym same) (no_authority_facts h f m answer)
+    let same : e ≡ f = (let both : ◌≡◌ {A = Result Target HeaderError} (Err e) (Err f) = uri_error (Err e) f h.scheme h.path uri in cc) in
+    let own = subst (λ (z : HeaderError). IsUriAnswer (Err z) (Err f) h.scheme h.path) same uri in
+    subst (λ (z : HeaderError). PartsFacts (Err z) h) (sym same) (no_authority_facts h f m answer own)
 
 found_facts : (p : List ℕ × Target × Entries FieldValue) (h : PlainHeader) (a : Result (List ℕ) HeaderError) → h.method ≡ Some p.0 → p.2 ≡ h.fields → IsAuthorityAnswer a h.authority (map_host h.fields)
     → IsUriAnswer (Ok p.1) a h.scheme h.path → PartsFacts (Ok p) h
 found_facts p h (Ok a) m f answer uri = made_facts p h a m f answer uri.0 uri.1
-found_facts p h (Err e) m f answer uri = let both : ◌≡◌ {A = Result Target HeaderError} (Ok p.1) (Err e) = uri in cc
+found_facts p h (Err e) m f answer uri = let both : ◌≡◌ {A = Result Target HeaderError} (Ok p.1) (Err e) = uri_error (Ok p.1) e h.scheme h.path uri in cc
 
 pub parts_facts : (r : Answer) (h : PlainHeader) → IsPartsAnswer r h → PartsFacts r h
 parts_facts (Ok p) h is = found_facts p h is.2.0 is.0 is.1 is.2.1 is.2.2

@@ -1,7 +1,8 @@
 -- The authority and the target of a request.
-use Rattle.std.proofs.Common.{◌≡◌, ◌≢◌, ℕ, true, false, List, refl, sym, ap, ◌∙◌, subst, Option, Some, None, Ok, Err, ◌↔◌, Bor, inl, inr}
-use Rattle.std.specs.Prelude.{bytes_eq, IsSome, IsErrOf}
-use Rattle.std.specs.Option.{option_map, option_copied}
+use Rattle.std.proofs.Common.{◌≡◌, ◌≢◌, ℕ, Bool, true, false, List, refl, sym, ap, ◌∙◌, subst, Option, Some, None, Result, Ok, Err, ◌↔◌, Bor, inl, inr}
+use Rattle.std.specs.Prelude.{bytes_eq, IsSome, IsErrOf, unwrap_or, []}
+use Rattle.std.specs.Bool.{beq}
+use Rattle.std.specs.Option.{option_map, option_copied, is_some}
 use Rattle.std.proofs.lemmas.Bool.{cases_Bool}
 use Rattle.std.proofs.lemmas.Slice.Eq.{bytes_eq-Decides}
 use Rattle.http_header.specs.FieldValue.{FieldValue}
@@ -11,7 +12,7 @@ use Rattle.http_uri.specs.declared.uri.Parts.{Parts}
 use Rattle.http_uri.specs.declared.uri.Uri.{Uri as Target}
 use Rattle.qh_spec.specs.Message.{PlainTarget, target_of}
 use Rattle.qh_h3wire.specs.Header.{map_host, IsAuthorityOf, IsTargetOf}
-use Rattle.qh_h3wire.specs.HeadParts.{parts}
+use Rattle.qh_h3wire.specs.HeadParts.{parts, target_fault, IsUriAnswer, IsTargetAnswer}
 use Rattle.qh_h3wire.specs.HeaderFault.{authority_fault, IsHostAnswer, IsAuthorityAnswer, IsPartsFault}
 use Rattle.qh_h3wire.specs.PlainHeader.{PlainHeader}
 use Rattle.qh_h3wire.specs.declared.headers.HeaderError.{HeaderError}
@@ -178,3 +179,64 @@ found_alike (Some own) (Some b) a h u =
           u.4 (sym x ∙ (bytes_eq-Decides own b).0 t ∙ y)
       | inr t ↦ let g = rw t at h in cc
     ]
+
+-- an error of the authority is that of the target
+pub uri_error : (r : Result Target HeaderError) (e : HeaderError) (scheme path : Option (List ℕ)) → IsUriAnswer r (Err e) scheme path → r ≡ Err e
+uri_error r Memory scheme path h = h.0
+uri_error r InvalidRequest scheme path h = h
+uri_error r InvalidHeaderName scheme path h = h
+uri_error r InvalidHeaderValue scheme path h = h
+uri_error r MissingMethod scheme path h = h
+uri_error r MissingStatus scheme path h = h
+uri_error r MissingAuthority scheme path h = h
+uri_error r ContradictedAuthority scheme path h = h
+
+-- the host field that there was no memory to share
+memory_host : (own host : Option (List ℕ)) → IsAuthorityAnswer (Err Memory) own host → (own ≡ None) × (b : List ℕ) × (host ≡ Some b) × IsAuthority b
+memory_host None None h = cc
+memory_host None (Some b) h = (refl, b, refl, h)
+memory_host (Some own) host h = let g = own_fault own host Memory h in cc
+
+-- it is the authority of the request
+host_chosen : (own host : Option (List ℕ)) (b : List ℕ) → own ≡ None → host ≡ Some b → IsAuthority b → IsAuthorityAnswer (Ok b) own host × IsAuthorityOf own host b
+host_chosen own host b o h is = rw (o, h) ((refl, is), (refl, is))
+
+-- the target that there was no memory to make
+pub memory_target : (h : PlainHeader) → IsAuthorityAnswer (Err Memory) h.authority (map_host h.fields) → (IsSome h.scheme ↔ IsSome h.path) → (t : PlainTarget) × IsTargetOf h t
+memory_target h answer both =
+    let host = memory_host h.authority (map_host h.fields) answer in
+    let t : PlainTarget = record { scheme = h.scheme; authority = Some host.1; path_and_query = unwrap_or h.path [] } in
+    (t, record { name = host.1; authority = (host_chosen h.authority (map_host h.fields) host.1 host.0 host.2 host.3).1; authority_kept = refl; both = both; scheme_kept = refl; path_kept = refl })
+
+-- a scheme without a path, or a path without one: no target, whether or not there is memory
+pub memory_unfit : (own host scheme path : Option (List ℕ)) → IsAuthorityAnswer (Err Memory) own host → ((IsSome scheme ↔ IsSome path) → ⊥) → IsTargetAnswer (Err InvalidRequest) scheme own path host
+memory_unfit own host scheme path answer unfit =
+    let b = memory_host own host answer in
+    (Ok b.1, (host_chosen own host b.1 b.0 b.2 b.3).0, (refl, λ fit. unfit (fit_both (parts scheme b.1 path) refl fit)))
+
+-- the tests of a scheme and a path agree where both are there, or neither
+both_there : (x y : Option (List ℕ)) → (beq (is_some x) (is_some y) ≡ true → IsSome x ↔ IsSome y) × (beq (is_some x) (is_some y) ≡ false → (IsSome x ↔ IsSome y) → ⊥)
+both_there None None = (λ t. (λ a. a, λ a. a), λ f. cc)
+both_there None (Some y) = (λ t. cc, λ f both. let none : false ≡ true = both.1 refl in cc)
+both_there (Some x) None = (λ t. cc, λ f both. let none : false ≡ true = both.0 refl in cc)
+both_there (Some x) (Some y) = (λ t. (λ a. refl, λ a. refl), λ f. cc)
+
+-- a fault of the authority, where the other parts fit or don't
+fault_refused : (own host scheme path : Option (List ℕ)) (e : HeaderError) (fits : Bool) → IsAuthorityAnswer (Err e) own host → (fits ≡ true → IsSome scheme ↔ IsSome path)
+    → (fits ≡ false → (IsSome scheme ↔ IsSome path) → ⊥) → IsTargetAnswer (Err (target_fault e fits)) scheme own path host
+fault_refused own host scheme path Memory true answer agree unlike = (Err Memory, answer, (refl, agree refl))
+fault_refused own host scheme path Memory false answer agree unlike = memory_unfit own host scheme path answer (unlike refl)
+fault_refused own host scheme path InvalidRequest fits answer agree unlike = (Err InvalidRequest, answer, refl)
+fault_refused own host scheme path InvalidHeaderName fits answer agree unlike = (Err InvalidHeaderName, answer, refl)
+fault_refused own host scheme path InvalidHeaderValue fits answer agree unlike = (Err InvalidHeaderValue, answer, refl)
+fault_refused own host scheme path MissingMethod fits answer agree unlike = (Err MissingMethod, answer, refl)
+fault_refused own host scheme path MissingStatus fits answer agree unlike = (Err MissingStatus, answer, refl)
+fault_refused own host scheme path MissingAuthority fits answer agree unlike = (Err MissingAuthority, answer, refl)
+fault_refused own host scheme path ContradictedAuthority fits answer agree unlike = (Err ContradictedAuthority, answer, refl)
+
+pub target_refused : (own host scheme path : Option (List ℕ)) (e f : HeaderError) (a b : Bool) → IsAuthorityAnswer (Err e) own host → a ≡ is_some scheme → b ≡ is_some path → f ≡ target_fault e (beq a b)
+    → IsTargetAnswer (Err f) scheme own path host
+target_refused own host scheme path e f a b answer s p is =
+    let both = both_there scheme path in
+    let same : f ≡ target_fault e (beq (is_some scheme) (is_some path)) = is ∙ ap (λ (z : Bool). target_fault e (beq z b)) s ∙ ap (λ (z : Bool). target_fault e (beq (is_some scheme) z)) p in
+    subst (λ (z : HeaderError). IsTargetAnswer (Err z) scheme own path host) (sym same) (fault_refused own host scheme path e (beq (is_some scheme) (is_some path)) answer both.0 both.1)

@@ -32,11 +32,11 @@ authority_fault None None = Some MissingAuthority
 authority_fault (Some own) (Some host) = if bytes_eq own host then None else Some ContradictedAuthority
 authority_fault _ _ = None
 
--- a host field was read as an authority, or isn't one
+-- a host field was read as an authority, or isn't one, or is one and there was no memory to share it
 abbrev pub IsHostAnswer : Result (List ℕ) HeaderError → List ℕ → Type 0
 IsHostAnswer (Ok a) host = (a ≡ host) × IsAuthority host
 IsHostAnswer (Err InvalidRequest) host = IsAuthority host → ⊥
-IsHostAnswer (Err Memory) host = Unit {0}
+IsHostAnswer (Err Memory) host = IsAuthority host
 IsHostAnswer _ host = ⊥
 
 -- the authority of a request was found, or why not

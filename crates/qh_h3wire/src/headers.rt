@@ -8,11 +8,12 @@ ghost use Rattle.qh_spec.specs.Refusal.{AreTaken, IsRefused, IsRequestFault, IsR
 ghost use Rattle.qh_h3wire.specs.HeadFields.{with_fields};
 ghost use Rattle.qh_h3wire.specs.HeadReading.{most_names};
 ghost use Rattle.qh_h3wire.specs.Header.{request_header, response_header, trailer_header, written_fields, IsHeaderOf, IsSendable, IsTargetOf, map_host};
-ghost use Rattle.qh_h3wire.specs.HeadParts.{IsPartsAnswer, IsTargetAnswer, IsUriAnswer};
+ghost use Rattle.qh_h3wire.specs.HeadParts.{target_fault, IsPartsAnswer, IsTargetAnswer, IsUriAnswer};
 ghost use Rattle.qh_h3wire.specs.HeaderFault.{authority_fault, IfFault, IsAuthorityAnswer, IsHostAnswer, IsPartsFault};
 ghost use Rattle.qh_h3wire.specs.PlainHeader.{PlainHeader};
 
 use field::fault_of_lines;
+use grammar::is_authority;
 use http::{Method, StatusCode};
 use http_header::{HeaderMap, HeaderValue};
 use http_uri::{Authority, Parts, PathAndQuery, Scheme, Uri};
@@ -179,7 +180,7 @@ impl Header {
 
     /// The method, the target and the fields of a request. Where there is no :authority, the first host field is the
     /// target's. The faults come in the order of the error's cases here: no method, no authority, two unlike ones, parts
-    /// that make no target.
+    /// that make no target. `Memory` is answered only if the parts make a target.
     pub fn into_request_parts(self) -> Result<(Method, Uri, HeaderMap), HeaderError>
         ensures value { IfOk result (λ p. (self.method ≡ Some p.0) × IsTargetOf self (target_of p.1) × (p.2 ≡ self.fields)) }
         ensures missing_method { IsErrOf result HeaderError.MissingMethod ↔ IsNone self.method }
@@ -188,7 +189,7 @@ impl Header {
         ensures contradicted { IsErrOf result HeaderError.ContradictedAuthority
             ↔ IsSome self.method × ((a : List ℕ) × (b : List ℕ) × (self.authority ≡ Some a) × (map_host self.fields ≡ Some b) × (a ≢ b)) }
         ensures invalid { IsErrOf result HeaderError.InvalidRequest → (t : PlainTarget) → IsTargetOf self t → ⊥ }
-        ensures memory { IsErrOf result HeaderError.Memory → self.authority ≡ None }
+        ensures memory { IsErrOf result HeaderError.Memory → (self.authority ≡ None) × ((t : PlainTarget) × IsTargetOf self t) }
         ensures no_other { IfErr result IsPartsFault }
         ensures means { IfOk result (λ p. (fields : List Field) → AreTaken [] fields → IsHeaderOf fields self → MeansRequest fields p.0 (target_of p.1)) }
         ensures refused { IfErr result (λ e. (fields : List Field) → AreTaken [] fields → IsHeaderOf fields self → IfFault e (IsRequestFault fields)) }
@@ -275,9 +276,20 @@ fn request_target(
 ) -> Result<Uri, HeaderError>
     ensures { IsTargetAnswer result scheme authority path (option_map (λ v. v.now.bytes) host.entry) }
 {
+    let fits = scheme.is_some() == path.is_some();
     match authority_of(authority, host) {
         Ok(authority) => target_with(scheme, authority, path),
-        Err(fault) => Err(fault),
+        Err(fault) => Err(target_fault(fault, fits)),
+    }
+}
+
+/// The fault of parts whose authority has this one. Where the others don't fit, want of memory isn't told.
+fn target_fault(fault: HeaderError, fits: bool) -> HeaderError
+    ensures { result ≡ target_fault fault fits }
+{
+    match fault {
+        HeaderError::Memory if !fits => HeaderError::InvalidRequest,
+        fault => fault,
     }
 }
 
@@ -334,6 +346,9 @@ fn authority_of(
 fn host_authority(host: &HeaderValue) -> Result<Authority, HeaderError>
     ensures { IsHostAnswer result host.now.bytes }
 {
+    if !is_authority(host.as_bytes()) {
+        return Err(HeaderError::InvalidRequest);
+    }
     let Ok(bytes) = host.as_shared().clone() else {
         return Err(HeaderError::Memory);
     };
