@@ -21,6 +21,10 @@ abbrev pub IfProtocol : {T : Type 0} → Result T ExchangeError → (ConnectionE
 IfProtocol (Err (Protocol e)) P = P e
 IfProtocol _ P = Unit {0}
 
+abbrev pub IfMemory : {T : Type 0} → Result T ExchangeError → Type 0 → Type 0
+IfMemory (Err Memory) P = P
+IfMemory _ P = Unit {0}
+
 -- the list isn't valid, or there was no memory to find that
 abbrev pub IsInvalidAnswer : {T : Type 0} → Result T ExchangeError → Type 0
 IsInvalidAnswer (Err (Invalid index)) = Unit {0}
