@@ -1,5 +1,5 @@
 -- Frames that change nothing, and those by which the peer closes.
-use Rattle.std.proofs.Common.{◌≡◌, ℕ, List, Option, None, Some, true, refl, sym}
+use Rattle.std.proofs.Common.{◌≡◌, ℕ, List, Option, None, Some, true, refl, sym, Bool}
 use Rattle.qh_base.specs.declared.connection_error.ConnectionError.{ConnectionError}
 use Rattle.qh_frame.specs.declared.ack.Ack.{Ack}
 use Rattle.qh_frame.specs.declared.frame.Frame.{Frame}
@@ -16,7 +16,7 @@ pub record IsOther (s : DataSpace) (f : Frame) : Type 0 where
   pub no_token : (token : _) → f ≡ kind.NewToken token → ⊥
   pub no_challenge : (bytes : List ℕ) → f ≡ kind.PathChallenge bytes → ⊥
   pub no_confirmation : f ≡ kind.HandshakeDone → ⊥
-  pub no_datagram : (payload : _) → f ≡ kind.Datagram payload → ⊥
+  pub no_datagram : (payload : _) (has_length : Bool) → f ≡ kind.Datagram payload has_length → ⊥
 
 is_free : (s : DataSpace) (f : Frame) → IsOther s f → frame_refusal s f ≡ None
 is_free s kind.Padding other = refl
@@ -40,7 +40,7 @@ is_free s (kind.PathResponse bytes) other = refl
 is_free s (kind.ConnectionClose code frame reason) other = refl
 is_free s (kind.ApplicationClose code reason) other = refl
 is_free s kind.HandshakeDone other = absurd (other.no_confirmation refl)
-is_free s (kind.Datagram payload) other = absurd (other.no_datagram payload refl)
+is_free s (kind.Datagram payload has_length) other = absurd (other.no_datagram payload has_length refl)
 
 closes_not : (s : DataSpace) (f : Frame) → IsOther s f → IsClosedBy f None → is_passive f ≡ true
 closes_not s kind.Padding other closed = refl
@@ -64,7 +64,7 @@ closes_not s (kind.PathResponse bytes) other closed = refl
 closes_not s (kind.ConnectionClose code frame reason) other closed = absurd closed
 closes_not s (kind.ApplicationClose code reason) other closed = absurd closed
 closes_not s kind.HandshakeDone other closed = refl
-closes_not s (kind.Datagram payload) other closed = absurd (other.no_datagram payload refl)
+closes_not s (kind.Datagram payload has_length) other closed = absurd (other.no_datagram payload has_length refl)
 
 pub other_taken : (now : ℕ) (s : DataSpace) (f : Frame) (closed : Option ConnectionError) → IsOther s f → IsClosedBy f closed
     → IsFrameTaken now s s f closed × (frame_refusal s f ≡ None)

@@ -4,6 +4,7 @@ use Rattle.std.specs.Prelude.{◌≡◌, ℕ, ◌+◌, ◌-◌, ◌^◌, ◌==�
 use Rattle.qh_base.specs.declared.connection_error.ConnectionError.{ConnectionError}
 use Rattle.qh_base.specs.declared.connection_error.ConnectionError.TheVariants.{ConnectionClosed, ApplicationClosed}
 use Rattle.qh_frame.specs.Plain.{ack_of}
+use Rattle.qh_frame.specs.TypeOf.{type_of}
 use Rattle.qh_frame.specs.declared.ack.Ack.{Ack}
 use Rattle.qh_frame.specs.declared.frame.Frame.{Frame}
 use Rattle.qh_frame.specs.declared.frame.Frame.TheVariants as kind
@@ -49,10 +50,10 @@ coming_refusal s None = None
 -- Why a frame is refused: an ACK of a number that was never sent (section 13.1), NEW_TOKEN and HANDSHAKE_DONE at a server
 -- (sections 19.7 and 19.20), DATAGRAM, which isn't on (RFC 9221, section 3), and the refusals of the streams.
 abbrev pub frame_refusal : DataSpace → Frame → Option Refusal
-frame_refusal s (kind.Ack a) = if nat_lt a.greatest s.next_number then None else refused codes.protocol_violation frame_types.ack
+frame_refusal s (kind.Ack a) = if nat_lt a.greatest s.next_number then None else refused codes.protocol_violation (type_of (kind.Ack a))
 frame_refusal s (kind.NewToken token) = refused_at_server s.streams.side frame_types.new_token
 frame_refusal s kind.HandshakeDone = refused_at_server s.streams.side frame_types.handshake_done
-frame_refusal s (kind.Datagram payload) = refused codes.protocol_violation frame_types.datagram_with_length
+frame_refusal s (kind.Datagram payload has_length) = refused codes.protocol_violation (type_of (kind.Datagram payload has_length))
 frame_refusal s f = coming_refusal s.streams (coming_of f)
 
 -- a round-trip time was measured where the packet with the greatest acknowledged number was out (RFC 9002, section 5.1)

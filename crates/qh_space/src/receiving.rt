@@ -8,7 +8,6 @@ ghost use Rattle.qh_recovery.specs.SentPackets.{packet_at};
 ghost use Rattle.qh_space.specs.Receiving.{IsFrameTaken, IsAckReceived, IsLossTaken, IsClosedBy, coming_of, frame_refusal, greatest_of, measured, IsStream, refused_at_server, some_type};
 ghost use Rattle.qh_space.specs.Space.{IsSpace};
 ghost use Rattle.qh_spec.specs.Codes as codes;
-ghost use Rattle.qh_spec.specs.FrameTypes as frame_types;
 ghost use Rattle.qh_streams.specs.Streams.{IsRefusal, IsRefusedBy, refused};
 
 use crate::DataSpace;
@@ -94,28 +93,33 @@ impl DataSpace {
         ensures space { IsSpace self.new }
     {
         match frame {
-            Frame::Ack(ack) => self.take_ack(ack, now)?,
+            Frame::Ack(ack) => self.take_ack(ack, frame.frame_type(), now)?,
             Frame::PathChallenge(bytes) => self.path_response = Some(*bytes),
             Frame::NewToken { .. } => self.refuse_at_server(FrameType::NEW_TOKEN)?,
             Frame::HandshakeDone => self.refuse_at_server(FrameType::HANDSHAKE_DONE)?,
-            Frame::Datagram { .. } => return Err(violation(FrameType::DATAGRAM_WITH_LENGTH)),
+            Frame::Datagram { .. } => return Err(violation(frame.frame_type())),
             _ => return Ok(closed_by(frame)),
         }
         Ok(None)
     }
 
-    // An ACK came.
-    fn take_ack(&mut self, ack: &Ack<'_>, now: Moment) -> Result<(), StreamFault>
+    // An ACK came, in a frame of this type.
+    fn take_ack(
+        &mut self,
+        ack: &Ack<'_>,
+        frame: FrameType,
+        now: Moment,
+    ) -> Result<(), StreamFault>
         requires { IsSpace self.old }
         ensures ok { OnOk result (IsAckReceived now.0 self.old self.new ack.now) }
         ensures taken { OnOk result (ack.now.greatest < self.old.next_number) }
-        ensures fault { IfErr result (λ e. IsRefusal e (refused codes.protocol_violation frame_types.ack) × (self.old.next_number ≤ ack.now.greatest)) }
+        ensures fault { IfErr result (λ e. IsRefusal e (refused codes.protocol_violation frame.0) × (self.old.next_number ≤ ack.now.greatest)) }
         ensures err { OnErr result (self.new ≡ self.old) }
         ensures space { IsSpace self.new }
     {
         let greatest = ack.greatest.into_inner();
         if greatest >= self.next_number {
-            return Err(violation(FrameType::ACK));
+            return Err(violation(frame));
         }
         self.measure(greatest, now);
         self.acknowledge(ack);
