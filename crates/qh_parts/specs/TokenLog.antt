@@ -11,3 +11,13 @@ abbrev pub IsLooked : TokenLimits → TokenLog → Token → Result (Unit {0}) T
 IsLooked limits l t (Ok done) Next = (accepts limits l t ≡ true) × Next (checked limits l t)
 IsLooked limits l t (Err Reused) Next = (accepts limits l t ≡ false) × Next (checked limits l t)
 IsLooked limits l t (Err Memory) Next = (accepts limits l t ≡ true) × ((taking l t).is_bits ≡ false) × Next (turned l t)
+
+-- the limits of a log that tells nothing
+abbrev pub no_limits : TokenLimits
+no_limits = record { max_bytes = 0; k_num = 0 }
+
+-- A call of some log looked at this token: it keeps the limits, and answers for each log of the definition that the log stands
+-- for.
+abbrev pub IsLook : {L : Type 0} → (L → TokenLimits) → (L → TokenLog → Type 0) → L → Token → Result (Unit {0}) TokenFault → L → Type 0
+IsLook limits stands before t result after =
+    (limits after ≡ limits before) × ((l : TokenLog) → stands before l → IsLooked (limits before) l t result (stands after))
