@@ -2,6 +2,7 @@ pub mod KeptHalves
 pub mod KeptStreams
 pub mod KeptArrivals
 pub mod InPackets
+pub mod NumbersKept
 pub mod OwingDatagrams
 pub mod OwingAcks
 pub mod OwingPackets

@@ -37,7 +37,7 @@ use Rattle.qh_streams.specs.Tracked.IsSendingStep.{takes, finishes, resets, prio
 use Rattle.qh_owing.proofs.KeptStreams.{finish, kept, prioritized, reads_nothing, reset_by, restated, wrote}
 use Rattle.qh_owing.proofs.OwingConnections.{nothing_more, on, same, without_more}
 use Rattle.qh_owing.proofs.OwingDatagrams.{carried_more, kept_more, out_before}
-use Rattle.qh_owing.specs.Owing.{AreKept, IsByteAcknowledged, IsEndAcknowledged, Owes}
+use Rattle.qh_owing.specs.Owing.{AcceptsTag, AreKept, IsByteAcknowledged, IsEndAcknowledged, Owes}
 use Rattle.qh_spec.specs.StreamId.{stream_id}
 use Rattle.qh_spec.specs.Transcript.{Act, Finished, ReadReset, Reset, Stopped, Wrote, handed_out, was_reset, written}
 use Rattle.qh_spec.specs.declared.sides.Dir.{Dir}
@@ -142,14 +142,14 @@ writes_on t u k =
     let sum = length-append (written t k) (written u k) in
     omega (arith, whole, sum)
 
-module _ {S : Type 0} where
+module _ {S : Type 0} (accepts : AcceptsTag) where
   -- ---- the streams alone go on
 
   module _ (old : Inner S) (s : PlainStreams) (t u : List Act) where
-    called : ((Byte : ℕ → ℕ → Type 0) (End : ℕ → Type 0) → AreKept Byte End t old.space.streams → AreKept Byte End (t ++ u) s) → SendsNoMore old.space.streams s → Owes old t → Owes (with_streams old s) (t ++ u)
+    called : ((Byte : ℕ → ℕ → Type 0) (End : ℕ → Type 0) → AreKept Byte End t old.space.streams → AreKept Byte End (t ++ u) s) → SendsNoMore old.space.streams s → Owes accepts old t → Owes accepts (with_streams old s) (t ++ u)
     called go less o =
         let id_length = length old.remote_id in
-        on old (with_streams old s) t u (record { side = refl; local = refl; remote = refl; opens = λ e. e })
+        on accepts old (with_streams old s) t u (record { side = refl; local = refl; remote = refl; opens = λ e. e; numbers = λ up. refl })
         (λ accepted up p. record {
           kept = kept_more id_length old.side (handed_out t) (handed_out (t ++ u)) accepted accepted (t ++ u) (t ++ u) s (out_before t u) (λ x is. is) (λ k. (refl, refl, refl))
               (go (IsByteAcknowledged id_length (handed_out t) accepted old.side) (IsEndAcknowledged id_length (handed_out t) accepted old.side) p.kept);
@@ -157,66 +157,66 @@ module _ {S : Type 0} where
           out = carried_more id_length old.side t (t ++ u) old.space.sent (out_before t u) (writes_on t u) p.out;
         }) o
 
-    silent : AreOfReaders u → IsBeside old.space.streams s → Owes old t → Owes (with_streams old s) (t ++ u)
+    silent : AreOfReaders u → IsBeside old.space.streams s → Owes accepts old t → Owes accepts (with_streams old s) (t ++ u)
     silent readers b o = called (λ Byte End p. kept Byte End old.space.streams s (t ++ u) b.halves b.opened
         (restated Byte Byte End End (λ id k b. b) (λ id b. b) t (t ++ u) old.space.streams (reads_nothing t u readers.writes readers.resets) p)) (beside_sends old.space.streams s b) o
 
   -- a call that does nothing of its own
-  quiet_call : (old new : Inner S) (s : PlainStreams) (t : List Act) → new ≡ with_streams old s → IsBeside old.space.streams s → Owes old t → Owes new t
-  quiet_call old new s t e b o = subst (λ (c : Inner S). Owes c t) (sym e) (without_more (with_streams old s) t (silent old s t [] no_acts b o))
+  quiet_call : (old new : Inner S) (s : PlainStreams) (t : List Act) → new ≡ with_streams old s → IsBeside old.space.streams s → Owes accepts old t → Owes accepts new t
+  quiet_call old new s t e b o = subst (λ (c : Inner S). Owes accepts c t) (sym e) (without_more accepts (with_streams old s) t (silent old s t [] no_acts b o))
 
-  kept_call : (old new : Inner S) (t : List Act) → new ≡ old → Owes old t → Owes new t
-  kept_call old new t e o = subst (λ (c : Inner S). Owes c t) (sym e) o
+  kept_call : (old new : Inner S) (t : List Act) → new ≡ old → Owes accepts old t → Owes accepts new t
+  kept_call old new t e o = subst (λ (c : Inner S). Owes accepts c t) (sym e) o
 
   -- ---- writers
 
-  refused : (id : ℕ) (e : WriteFault) (old new : Inner S) (t : List Act) → IsWriteRefused id e old new → Owes old t → Owes new t
+  refused : (id : ℕ) (e : WriteFault) (old new : Inner S) (t : List Act) → IsWriteRefused id e old new → Owes accepts old t → Owes accepts new t
   refused id e old new t (closed_to_writes shut is same) o = kept_call old new t same o
   refused id e old new t (wanting is same) o = kept_call old new t same o
   refused id e old new t (refused_write up is with) o = quiet_call old new _ t with (blocked_beside old.space.streams id e) o
 
   wrote_call : (id taken : ℕ) (bytes : List ℕ) (old new : Inner S) (t : List Act) → IsStep (Takes bytes) old.space.streams.send new.space.streams.send id taken
-      → new ≡ with_streams old (record old.space.streams { send = new.space.streams.send }) → Owes old t → Owes new (t ++ Wrote id bytes ∷ [])
+      → new ≡ with_streams old (record old.space.streams { send = new.space.streams.send }) → Owes accepts old t → Owes accepts new (t ++ Wrote id bytes ∷ [])
   wrote_call id taken bytes old new t step e o =
       let s : PlainStreams = record old.space.streams { send = new.space.streams.send } in
-      subst (λ (c : Inner S). Owes c (t ++ Wrote id bytes ∷ [])) (sym e) (called old s t (Wrote id bytes ∷ []) (λ Byte End p. wrote Byte End old.space.streams s t id taken bytes step refl p) (no_more old.space.streams s (sending_keeps old.space.streams s id (takes taken bytes step) refl (λ dir. refl))) o)
+      subst (λ (c : Inner S). Owes accepts c (t ++ Wrote id bytes ∷ [])) (sym e) (called old s t (Wrote id bytes ∷ []) (λ Byte End p. wrote Byte End old.space.streams s t id taken bytes step refl p) (no_more old.space.streams s (sending_keeps old.space.streams s id (takes taken bytes step) refl (λ dir. refl))) o)
 
   pub write_owes : (id : ℕ) (payload : List ℕ) (answer : Result ℕ WriteFault) (old new : Inner S) (t : List Act)
       → IfOk answer (λ n. (is_open old.state ≡ true) × IsStep (Takes (take n payload)) old.space.streams.send new.space.streams.send id n
       × (new ≡ with_streams old (record old.space.streams { send = new.space.streams.send })))
-      → IfErr answer (λ e. IsWriteRefused id e old new) → Owes old t → Owes new (t ++ write_acts id payload answer)
+      → IfErr answer (λ e. IsWriteRefused id e old new) → Owes accepts old t → Owes accepts new (t ++ write_acts id payload answer)
   write_owes id payload (Ok n) old new t ok err o = wrote_call id n (take n payload) old new t ok.1 ok.2 o
-  write_owes id payload (Err e) old new t ok err o = nothing_more new t (refused id e old new t err o)
+  write_owes id payload (Err e) old new t ok err o = nothing_more accepts new t (refused id e old new t err o)
 
   pub chunks_owe : (id : ℕ) (chunks : List (List ℕ)) (answer : Result Written WriteFault) (old new : Inner S) (t : List Act)
       → IfOk answer (λ w. (is_open old.state ≡ true) × IsStep (Takes (take w.bytes (concat chunks))) old.space.streams.send new.space.streams.send id w.bytes
       × (new ≡ with_streams old (record old.space.streams { send = new.space.streams.send })))
-      → IfErr answer (λ e. IsWriteRefused id e old new) → Owes old t → Owes new (t ++ write_chunks_acts id chunks answer)
+      → IfErr answer (λ e. IsWriteRefused id e old new) → Owes accepts old t → Owes accepts new (t ++ write_chunks_acts id chunks answer)
   chunks_owe id chunks (Ok w) old new t ok err o = wrote_call id w.bytes (take w.bytes (concat chunks)) old new t ok.1 ok.2 o
-  chunks_owe id chunks (Err e) old new t ok err o = nothing_more new t (refused id e old new t err o)
+  chunks_owe id chunks (Err e) old new t ok err o = nothing_more accepts new t (refused id e old new t err o)
 
   pub finish_owes : (id : ℕ) (answer : Result Unit FinishFault) (old new : Inner S) (t : List Act)
       → OnOk answer (IsStep Finishes old.space.streams.send new.space.streams.send id 0 × (new ≡ with_streams old (record old.space.streams { send = new.space.streams.send })))
-      → IfErr answer (λ e. (finish_fault_at old.space.streams.send id ≡ Some e) × (new ≡ old)) → Owes old t → Owes new (t ++ finish_acts id answer)
+      → IfErr answer (λ e. (finish_fault_at old.space.streams.send id ≡ Some e) × (new ≡ old)) → Owes accepts old t → Owes accepts new (t ++ finish_acts id answer)
   finish_owes id (Ok done) old new t ok err o =
       let s : PlainStreams = record old.space.streams { send = new.space.streams.send } in
-      subst (λ (c : Inner S). Owes c (t ++ Finished id ∷ [])) (sym ok.1) (called old s t (Finished id ∷ []) (λ Byte End p. finish Byte End old.space.streams s t id ok.0 refl p) (no_more old.space.streams s (sending_keeps old.space.streams s id (finishes ok.0) refl (λ dir. refl))) o)
-  finish_owes id (Err e) old new t ok err o = nothing_more new t (kept_call old new t err.1 o)
+      subst (λ (c : Inner S). Owes accepts c (t ++ Finished id ∷ [])) (sym ok.1) (called old s t (Finished id ∷ []) (λ Byte End p. finish Byte End old.space.streams s t id ok.0 refl p) (no_more old.space.streams s (sending_keeps old.space.streams s id (finishes ok.0) refl (λ dir. refl))) o)
+  finish_owes id (Err e) old new t ok err o = nothing_more accepts new t (kept_call old new t err.1 o)
 
   pub reset_owes : (id code : ℕ) (answer : Result Unit ClosedStream) (old new : Inner S) (t : List Act)
       → OnOk answer (IsStep (IsResetWith code) old.space.streams.send new.space.streams.send id 0 × (new ≡ with_streams old (record old.space.streams { send = new.space.streams.send })))
-      → OnErr answer ((is_reset_refused_at old.space.streams.send id ≡ true) × (new ≡ old)) → Owes old t → Owes new (t ++ reset_by_acts id code answer)
+      → OnErr answer ((is_reset_refused_at old.space.streams.send id ≡ true) × (new ≡ old)) → Owes accepts old t → Owes accepts new (t ++ reset_by_acts id code answer)
   reset_owes id code (Ok done) old new t ok err o =
       let s : PlainStreams = record old.space.streams { send = new.space.streams.send } in
-      subst (λ (c : Inner S). Owes c (t ++ Reset id code ∷ [])) (sym ok.1) (called old s t (Reset id code ∷ []) (λ Byte End p. reset_by Byte End old.space.streams s t id code ok.0 refl p) (no_more old.space.streams s (sending_keeps old.space.streams s id (resets code ok.0) refl (λ dir. refl))) o)
-  reset_owes id code (Err e) old new t ok err o = nothing_more new t (kept_call old new t err.1 o)
+      subst (λ (c : Inner S). Owes accepts c (t ++ Reset id code ∷ [])) (sym ok.1) (called old s t (Reset id code ∷ []) (λ Byte End p. reset_by Byte End old.space.streams s t id code ok.0 refl p) (no_more old.space.streams s (sending_keeps old.space.streams s id (resets code ok.0) refl (λ dir. refl))) o)
+  reset_owes id code (Err e) old new t ok err o = nothing_more accepts new t (kept_call old new t err.1 o)
 
   pub priority_owes : (id : ℕ) (priority : ℤ) (answer : Result Unit ClosedStream) (old new : Inner S) (t : List Act)
       → OnOk answer (IsStep (HasPriority priority) old.space.streams.send new.space.streams.send id 0 × (new ≡ with_streams old (record old.space.streams { send = new.space.streams.send })))
-      → OnErr answer ((send_at old.space.streams.send id ≡ None) × (new ≡ old)) → Owes old t → Owes new t
+      → OnErr answer ((send_at old.space.streams.send id ≡ None) × (new ≡ old)) → Owes accepts old t → Owes accepts new t
   priority_owes id priority (Ok done) old new t ok err o =
       let s : PlainStreams = record old.space.streams { send = new.space.streams.send } in
-      subst (λ (c : Inner S). Owes c t) (sym ok.1) (without_more (with_streams old s) t (called old s t []
+      subst (λ (c : Inner S). Owes accepts c t) (sym ok.1) (without_more accepts (with_streams old s) t (called old s t []
       (λ Byte End p. subst (λ (z : List Act). AreKept Byte End z s) (sym (append-nil t)) (prioritized Byte End old.space.streams s t id priority ok.0 refl p)) (no_more old.space.streams s (sending_keeps old.space.streams s id (priority_set priority ok.0) refl (λ dir. refl))) o))
   priority_owes id priority (Err e) old new t ok err o = kept_call old new t err.1 o
 
@@ -228,9 +228,9 @@ module _ {S : Type 0} where
       × IsOpened old.space.streams new.space.streams id.0 × (new ≡ with_streams old new.space.streams)))
       → IfOk answer (λ o. o ≡ None → (new ≡ old)
       × ((is_open old.state ≡ false) ⊎ ((counts_of old.space.streams (is_two_way dir)).opened ≡ (counts_of old.space.streams (is_two_way dir)).max_opened)))
-      → OnErr answer (new ≡ old) → Owes old t → Owes new t
+      → OnErr answer (new ≡ old) → Owes accepts old t → Owes accepts new t
   open_owes dir (Ok (Some id)) old new t some none err o =
-      subst (λ (c : Inner S). Owes c t) (sym some.4) (without_more (with_streams old new.space.streams) t (called old new.space.streams t []
+      subst (λ (c : Inner S). Owes accepts c t) (sym some.4) (without_more accepts (with_streams old new.space.streams) t (called old new.space.streams t []
       (λ Byte End p. subst (λ (z : List Act). AreKept Byte End z new.space.streams) (sym (append-nil t)) (opened Byte End t old.space.streams new.space.streams id.0 dir some.1 some.3 p)) (no_more old.space.streams new.space.streams (opened_keeps old.space.streams new.space.streams id.0 some.3)) o))
   open_owes dir (Ok None) old new t some none err o = kept_call old new t (none refl).0 o
   open_owes dir (Err e) old new t some none err o = kept_call old new t err o
@@ -239,61 +239,61 @@ module _ {S : Type 0} where
       → IfSome answer (λ id. (id.0 ≡ stream_id (other_side old.space.streams.side) dir (counts_of old.space.streams (is_two_way dir)).accepted)
       × ((counts_of old.space.streams (is_two_way dir)).accepted < (counts_of old.space.streams (is_two_way dir)).arrived)
       × (new ≡ with_streams old (with_counts old.space.streams (is_two_way dir) (with_accepted (counts_of old.space.streams (is_two_way dir))))))
-      → (answer ≡ None → ((counts_of old.space.streams (is_two_way dir)).accepted ≡ (counts_of old.space.streams (is_two_way dir)).arrived) × (new ≡ old)) → Owes old t → Owes new t
+      → (answer ≡ None → ((counts_of old.space.streams (is_two_way dir)).accepted ≡ (counts_of old.space.streams (is_two_way dir)).arrived) × (new ≡ old)) → Owes accepts old t → Owes accepts new t
   accept_owes dir (Some id) old new t some none o = quiet_call old new _ t some.2 (counts_beside old.space.streams (is_two_way dir) _ refl refl) o
   accept_owes dir None old new t some none o = kept_call old new t (none refl).1 o
 
   -- ---- readers
 
-  with_acts : (old new : Inner S) (s : PlainStreams) (t u : List Act) → new ≡ with_streams old s → AreOfReaders u → IsBeside old.space.streams s → Owes old t → Owes new (t ++ u)
-  with_acts old new s t u e readers b o = subst (λ (c : Inner S). Owes c (t ++ u)) (sym e) (silent old s t u readers b o)
+  with_acts : (old new : Inner S) (s : PlainStreams) (t u : List Act) → new ≡ with_streams old s → AreOfReaders u → IsBeside old.space.streams s → Owes accepts old t → Owes accepts new (t ++ u)
+  with_acts old new s t u e readers b o = subst (λ (c : Inner S). Owes accepts c (t ++ u)) (sym e) (silent old s t u readers b o)
 
   pub read_owes : (id max_length : ℕ) (ordered : Bool) (answer : Result (Option Chunk) TakeFault) (old new : Inner S) (t : List Act)
       → IfOk answer (λ o. IsRead max_length ordered id (Ok o) old.space.streams new.space.streams)
       → IfErr answer (λ e. IsReadFault max_length ordered id e old.space.streams new.space.streams)
-      → new ≡ with_streams old new.space.streams → Owes old t → Owes new (t ++ take_acts id answer)
+      → new ≡ with_streams old new.space.streams → Owes accepts old t → Owes accepts new (t ++ take_acts id answer)
   read_owes id max_length ordered (Ok o) old new t ok err rest owes = with_acts old new new.space.streams t (take_acts id (Ok o)) rest (take_reads id (Ok o)) (read_beside max_length ordered id (Ok o) old.space.streams new.space.streams ok) owes
   read_owes id max_length ordered (Err e) old new t ok err rest owes = with_acts old new new.space.streams t (take_acts id (Err e)) rest (take_reads id (Err e)) (unread_beside max_length ordered id e old.space.streams new.space.streams err) owes
 
   pub stop_owes : (id code : ℕ) (answer : Result Unit ClosedStream) (old new : Inner S) (t : List Act)
       → OnOk answer (IsRecvStep (Stops code) old.space.streams.recv new.space.streams.recv id 0
       × (new ≡ with_streams old (counted_closed (record old.space.streams { recv = new.space.streams.recv }) id (is_live old.space.streams id))))
-      → OnErr answer ((is_closed_at old.space.streams.recv id ≡ true) × (new ≡ old)) → Owes old t → Owes new (t ++ stop_acts id code answer)
+      → OnErr answer ((is_closed_at old.space.streams.recv id ≡ true) × (new ≡ old)) → Owes accepts old t → Owes accepts new (t ++ stop_acts id code answer)
   stop_owes id code (Ok done) old new t ok err o = with_acts old new _ t (Stopped id code ∷ []) ok.1 (stop_reads id code) (recv_closed old.space.streams new.space.streams id) o
-  stop_owes id code (Err e) old new t ok err o = nothing_more new t (kept_call old new t err.1 o)
+  stop_owes id code (Err e) old new t ok err o = nothing_more accepts new t (kept_call old new t err.1 o)
 
   pub received_reset_owes : (id : ℕ) (answer : Result (Option ℕ) ClosedStream) (old new : Inner S) (t : List Act)
       → IfOk answer (λ code. IsRecvStep (TakesReset code) old.space.streams.recv new.space.streams.recv id 0
       × (new ≡ with_streams old (counted_closed (record old.space.streams { recv = new.space.streams.recv }) id (is_live old.space.streams id))))
-      → OnErr answer ((is_closed_at old.space.streams.recv id ≡ true) × (new ≡ old)) → Owes old t → Owes new (t ++ received_reset_acts id answer)
+      → OnErr answer ((is_closed_at old.space.streams.recv id ≡ true) × (new ≡ old)) → Owes accepts old t → Owes accepts new (t ++ received_reset_acts id answer)
   received_reset_owes id (Ok code) old new t ok err o = with_acts old new _ t (reset_acts id code) ok.1 (reset_reads id code) (recv_closed old.space.streams new.space.streams id) o
-  received_reset_owes id (Err e) old new t ok err o = nothing_more new t (kept_call old new t err.1 o)
+  received_reset_owes id (Err e) old new t ok err o = nothing_more accepts new t (kept_call old new t err.1 o)
 
   -- ---- settings
 
   pub concurrent_owes : (two_way : Bool) (count : ℕ) (old new : Inner S) (t : List Act)
-      → new ≡ with_streams old (with_counts old.space.streams two_way (record (counts_of old.space.streams two_way) { max_concurrent = count })) → Owes old t → Owes new t
+      → new ≡ with_streams old (with_counts old.space.streams two_way (record (counts_of old.space.streams two_way) { max_concurrent = count })) → Owes accepts old t → Owes accepts new t
   concurrent_owes two_way count old new t e o = quiet_call old new _ t e (counts_beside old.space.streams two_way _ refl refl) o
 
   pub send_window_owes : (bytes : ℕ) (old new : Inner S) (t : List Act)
-      → new ≡ with_streams old (record old.space.streams { send = record old.space.streams.send { send_window = bytes } }) → Owes old t → Owes new t
+      → new ≡ with_streams old (record old.space.streams { send = record old.space.streams.send { send_window = bytes } }) → Owes accepts old t → Owes accepts new t
   send_window_owes bytes old new t e o = quiet_call old new _ t e (record { halves = refl; opened = λ k. refl }) o
 
   pub receive_window_owes : (bytes : ℕ) (old new : Inner S) (t : List Act)
-      → new ≡ with_streams old (record old.space.streams { recv = record old.space.streams.recv { receive_window = bytes } }) → Owes old t → Owes new t
+      → new ≡ with_streams old (record old.space.streams { recv = record old.space.streams.recv { receive_window = bytes } }) → Owes accepts old t → Owes accepts new t
   receive_window_owes bytes old new t e o = quiet_call old new _ t e (record { halves = refl; opened = λ k. refl }) o
 
   -- ---- what is told
 
-  pub poll_owes : (answer : Option Event) (old new : Inner S) (t : List Act) → IsPolledEvent old new answer → Owes old t → Owes new t
+  pub poll_owes : (answer : Option Event) (old new : Inner S) (t : List Act) → IsPolledEvent old new answer → Owes accepts old t → Owes accepts new t
   poll_owes _ old new t (stream_told e polled rest) o = quiet_call old new _ t rest (polled_beside old.space.streams new.space.streams (Some e) polled) o
   poll_owes _ old new t (lost_told mid error polled is untold e) o =
       let c = with_streams old mid in
       let told = quiet_call old c mid t refl (polled_beside old.space.streams mid None polled) o in
-      subst (λ (n : Inner S). Owes n t) (sym e) (same c (record c { is_lost_told = true }) t (record { side = refl; local = refl; remote = refl; opens = λ e. e }) refl told)
+      subst (λ (n : Inner S). Owes accepts n t) (sym e) (same accepts c (record c { is_lost_told = true }) t (record { side = refl; local = refl; remote = refl; opens = λ e. e; numbers = λ up. refl }) refl told)
   poll_owes _ old new t (nothing_told polled why rest) o = quiet_call old new _ t rest (polled_beside old.space.streams new.space.streams None polled) o
 
-  pub endpoint_owes : (answer : Option EndpointEvent) (old new : Inner S) (t : List Act) → IsDrainedTold old new answer → Owes old t → Owes new t
+  pub endpoint_owes : (answer : Option EndpointEvent) (old new : Inner S) (t : List Act) → IsDrainedTold old new answer → Owes accepts old t → Owes accepts new t
   endpoint_owes _ old new t (drained_told is untold e) o =
-      subst (λ (n : Inner S). Owes n t) (sym e) (same old (record old { is_drained_told = true }) t (record { side = refl; local = refl; remote = refl; opens = λ e. e }) refl o)
+      subst (λ (n : Inner S). Owes accepts n t) (sym e) (same accepts old (record old { is_drained_told = true }) t (record { side = refl; local = refl; remote = refl; opens = λ e. e; numbers = λ up. refl }) refl o)
   endpoint_owes _ old new t (none_told why e) o = kept_call old new t e o

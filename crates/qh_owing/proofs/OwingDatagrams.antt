@@ -1,7 +1,7 @@
 -- What more datagrams, more accepted packets and more acts leave of what is owed.
 use Rattle.std.proofs.Common.{ℕ, ◌≤◌, List, ◌++◌, length, sym, ap, subst, arith}
 use Rattle.qh_owing.proofs.KeptStreams.{Reads, restated}
-use Rattle.qh_owing.specs.Owing.{AreKept, AreOutCarried, HasCome, IsByteAcknowledged, IsEndAcknowledged, IsFrameCarried, IsOwing, IsPieceCarried}
+use Rattle.qh_owing.specs.Owing.{AcceptsTag, AreKept, AreOutCarried, IsByteAcknowledged, IsEndAcknowledged, IsFrameCarried, IsOwing, IsPieceCarried, WasAccepted}
 use Rattle.qh_recovery.specs.declared.sent_packets.SentPacket.{SentPacket}
 use Rattle.qh_space.specs.declared.data_space.DataSpace.{DataSpace}
 use Rattle.qh_spec.proofs.Members.{in_left}
@@ -26,8 +26,18 @@ in_before t u d is = subst (λ (z : List (List ℕ)). In d z) (sym (handed_in-ap
 pub out_before : (t u : List Act) → IsPart (handed_out t) (handed_out (t ++ u))
 out_before t u d is = subst (λ (z : List (List ℕ)). In d z) (sym (handed_out-append t u)) (in_left d (handed_out t) (handed_out u) is)
 
-pub come_more : (id_length : ℕ) (xs ys : List (List ℕ)) (sender : Side) (p : Packet) → IsPart xs ys → HasCome id_length xs sender p → HasCome id_length ys sender p
-come_more id_length xs ys sender p part h = record { datagram = h.datagram; among = part h.datagram h.among; has = h.has; space_is = h.space_is; sender_is = h.sender_is }
+pub come_more : (accepts : AcceptsTag) (id : List ℕ) (xs ys : List (List ℕ)) (peer : Side) (p : Packet) → IsPart xs ys → WasAccepted accepts id xs peer p → WasAccepted accepts id ys peer p
+come_more accepts id xs ys peer p part h = record {
+  datagram = h.datagram;
+  among = part h.datagram h.among;
+  expected = h.expected;
+  bytes = h.bytes;
+  opened = h.opened;
+  are = h.are;
+  has = h.has;
+  space_is = h.space_is;
+  sender_is = h.sender_is;
+}
 
 module _ (id_length : ℕ) (side : Side) where
   module _ (xs ys : List (List ℕ)) (part : IsPart xs ys) where

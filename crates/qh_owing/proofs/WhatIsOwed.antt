@@ -4,13 +4,15 @@ use Rattle.std.proofs.lemmas.Bool.{both_ways, false≢true, lt-ltb}
 use Rattle.qh_buffers.specs.SendBuffer.{PlainSendBuffer, is_queued, mark_at, taken_to, waits}
 use Rattle.qh_buffers.specs.declared.send_buffer.Mark.{Mark}
 use Rattle.qh_buffers.specs.declared.send_buffer.Mark.TheVariants.{Sent, Queued, Acked}
+use Rattle.qh_conn.specs.Follows.{Follows}
 use Rattle.qh_conn.specs.Inner.{IsNewSpace, is_open}
 use Rattle.qh_conn.specs.declared.inner.Inner.{Inner}
 use Rattle.qh_half.specs.Send.{PlainSend, is_end_acked, is_end_queued, is_finished, is_reset}
 use Rattle.qh_half.specs.declared.send.SendState.{SendState}
 use Rattle.qh_half.specs.declared.send.SendState.TheVariants.{Ready, DataSent, ResetSent}
 use Rattle.qh_halves.specs.SendHalves.{half_in, send_at}
-use Rattle.qh_owing.specs.Owing.{AreInPackets, AreOutCarried, IsByteOut, IsEndOut, IsFrameCarried, IsInPacket, IsByteKept, IsByteToCome, IsEndKept, IsEndToCome, KeepsStream, KeepsWhatIsOwed, Owes}
+use Rattle.qh_owing.proofs.NumbersKept.{none_accepted}
+use Rattle.qh_owing.specs.Owing.{AcceptsTag, AreInPackets, AreOutCarried, IsByteOut, IsEndOut, IsFrameCarried, IsInPacket, IsByteKept, IsByteToCome, IsEndKept, IsEndToCome, KeepsStream, KeepsWhatIsOwed, Owes}
 use Rattle.qh_recovery.specs.SentPackets.{packet_at}
 use Rattle.qh_recovery.specs.declared.sent_packets.SentPacket.{SentPacket}
 use Rattle.qh_space.specs.declared.data_space.DataSpace.{DataSpace}
@@ -109,14 +111,16 @@ module _ (Byte : ℕ → Type 0) (End : Type 0) (s : DataSpace) (stream count : 
         waits_or_out = elim (end_waits_or_sent h.state (keeps.half.end live ∙ was) kept) [ inl queued ↦ inl queued | inr sent ↦ inr (in_end (owed.ends stream h is sent)) ];
       }
 
-module _ {S : Type 0} where
-  pub fresh : (c : Inner S) → IsNewSpace c.config c.side c.space → Owes c []
+module _ {S : Type 0} (accepts : AcceptsTag) where
+  pub fresh : (c : Inner S) → IsNewSpace c.config c.side c.space → c.error ≡ None → Follows c [] → Owes accepts c []
   unfolding Owes
-  fresh c is_new =
+  fresh c is_new fine follows =
       let none : (id : ℕ) → send_at c.space.streams.send id ≡ None = λ id. ap (λ (l : List (ℕ × PlainSend)). half_in l id) is_new.no_half.send in (
         [],
         record {
           come = λ p among. absurd among;
+          once = tt;
+          remembers = λ up. none_accepted c fine follows;
           space = λ up. record {
             kept = record {
               streams = λ id. rw (none id) (record { half = tt; bytes = λ not k below. absurd (omega (arith, below)); end = λ not was. absurd (false≢true was) });
@@ -133,13 +137,14 @@ module _ {S : Type 0} where
         },
       )
 
-  pub still_owed : (c : Inner S) (t : List Act) → is_open c.state ≡ true → Owes c t → KeepsWhatIsOwed c t
+  pub still_owed : (c : Inner S) (t : List Act) → is_open c.state ≡ true → Owes accepts c t → KeepsWhatIsOwed accepts c t
   unfolding Owes
   still_owed c t up (accepted, o) =
       let p = o.space up in
       record {
         accepted = accepted;
         come = o.come;
+        once = o.once;
         bytes = λ stream offset byte w.
             let below = get_below (written t stream) offset byte w.was_written in
             let keeps = p.kept.streams stream in

@@ -1,6 +1,6 @@
 -- What a connection owes to its peer: how its space of application data stands to the bytes and ends that were written and that no
 -- accepted ACK covers, by the datagrams that went both ways (RFC 9000, sections 2.2 and 13.3).
-use Rattle.std.specs.Prelude.{◌≡◌, ◌⊎◌, ℕ, ◌+◌, ◌^◌, ◌<◌, ◌≤◌, Bool, true, false, List, [], length, Option, Some, None}
+use Rattle.std.specs.Prelude.{◌≡◌, ◌⊎◌, ℕ, ◌+◌, ◌^◌, ◌<◌, ◌≤◌, Bool, true, false, List, [], length, map, Option, Some, None}
 use Rattle.qh_buffers.specs.SendBuffer.{taken_to, mark_at, is_queued}
 use Rattle.qh_buffers.specs.declared.send_buffer.Mark.TheVariants.{Acked, Sent}
 use Rattle.qh_conn.specs.Inner.{is_open}
@@ -9,14 +9,17 @@ use Rattle.qh_half.specs.Send.{PlainSend, IsSentAsTaken, is_reset, is_finished, 
 use Rattle.qh_half.specs.declared.send.Outgoing.{Outgoing}
 use Rattle.qh_half.specs.declared.send.SendState.TheVariants.{DataSent, ResetSent}
 use Rattle.qh_halves.specs.SendHalves.{send_at}
+use Rattle.qh_packet.specs.Packet.{IsOpened}
+use Rattle.qh_recovery.specs.Accepted.{Remembers}
 use Rattle.qh_recovery.specs.SentPackets.{packet_at, IsNext}
 use Rattle.qh_recovery.specs.declared.sent_packets.SentPacket.{SentPacket}
 use Rattle.qh_space.specs.declared.data_space.DataSpace.{DataSpace}
 use Rattle.qh_spec.specs.Carried.{HasNumberedRun, IsAcknowledged, IsEndOwed, IsOwed}
 use Rattle.qh_spec.specs.Datagram.{Packet, HasPacket}
 use Rattle.qh_spec.specs.Link.{other}
-use Rattle.qh_spec.specs.Lists.{In}
+use Rattle.qh_spec.specs.Lists.{In, Distinct}
 use Rattle.qh_spec.specs.QuicFrame.{StreamFrame}
+use Rattle.qh_spec.specs.QuicFrames.{AreQuicFrames}
 use Rattle.qh_spec.specs.Tag.{IsTag}
 use Rattle.qh_spec.specs.Transcript.{Act, written, finished, was_reset, handed_in, handed_out}
 use Rattle.qh_spec.specs.declared.sides.Side.{Side}
@@ -29,23 +32,38 @@ use Rattle.qh_streams.specs.declared.frames.SentFrame.TheVariants as sent_frame
 
 -- ---- what a session's tags are
 
+-- whether it accepts a tag of a packet that has this sender, space and number
+abbrev pub AcceptsTag : Type 0
+AcceptsTag = Side → Space → ℕ → List ℕ → Bool
+
 -- what it takes for a tag of a packet is one
-abbrev pub NamesTags : (accepts : Side → Space → ℕ → List ℕ → Bool) → Type 0
+abbrev pub NamesTags : (accepts : AcceptsTag) → Type 0
 NamesTags accepts = (from : Side) (space : Space) (number : ℕ) (tag : List ℕ) → number < 2 ^ 62 → accepts from space number tag ≡ true → IsTag tag from space number
 
 -- what it makes for a tag of a packet is one
 abbrev pub MakesTags : (sealed : Side → Space → ℕ → List ℕ) → Type 0
 MakesTags sealed = (from : Side) (space : Space) (number : ℕ) → number < 2 ^ 62 → IsTag (sealed from space number) from space number
 
--- ---- what the peer acknowledged, by the datagrams
+-- ---- which packets an end accepted, by the datagrams
 
--- one of the datagrams has the packet, a 1-RTT packet of this sender
-pub record HasCome (id_length : ℕ) (datagrams : List (List ℕ)) (sender : Side) (packet : Packet) : Type 0 where
+-- The end with this connection id accepted the packet: one of the datagrams is a 1-RTT packet of this sender to that id, whose tag the
+-- session accepts for the packet's number, and which carries the packet's frames (RFC 9000, section 17.3.1).
+pub record WasAccepted (accepts : AcceptsTag) (local_id : List ℕ) (datagrams : List (List ℕ)) (sender : Side) (packet : Packet) : Type 0 where
   pub datagram : List ℕ
   pub among : In datagram datagrams
-  pub has : HasPacket id_length packet datagram
+  pub expected : ℕ
+  pub bytes : List ℕ
+  pub opened : IsOpened accepts local_id sender expected datagram packet.number bytes
+  pub are : AreQuicFrames bytes packet.frames
+  pub has : HasPacket (length local_id) packet datagram
   pub space_is : packet.space ≡ Data
   pub sender_is : packet.sender ≡ sender
+
+-- their packet numbers
+abbrev pub numbers_of : List Packet → List ℕ
+numbers_of packets = map (λ (p : Packet). p.number) packets
+
+-- ---- what the peer acknowledged
 
 -- an accepted ACK covers a packet that carried the byte of the stream at this offset
 pub record IsByteAcknowledged (id_length : ℕ) (sent : List (List ℕ)) (accepted : List Packet) (sender : Side) (stream offset : ℕ) : Type 0 where
@@ -184,22 +202,26 @@ pub record IsEndToCome (id_length : ℕ) (side : Side) (t : List Act) (s : DataS
   pub is : send_at s.streams.send stream ≡ Some half
   pub waits_or_out : (is_end_queued half.state ≡ true) ⊎ IsEndOut id_length side t s stream
 
-module _ {S : Type 0} where
-  -- The connection stands so to what was done with it, where it accepted these packets: each came from the peer, and while it is open
-  -- nothing is forgotten that they don't acknowledge.
+module _ {S : Type 0} (accepts : AcceptsTag) where
+  -- The connection stands so to what was done with it, where it accepted these packets: it accepted each of them, and no number twice
+  -- (RFC 9000, section 12.3). While it is open it remembers their numbers, and nothing is forgotten that they don't acknowledge.
   pub record Owing (c : Inner S) (accepted : List Packet) (t : List Act) : Type 0 where
-    pub come : (p : Packet) → In p accepted → HasCome (length c.local_id) (handed_in t) (other c.side) p
+    pub come : (p : Packet) → In p accepted → WasAccepted accepts c.local_id (handed_in t) (other c.side) p
+    pub once : Distinct (numbers_of accepted)
+    pub remembers : is_open c.state ≡ true → Remembers (numbers_of accepted) c.space.dedup
     pub space : is_open c.state ≡ true → IsOwing (length c.remote_id) c.side accepted t c.space
 
-  -- Of an open connection: some packets that came were accepted, and each byte and each end that is owed, since no ACK in them covers a
-  -- packet that carried it, waits to be sent or is out. Packets that are out carried what their frames say.
+  -- Of an open connection: it accepted some packets, each with a tag that its session accepts and with a number of its own. Each byte and
+  -- each end that is owed, since no ACK in them covers a packet that carried it, waits to be sent or is out. Packets that are out carried
+  -- what their frames say.
   pub record KeepsWhatIsOwed (c : Inner S) (t : List Act) : Type 0 where
     pub accepted : List Packet
-    pub come : (p : Packet) → In p accepted → HasCome (length c.local_id) (handed_in t) (other c.side) p
+    pub come : (p : Packet) → In p accepted → WasAccepted accepts c.local_id (handed_in t) (other c.side) p
+    pub once : Distinct (numbers_of accepted)
     pub bytes : (stream offset byte : ℕ) → IsOwed (length c.remote_id) (handed_out t) accepted c.side t stream offset byte → IsByteToCome (length c.remote_id) c.side t c.space stream offset
     pub ends : (stream : ℕ) → IsEndOwed (length c.remote_id) (handed_out t) accepted c.side t stream → IsEndToCome (length c.remote_id) c.side t c.space stream
     pub carried : AreOutCarried (length c.remote_id) c.side t c.space.sent
 
--- the connection owes so what was written by then
-unfoldable pub Owes : {S : Type 0} → Inner S → List Act → Type 0
-Owes c t = (accepted : List Packet) × Owing c accepted t
+-- the connection owes so what was written by then, where its session accepts these tags
+unfoldable pub Owes : {S : Type 0} → AcceptsTag → Inner S → List Act → Type 0
+Owes accepts c t = (accepted : List Packet) × Owing accepts c accepted t

@@ -59,7 +59,7 @@ pub returns-clause-received_reset : goal.returns-clause-received_reset
 returns-clause-received_reset g c = received_reset_owes
 
 pub returns-clause-set_max_concurrent_streams : goal.returns-clause-set_max_concurrent_streams
-returns-clause-set_max_concurrent_streams g c = λ dir. concurrent_owes (is_two_way dir)
+returns-clause-set_max_concurrent_streams g c = λ accepts dir. concurrent_owes accepts (is_two_way dir)
 
 pub returns-clause-set_send_window : goal.returns-clause-set_send_window
 returns-clause-set_send_window g c = send_window_owes
