@@ -110,7 +110,7 @@ given_small (kind.PathResponse bytes) f id is small = none_some _ None f refl is
 given_small (kind.ConnectionClose code frame_type reason) f id is small = none_some _ None f refl is
 given_small (kind.ApplicationClose code reason) f id is small = none_some _ None f refl is
 given_small kind.HandshakeDone f id is small = none_some _ None f refl is
-given_small (kind.Datagram payload) f id is small = none_some _ None f refl is
+given_small (kind.Datagram payload has_length) f id is small = none_some _ None f refl is
 
 greatest_small : (id first : ℕ) (given : List StreamFrame) → first < 2 ^ 62 → ((f : StreamFrame) → In f given → stream_given id f < 2 ^ 62) → greatest (stream_given id) first given < 2 ^ 62
 greatest_small id first [] small all = small

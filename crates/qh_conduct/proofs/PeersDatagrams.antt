@@ -87,7 +87,7 @@ close_closes (kind.RetireConnectionId sequence) e h = absurd (cc)
 close_closes (kind.PathChallenge bytes) e h = absurd (cc)
 close_closes (kind.PathResponse bytes) e h = absurd (cc)
 close_closes kind.HandshakeDone e h = absurd (cc)
-close_closes (kind.Datagram payload) e h = absurd (cc)
+close_closes (kind.Datagram payload has_length) e h = absurd (cc)
 
 closes_by : (now : ℕ) (old new : DataSpace) (f : Frame) (end : Option ConnectionError) (e : ConnectionError) → IsFrameTaken now old new f end → end ≡ Some e → is_close (plain_of f) ≡ true
 closes_by now old new f end e (passive _ _ _) h = absurd (cc)
@@ -118,7 +118,7 @@ only_fault now bytes old new taken end fs (more_taken _ rest f _ mid _ others _ 
 only_fault now bytes old new taken end fs (closed_taken _ rest f _ _ by begins ok one) are never =
     let first = first_is Client 0 [] bytes rest (plain_of f) fs begins are in
     absurd (never first.0 (subst (λ (z : List QuicFrame). In first.0 z) (sym first.2) (inl refl)) (close_form first.0 (plain_of f) first.3 (closes_by now old new f (Some by) by one refl)))
-only_fault now bytes old new taken end fs (refused_taken _ rest f _ e begins refusal) are never = inr (e, refl)
+only_fault now bytes old new taken end fs (refused_taken _ rest f _ e begins named refusal) are never = inr (e, refl)
 
 -- ---- what was done, with the datagram
 

@@ -189,7 +189,7 @@ module _ {S : Type 0} (c p : Inner S) (tc tp : List Act) (peers : ArePeers c p) 
     unrefused (kind.Ack x) form = rw (lt-ltb x.greatest c.space.next_number (below_next x form)) refl
     unrefused (kind.NewToken token) form = absurd ((not_kind _ form refl refl refl).1 refl)
     unrefused kind.HandshakeDone form = let low = (not_kind _ form refl refl refl).0 in absurd (omega (arith, low))
-    unrefused (kind.Datagram payload) form = let high = datagram_type q _ form refl in let low = (sent_kind p (handed_in tp) q kept).0 in absurd (omega (arith, high, low))
+    unrefused (kind.Datagram payload has_length) form = let high = datagram_type q _ form refl in let low = (sent_kind p (handed_in tp) q kept).0 in absurd (omega (arith, high, low))
     unrefused (kind.Stream s) form = as_coming (kind.Stream s) _ refl form
     unrefused (kind.ResetStream id code size) form = as_coming (kind.ResetStream id code size) _ refl form
     unrefused (kind.StopSending id code) form = as_coming (kind.StopSending id code) _ refl form

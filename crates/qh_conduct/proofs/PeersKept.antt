@@ -58,7 +58,7 @@ plain_is (kind.PathResponse bytes) c is = none_is c is
 plain_is (kind.ConnectionClose code frame_type reason) c is = none_is c is
 plain_is (kind.ApplicationClose code reason) c is = none_is c is
 plain_is kind.HandshakeDone c is = none_is c is
-plain_is (kind.Datagram payload) c is = none_is c is
+plain_is (kind.Datagram payload has_length) c is = none_is c is
 
 -- a frame that is a STREAM frame has a type of one
 stream_type : (q : QuicFrame) (run : Run) → stream_of q ≡ Some run → Between 8 15 q.kind

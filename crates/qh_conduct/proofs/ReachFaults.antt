@@ -15,6 +15,7 @@ use Rattle.qh_conn.specs.Receiving.AreFramesTaken.{none as none_taken, more as m
 use Rattle.qh_conn.specs.Receiving.IsDatagramTaken.{dropped, handled, told_again, closed_too, draining as in_draining, drained as in_drained}
 use Rattle.qh_conn.specs.Receiving.IsPacketHandled.{repeated, empty, faulty, taken as in_taken}
 use Rattle.qh_conn.specs.declared.inner.Inner.{Inner}
+use Rattle.qh_frame.proofs.Named.{type_named}
 use Rattle.qh_frame.specs.Plain.{plain_of}
 use Rattle.qh_frame.specs.declared.frame.Frame.{Frame}
 use Rattle.qh_frame.specs.declared.frame.Frame.TheVariants as kind
@@ -56,7 +57,7 @@ not_closed_by (kind.PathResponse bytes) e h = cc
 not_closed_by (kind.ConnectionClose code frame reason) e h = h
 not_closed_by (kind.ApplicationClose code reason) e h = h
 not_closed_by kind.HandshakeDone e h = cc
-not_closed_by (kind.Datagram payload) e h = cc
+not_closed_by (kind.Datagram payload has_length) e h = cc
 
 taken_no_fault : {X : Type 0} (now : ℕ) (old new : DataSpace) (f : Frame) (end : Option ConnectionError) (e : TransportError) → IsFrameTaken now old new f end → IsFault end e → X
 taken_no_fault now old new f end e (passive _ _ _) h = absurd (cc)
@@ -78,14 +79,16 @@ module _ (side : Side) (own : ℕ) (datagram : List ℕ) where
       let first = first_is side own (datagram ∷ []) bytes rest (plain_of f) fs begins are in
       frame_refused now rest mid new others end first.1 e behind h first.4 (λ q is. has q (subst (λ (z : List QuicFrame). In q z) (sym first.2) (inr is)))
   frame_refused now bytes old new taken end fs e (closed_taken _ rest f _ _ by begins ok one) h are has = taken_no_fault now old new f (Some by) e one h
-  frame_refused now bytes old new taken end fs e (refused_taken _ rest f _ fault begins refusal) h are has =
+  frame_refused now bytes old new taken end fs e (refused_taken _ rest f _ fault begins named refusal) h are has =
       let first = first_is side own (datagram ∷ []) bytes rest (plain_of f) fs begins are in
       let there : In first.0 fs = subst (λ (z : List QuicFrame). In first.0 z) (sym first.2) (inl refl) in
+      let front = subst (λ (z : List QuicFrame). AreQuicFrames bytes z) first.2 are in
       record {
         frame = f;
         read = first.0;
         has = has first.0 there;
         form_is = first.3;
+        type_is = type_named bytes front.1.fields first.0.kind f named front.1.kind;
         came = λ c is. frame_came side own (datagram ∷ []) f first.0 c is first.3 (has first.0 there);
         refused = subst (λ (e : TransportError). IsRefusal (Transport e) (frame_refusal old f)) (same_fault fault e h) refusal;
       }

@@ -117,7 +117,7 @@ module _ (side : Side) (own : ℕ) (datagrams : List (List ℕ)) where
   frame_came (kind.ConnectionClose code frame_type reason) q c is e has = none_is c is
   frame_came (kind.ApplicationClose code reason) q c is e has = none_is c is
   frame_came kind.HandshakeDone q c is e has = none_is c is
-  frame_came (kind.Datagram payload) q c is e has = none_is c is
+  frame_came (kind.Datagram payload has_length) q c is e has = none_is c is
 
   -- what the streams know came in the datagrams
   pub record Came (s : PlainStreams) : Type 0 where
@@ -173,4 +173,4 @@ module _ (side : Side) (own : ℕ) (datagrams : List (List ℕ)) where
       let first = first_is bytes rest (plain_of f) fs begins are in
       let there : In first.0 fs = subst (λ (z : List QuicFrame). In first.0 z) (sym first.2) (inl refl) in
       one_frame now old new f (Some error) first.0 ok one first.3 (has first.0 there) p
-  all_frames now bytes old new taken end fs (refused_taken _ rest f _ error begins refusal) are has p = p
+  all_frames now bytes old new taken end fs (refused_taken _ rest f _ error begins named refusal) are has p = p

@@ -63,7 +63,7 @@ frames_on now bytes old new taken end (none_taken _) = self_taken old.streams
 frames_on now bytes old new taken end (more_taken _ rest f _ mid _ later _ b free step t) =
     taken_on old.streams mid.streams new.streams (frames_on now rest mid new later end t) (frame_on now old mid f None free step)
 frames_on now bytes old new taken end (closed_by _ rest f _ _ e b free step) = frame_on now old new f (Some e) free step
-frames_on now bytes old new taken end (refused_at _ rest f _ e b r) = self_taken old.streams
+frames_on now bytes old new taken end (refused_at _ rest f _ e b n r) = self_taken old.streams
 
 -- ---- what is due, and what is handed out
 

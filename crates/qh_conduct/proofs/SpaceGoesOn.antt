@@ -65,7 +65,7 @@ pub frames_go : (now : ℕ) (bytes : List ℕ) (old new : DataSpace) (taken : Li
 frames_go now bytes old new taken end (none_taken _) = space_same old
 frames_go now bytes old new taken end (more_taken _ rest f _ mid _ later _ b free step t) = space_on old mid new (frame_goes now old mid f None free step) (frames_go now rest mid new later end t)
 frames_go now bytes old new taken end (closed_by _ rest f _ _ e b free step) = frame_goes now old new f (Some e) free step
-frames_go now bytes old new taken end (refused_at _ rest f _ e b r) = space_same old
+frames_go now bytes old new taken end (refused_at _ rest f _ e b n r) = space_same old
 
 -- ---- what is due
 

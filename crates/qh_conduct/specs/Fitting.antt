@@ -6,6 +6,7 @@ use Rattle.qh_conn.specs.Follows.{HasFrame}
 use Rattle.qh_conn.specs.Receiving.{IsOpenedBy}
 use Rattle.qh_conn.specs.declared.inner.Inner.{Inner}
 use Rattle.qh_frame.specs.Plain.{plain_of}
+use Rattle.qh_frame.specs.TypeOf.{named, type_of}
 use Rattle.qh_frame.specs.WrittenForm.{written_form}
 use Rattle.qh_frame.specs.declared.frame.Frame.{Frame}
 use Rattle.qh_half.specs.Recv.{PlainRecv}
@@ -51,12 +52,13 @@ NamesKnown s (coming.MaxData limit) = Unit {0}
 abbrev pub IsWithinStream : PlainStreams → StreamFrame → Type 0
 IsWithinStream s f = (stream to : ℕ) (h : PlainRecv) → Reaches stream to f → recv_or_new s stream ≡ Some h → to ≤ h.sent_max_stream_data
 
--- the datagram has a packet of the sender's with this frame, which the space refuses
+-- the datagram has a packet of the sender's with this frame, which the space refuses, and which is named by the type that it has there
 pub record HasRefused (id_length : ℕ) (sender : Side) (datagram : List ℕ) (s : DataSpace) (e : TransportError) : Type 0 where
   pub frame : Frame
   pub read : QuicFrame
   pub has : HasFrame id_length (datagram ∷ []) sender read
   pub form_is : written_form read ≡ plain_of frame
+  pub type_is : type_of frame ≡ named read.kind
   pub came : (f : StreamFrame) → coming_of frame ≡ Some f → CameIn id_length (datagram ∷ []) sender f
   pub refused : IsRefusal (Transport e) (frame_refusal s frame)
 

@@ -9,6 +9,7 @@ use Rattle.qh_conn.proofs.PacketsOut.{IsFewer, fewer_on, lost_fewer, same_fewer}
 use Rattle.qh_conn.specs.Receiving.{AreFramesTaken}
 use Rattle.qh_conn.specs.Receiving.AreFramesTaken.{none as none_taken, more as more_taken, closed as closed_by, refused as refused_at}
 use Rattle.qh_frame.specs.Plain.{ack_of, plain_of, ranges_of}
+use Rattle.qh_frame.specs.TypeOf.{ack_type}
 use Rattle.qh_frame.specs.WrittenForm.{ack_values, written_form}
 use Rattle.qh_frame.specs.declared.ack.Ack.{Ack}
 use Rattle.qh_frame.specs.declared.frame.Frame.{Frame}
@@ -88,7 +89,7 @@ acks_or_not (kind.PathResponse bytes) = inr (λ n h. no_ack 27 refl h.0)
 acks_or_not (kind.ConnectionClose code frame_type reason) = inr (λ n h. no_ack 28 refl h.0)
 acks_or_not (kind.ApplicationClose code reason) = inr (λ n h. no_ack 29 refl h.0)
 acks_or_not kind.HandshakeDone = inr (λ n h. no_ack 30 refl h.0)
-acks_or_not (kind.Datagram payload) = inr (λ n h. no_ack 49 refl h.0)
+acks_or_not (kind.Datagram payload has_length) = inr (λ n h. no_ack 49 refl h.0)
 
 -- no number above the greatest is covered
 at_most : (greatest : ℕ) (ranges : List ℕ) (n : ℕ) → InRanges greatest ranges n → n ≤ greatest
@@ -114,7 +115,7 @@ nothing_settled old new f fewer none = record { fewer = fewer; below = λ n h. a
 not_refused : (s : DataSpace) (a : Ack) → frame_refusal s (kind.Ack a) ≡ None → a.greatest < s.next_number
 not_refused s a free = elim (cases_Bool (nat_lt a.greatest s.next_number)) [
   | inl below ↦ ltb-true a.greatest s.next_number below
-  | inr not ↦ let fault : refused 10 2 ≡ None = sym (ap (λ (b : Bool). if b then None else refused 10 2) not) ∙ free in absurd (cc)
+  | inr not ↦ let fault : refused 10 (ack_type a.ecn) ≡ None = sym (ap (λ (b : Bool). if b then None else refused 10 (ack_type a.ecn)) not) ∙ free in absurd (cc)
 ]
 
 ack_settles : (now : ℕ) (old new : DataSpace) (a : Ack) → frame_refusal old (kind.Ack a) ≡ None → IsAckReceived now old new a → IsSettled old new (ack_of a)
@@ -175,7 +176,7 @@ all_settle now bytes old new taken end (more_taken _ rest frame _ mid _ others _
       ];
     }
 all_settle now bytes old new taken end (closed_by _ rest frame _ _ e begins free step) still = absurd (cc)
-all_settle now bytes old new taken end (refused_at _ rest frame _ e begins fault) still = absurd (cc)
+all_settle now bytes old new taken end (refused_at _ rest frame _ e begins named fault) still = absurd (cc)
 
 -- the frames of the bytes acknowledge only what was sent, and it is out no more
 pub acks_taken : (now : ℕ) (bytes : List ℕ) (old new : DataSpace) (taken : List Frame) (fs : List QuicFrame) → AreFramesTaken now bytes old new taken None → AreQuicFrames bytes fs → AreSettled old new fs

@@ -31,7 +31,7 @@ frames_keep_end now bytes old new taken end (more _ rest f _ mid _ later _ b fre
     let last = frames_keep_end now rest mid new later end t in
     (last.0 ∙ first.0, last.1 ∙ first.1)
 frames_keep_end now bytes old new taken end (closed _ rest f _ _ e b free step) = frame_keeps_end now old new f (Some e) step
-frames_keep_end now bytes old new taken end (refused _ rest f _ e b r) = (refl, refl)
+frames_keep_end now bytes old new taken end (refused _ rest f _ e b n r) = (refl, refl)
 
 -- the errors of this end's that no packet brings: want of memory, and the idle time's end
 abbrev own_error : (memory : Bool) → ConnectionError
@@ -62,7 +62,7 @@ not_closed_by false (kind.ConnectionClose code frame reason) h = h
 not_closed_by true (kind.ApplicationClose code reason) h = h
 not_closed_by false (kind.ApplicationClose code reason) h = h
 not_closed_by memory kind.HandshakeDone h = cc
-not_closed_by memory (kind.Datagram payload) h = cc
+not_closed_by memory (kind.Datagram payload has_length) h = cc
 
 frame_not_by : (memory : Bool) (now : ℕ) (old new : DataSpace) (f : Frame) (end : Option ConnectionError) → IsFrameTaken now old new f end → end ≡ Some (own_error memory) → ⊥
 frame_not_by memory now old new f end (passive _ _ _) h = cc
@@ -80,7 +80,7 @@ frames_not_by : (memory : Bool) (now : ℕ) (bytes : List ℕ) (old new : DataSp
 frames_not_by memory now bytes old new taken end (none _) h = cc
 frames_not_by memory now bytes old new taken end (more _ rest f _ mid _ later _ b free step t) h = frames_not_by memory now rest mid new later end t h
 frames_not_by memory now bytes old new taken end (closed _ rest f _ _ e b free step) h = frame_not_by memory now old new f (Some e) step h
-frames_not_by memory now bytes old new taken end (refused _ rest f _ e b r) h = not_refused_by memory e h
+frames_not_by memory now bytes old new taken end (refused _ rest f _ e b n r) h = not_refused_by memory e h
 
 -- no packet ends a connection for want of memory
 pub not_for_memory : (now : ℕ) (bytes : List ℕ) (old new : DataSpace) (taken : List Frame) (end : Option ConnectionError) → AreFramesTaken now bytes old new taken end → end ≡ Some error.Memory → ⊥

@@ -9,6 +9,7 @@ use Rattle.qh_conn.specs.Receiving.AreFramesTaken.{none, more, closed, refused}
 use Rattle.qh_frame.specs.FrameAt.{Begins, HasNoFrame}
 use Rattle.qh_frame.specs.Plain.{plain_of}
 use Rattle.qh_frame.specs.Range.{IsInRange}
+use Rattle.qh_frame.specs.TypeOf.{HasType}
 use Rattle.qh_frame.specs.declared.frame.Frame.{Frame}
 use Rattle.qh_packet.proofs.Surveys.{frame_takes}
 use Rattle.qh_packet.specs.Frames.{AreSurveyed}
@@ -88,10 +89,10 @@ taken_closed now bytes rest behind old mid new f e h b free step = (h.taken ++ f
 
 -- one is refused
 pub taken_refused : (now : ℕ) (bytes rest behind : List ℕ) (old mid new : DataSpace) (f : Frame) (fault : StreamFault) (e : TransportError) → AreTakenUpTo now bytes rest old mid
-    → Begins rest (plain_of f) behind → IsRefusedBy fault (frame_refusal mid f) → new ≡ mid → fault ≡ Transport e → HasTaken now bytes old new (Some (Fault e))
-taken_refused now bytes rest behind old mid new f fault e h b (inl wanting) same is = absurd (let both : Wanting ≡ Transport e = sym wanting.0 ∙ is in cc)
-taken_refused now bytes rest behind old mid new f fault e h b (inr r) same is = (
+    → Begins rest (plain_of f) behind → HasType rest f → IsRefusedBy fault (frame_refusal mid f) → new ≡ mid → fault ≡ Transport e → HasTaken now bytes old new (Some (Fault e))
+taken_refused now bytes rest behind old mid new f fault e h b named (inl wanting) same is = absurd (let both : Wanting ≡ Transport e = sym wanting.0 ∙ is in cc)
+taken_refused now bytes rest behind old mid new f fault e h b named (inr r) same is = (
   h.taken ++ [],
   subst (λ (s : DataSpace). AreFramesTaken now bytes old s (h.taken ++ []) (Some (Fault e))) (sym same)
-      (h.goes_on mid [] (Some (Fault e)) (refused rest behind f mid e b (subst (λ (x : StreamFault). IsRefusal x (frame_refusal mid f)) is r))),
+      (h.goes_on mid [] (Some (Fault e)) (refused rest behind f mid e b named (subst (λ (x : StreamFault). IsRefusal x (frame_refusal mid f)) is r))),
 )

@@ -134,7 +134,7 @@ limiting_same (kind.PathResponse bytes) q c is there e = absurd (cc)
 limiting_same (kind.ConnectionClose code frame_type reason) q c is there e = absurd (cc)
 limiting_same (kind.ApplicationClose code reason) q c is there e = absurd (cc)
 limiting_same kind.HandshakeDone q c is there e = absurd (cc)
-limiting_same (kind.Datagram payload) q c is there e = absurd (cc)
+limiting_same (kind.Datagram payload has_length) q c is there e = absurd (cc)
 
 in_limiting : (o : Option StreamFrame) (c : StreamFrame) → In c (limiting o) → (o ≡ Some c) × In c (limiting (Some c))
 in_limiting None c is = absurd is
@@ -237,4 +237,4 @@ module _ (side : Side) (own peer : ℕ) (config : ConnConfig) where
       let first = first_is bytes rest (plain_of f) fs begins are in
       let there : In first.0 fs = subst (λ (z : List QuicFrame). In first.0 z) (sym first.2) (inl refl) in
       one_frame now old new f (Some error) first.0 t ok one first.3 (has first.0 there) p
-  frames_follow now bytes old new taken end fs t (refused_taken _ rest f _ error begins refusal) are has p = p
+  frames_follow now bytes old new taken end fs t (refused_taken _ rest f _ error begins named refusal) are has p = p

@@ -27,7 +27,7 @@ all_read now bytes old new taken end (more_taken _ rest frame _ mid _ others _ b
       forms = ap (λ (f : QuicFrame). f ∷ map written_form r.frames) begins.form_is ∙ ap (λ (fs : List QuicFrame). plain_of frame ∷ fs) r.forms;
     }
 all_read now bytes old new taken end (closed_by _ rest frame _ _ e begins free step) open_still = absurd (cc)
-all_read now bytes old new taken end (refused_at _ rest frame _ e begins fault) open_still = absurd (cc)
+all_read now bytes old new taken end (refused_at _ rest frame _ e begins named fault) open_still = absurd (cc)
 
 -- the frames of the bytes have the forms of those that were taken, where no frame closed and none was refused
 pub frames_read : (now : ℕ) (bytes : List ℕ) (old new : DataSpace) (taken : List Frame) (fs : List QuicFrame) → AreFramesTaken now bytes old new taken None → AreQuicFrames bytes fs

@@ -111,7 +111,7 @@ frames_own : (now : ℕ) (bytes : List ℕ) (old new : DataSpace) (taken : List 
 frames_own now bytes old new taken end (none _) = refl
 frames_own now bytes old new taken end (more _ rest f _ mid _ later _ b free step t) = frames_own now rest mid new later end t ∙ frame_own now old mid f None step
 frames_own now bytes old new taken end (closed _ rest f _ _ e b free step) = frame_own now old new f (Some e) step
-frames_own now bytes old new taken end (refused _ rest f _ e b r) = refl
+frames_own now bytes old new taken end (refused _ rest f _ e b n r) = refl
 
 -- as a record
 pub same_counts : (old new : PlainStreams) → own new ≡ own old → HaveSameCounts old new

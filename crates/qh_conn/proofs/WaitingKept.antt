@@ -53,7 +53,7 @@ frames_keep now bytes old new taken end came (more_taken _ rest f _ mid _ behind
     subst (λ (z : List Run). KeepsWhatCame new.streams z) (more_came came _ (runs_of (map plain_of behind)))
     (frames_keep now rest mid new behind end first later (space.frame now old mid f None came ok step p))
 frames_keep now bytes old new taken end came (closed_taken _ rest f _ _ e begins ok step) p = space.frame now old new f (Some e) came ok step p
-frames_keep now bytes old new taken end came (refused_taken _ rest f _ e begins is) p = subst (λ (z : List Run). KeepsWhatCame old.streams z) (sym (append-nil came)) p
+frames_keep now bytes old new taken end came (refused_taken _ rest f _ e begins named is) p = subst (λ (z : List Run). KeepsWhatCame old.streams z) (sym (append-nil came)) p
 
 -- frames have the same runs in the form in which they are written
 form_runs : (fs : List QuicFrame) → runs_of (map written_form fs) ≡ runs_of fs

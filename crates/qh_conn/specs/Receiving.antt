@@ -17,6 +17,7 @@ use Rattle.qh_conn.specs.declared.state.State.TheVariants.{Closed, Draining, Dra
 use Rattle.qh_frame.specs.FrameAt.{Begins}
 use Rattle.qh_frame.specs.Plain.{plain_of}
 use Rattle.qh_frame.specs.Range.{IsInRange}
+use Rattle.qh_frame.specs.TypeOf.{HasType}
 use Rattle.qh_frame.specs.declared.frame.Frame.{Frame}
 use Rattle.qh_packet.specs.Frames.{AreSurveyed, IsFaultyFrame}
 use Rattle.qh_packet.specs.Packet.{IsOpened}
@@ -57,7 +58,7 @@ pub record IsAccepted (number : ℕ) (is_eliciting : Bool) (old new : DataSpace)
 -- ---- the frames of a packet (section 12.4)
 
 -- The frames that the bytes are, one after another, and those of them that are taken. Where one closes, or is refused, those
--- behind it aren't taken: the error says which.
+-- behind it aren't taken: the error says which. One that is refused is named by the type with which its bytes begin.
 pub data AreFramesTaken (now : ℕ) : (bytes : List ℕ) → (old new : DataSpace) → (taken : List Frame) → Option ConnectionError → Type 0 where
   none : (s : DataSpace) → AreFramesTaken now [] s s [] None
   more : (bytes rest : List ℕ) (frame : Frame) (old mid new : DataSpace) (taken : List Frame) (end : Option ConnectionError) → Begins bytes (plain_of frame) rest
@@ -66,7 +67,7 @@ pub data AreFramesTaken (now : ℕ) : (bytes : List ℕ) → (old new : DataSpac
   closed : (bytes rest : List ℕ) (frame : Frame) (old new : DataSpace) (e : ConnectionError) → Begins bytes (plain_of frame) rest
       → frame_refusal old frame ≡ None → IsFrameTaken now old new frame (Some e) → AreFramesTaken now bytes old new (frame ∷ []) (Some e)
   refused : (bytes rest : List ℕ) (frame : Frame) (s : DataSpace) (e : TransportError) → Begins bytes (plain_of frame) rest
-      → IsRefusal (Transport e) (frame_refusal s frame) → AreFramesTaken now bytes s s [] (Some (Fault e))
+      → HasType bytes frame → IsRefusal (Transport e) (frame_refusal s frame) → AreFramesTaken now bytes s s [] (Some (Fault e))
 
 -- a CONNECTION_CLOSE (section 19.19)
 abbrev pub is_close : QuicFrame → Bool

@@ -40,7 +40,7 @@ pub frames_same : (now : ℕ) (bytes : List ℕ) (old new : DataSpace) (taken : 
 frames_same now bytes old new taken end (none_taken _) = refl
 frames_same now bytes old new taken end (more_taken _ rest f _ mid _ later _ begins free one behind) = frames_same now rest mid new later end behind ∙ frame_same now old mid f None one
 frames_same now bytes old new taken end (closed_by _ rest f _ _ e begins free one) = frame_same now old new f (Some e) one
-frames_same now bytes old new taken end (refused_at _ rest f _ e begins fault) = refl
+frames_same now bytes old new taken end (refused_at _ rest f _ e begins named fault) = refl
 
 -- ---- a packet that is made
 

@@ -233,7 +233,7 @@ module _ (id_length : ℕ) (side : Side) (t : List Act) where
             owing = λ part p. r.owing (λ g within. part g (inr within)) (frame_owing now old mid f begins.frame None refl begins.form_is (part begins.frame (inl refl)) free step p);
           }
       taken_over now bytes old new taken end (closed_by _ rest f _ _ e begins free step) still = absurd (cc)
-      taken_over now bytes old new taken end (refused_at _ rest f _ e begins fault) still = absurd (cc)
+      taken_over now bytes old new taken end (refused_at _ rest f _ e begins named fault) still = absurd (cc)
 
       pub frames_owing : (now : ℕ) (bytes : List ℕ) (old new : DataSpace) (taken : List Frame) → AreFramesTaken now bytes old new taken None → AreQuicFrames bytes packet.frames → Owing old → Owing new
       frames_owing now bytes old new taken are reading p =

@@ -2,7 +2,7 @@
 use crate::frames_written::write;
 use crate::say::{Answer, dir_name, put, put_content, put_hex, put_named};
 use qh_base::{ConnectionId, Dir, ResetToken, StreamId, VarInt};
-use qh_frame::{Ack, AckRange, Frame, FrameFault, Stream, get_frame};
+use qh_frame::{Ack, AckRange, EcnCounts, Frame, FrameFault, Stream, get_frame};
 use qh_packet::{FrameSurvey, PacketFault, survey};
 use row_text::{RowFault, Words, put_hex_number, put_number};
 use std::alloc::Global;
@@ -90,7 +90,18 @@ fn put_frame(out: &mut Vec<u8>, frame: &Frame<'_>) -> Answer {
         Frame::NewToken { token } => put_payload(out, "NEW_TOKEN ", token),
         Frame::PathChallenge(bytes) => put_payload(out, "PATH_CHALLENGE ", bytes),
         Frame::PathResponse(bytes) => put_payload(out, "PATH_RESPONSE ", bytes),
-        Frame::Datagram { payload } => put_payload(out, "DATAGRAM ", payload),
+        Frame::Datagram {
+            payload,
+            has_length,
+        } => put_payload(
+            out,
+            if *has_length {
+                "DATAGRAM with length "
+            } else {
+                "DATAGRAM without length "
+            },
+            payload,
+        ),
         Frame::ApplicationClose { code, reason } => put_counted(
             out,
             "APPLICATION_CLOSE code",
@@ -213,7 +224,7 @@ fn put_id(
     put_payload(out, " token ", &token.0)
 }
 
-// Appends an acknowledgement with its ranges.
+// Appends an acknowledgement with its ranges, and with its counts if it has any.
 fn put_ack(out: &mut Vec<u8>, ack: &Ack<'_>) -> Answer {
     put_one(out, "ACK delay", ack.delay)?;
     let (range, mut rest) = ack.split();
@@ -226,7 +237,16 @@ fn put_ack(out: &mut Vec<u8>, ack: &Ack<'_>) -> Answer {
         put_range(out, range)?;
         rest = below;
     }
-    Ok(())
+    match ack.ecn {
+        Some(counts) => put_counts(out, counts),
+        None => Ok(()),
+    }
+}
+
+fn put_counts(out: &mut Vec<u8>, counts: EcnCounts) -> Answer {
+    put_one(out, " ect0", counts.ect0)?;
+    put_one(out, " ect1", counts.ect1)?;
+    put_one(out, " ce", counts.ce)
 }
 
 fn put_range(out: &mut Vec<u8>, range: AckRange) -> Answer {

@@ -130,7 +130,7 @@ fn crypto(out: &mut Vec<u8>, offset: VarInt, payload: &[u8]) -> Answer {
 }
 
 fn token(out: &mut Vec<u8>, token: &[u8]) -> Answer {
-    if token.len() >= 1 << 62 {
+    if token.is_empty() || token.len() >= 1 << 62 {
         return Err(RowFault::Form);
     }
     put_new_token(out, token)?;

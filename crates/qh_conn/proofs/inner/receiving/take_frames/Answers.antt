@@ -28,4 +28,4 @@ returns-in-Err-clause-ok c =
     let named = c.in_ok-error_by-in-Err.ensures in
     subst (λ (e : ConnectionError). HasTaken c.args.now.0 c.args.frames.now c.args.space.now c.take_frame.new.self (Some e)) (sym named.2)
     (taken_refused c.args.now.0 c.args.frames.now c.loop-frame.rest.now c.in-Ok.more.now c.args.space.now c.loop-frame.space c.take_frame.new.self c.in-Ok.frame c.in-Err.fault named.0
-    c.loop-frame.invariant c.in-Ok.ensures.found c.in-Err.ensures.fault c.in-Err.ensures.err named.1)
+    c.loop-frame.invariant c.in-Ok.ensures.found c.in-Ok.ensures.kind c.in-Err.ensures.fault c.in-Err.ensures.err named.1)
