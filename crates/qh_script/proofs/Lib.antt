@@ -13,4 +13,5 @@ pub mod Spaces
 pub mod Sums
 pub mod Taking
 pub mod TokenLines
+pub mod TokensBehind
 pub mod Upsets

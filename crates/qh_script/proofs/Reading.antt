@@ -56,3 +56,29 @@ seen_all makes text rest old now n p none =
 pub seen_count : {S : Type 0} (makes : List ℕ → S → S → Type 0) (text rest : List ℕ) (old now : S) (n : ℕ) → Seen makes text rest old now n → length rest ≡ 0
     → n ≡ length (lines text)
 seen_count makes text rest old now n p none = p.counted ∙ ap (λ (ls : List (List ℕ)). length ls) (sym (seen_lines makes text rest old now n p none))
+
+joined : {S : Type 0} (makes : List ℕ → S → S → Type 0) (ls ms : List (List ℕ)) (s mid t : S) → InTurn makes ls s mid → InTurn makes ms mid t → InTurn makes (ls ++ ms) s t
+joined {S} makes [] ms s mid t p q = subst (λ (m : S). InTurn makes ms m t) p q
+joined makes (l ∷ ls) ms s mid t p q = (p.0, p.1, joined makes ls ms p.0 mid t p.2 q)
+
+-- what is known of the rest of a text, as it is of the whole
+pub rest_refused : {S : Type 0} (makes : List ℕ → S → S → Type 0) (text rest : List ℕ) (old now : S) (n m : ℕ) → Seen makes text rest old now n → IsFirstRefused makes rest now m
+    → IsFirstRefused makes text old (n + m)
+rest_refused makes text rest old now n m p q =
+    let counted = p.counted in
+    let count = q.count in
+    record {
+      front = p.seen ++ q.front;
+      line = q.line;
+      rest = q.rest;
+      mid = q.mid;
+      is = p.is ∙ ap (λ (z : List (List ℕ)). p.seen ++ z) q.is ∙ sym (append_assoc p.seen q.front (q.line ∷ q.rest));
+      taken = joined makes p.seen q.front old now q.mid p.taken q.taken;
+      refused = q.refused;
+      count = omega (arith, length-append p.seen q.front);
+    }
+
+pub rest_taken : {S : Type 0} (makes : List ℕ → S → S → Type 0) (text rest : List ℕ) (old now t : S) (n : ℕ) → Seen makes text rest old now n → InTurn makes (lines rest) now t
+    → InTurn makes (lines text) old t
+rest_taken makes text rest old now t n p q =
+    subst (λ (ls : List (List ℕ)). InTurn makes ls old t) (sym p.is) (joined makes p.seen (lines rest) old now t p.taken q)

@@ -1,11 +1,11 @@
 //! Commands on a log of used tokens.
 
-ghost use Rattle.std.specs.Prelude.{◌≡◌, ◌≤◌, length, Some, None, OnOk, IfOk, IfErr};
+ghost use Rattle.std.specs.Prelude.{◌≡◌, ◌+◌, ◌≤◌, ◌<◌, ◌^◌, length, Some, None, IsTrue, IsFalse, OnOk, IfOk, IfErr, IfSome, MatchOption};
 ghost use Rattle.qh_spec.specs.Lines.{lines};
 ghost use Rattle.qh_spec.specs.TokenScript.{TokenScript, empty_tokens, applied, IsTaken, AreTaken, IsTokenScript};
 ghost use Rattle.qh_spec.specs.TokenScript as says;
-ghost use Rattle.qh_script.specs.Script.{WhenRefused, RefusesLines};
-ghost use Rattle.qh_script.specs.Tokens.{limits_of, token_of, tokens_of, line_of, RefusesTokens};
+ghost use Rattle.qh_script.specs.Script.{IsFirstRefused};
+ghost use Rattle.qh_script.specs.Tokens.{limits_of, token_of, tokens_of, line_of, HasLimits, IsTakenBehind, AreTakenBehind, IsAppliedBehind, IsFaultBehind, WhenUntaken, RefusesTokenLines, RefusesTokens};
 
 mod line;
 
@@ -43,7 +43,8 @@ pub struct TokenCommands {
 }
 
 /// The commands of a text: a line `tokenlog MAX_BYTES K` once, and behind it lines `token NONCE ISSUED LIFETIME`. Empty
-/// lines count for nothing.
+/// lines count for nothing. Where memory is wanting for a token, the rest of the text is still looked at, so that a
+/// fault is answered in its place.
 pub fn read_tokens(alloc: Global, text: &[u8]) -> Result<TokenCommands, ScriptError>
     ensures commands { IfOk result (λ c. IsTokenScript text.now (limits_of c.limits) (tokens_of c.tokens.items)) }
     ensures refused { IfErr result (RefusesTokens text.now) }
@@ -94,7 +95,7 @@ impl Reading {
         ensures taken { IfOk result (λ n. AreTaken (lines text.now) self.old self.new) }
         ensures count { IfOk result (λ n. n ≡ length (lines text.now)) }
         ensures bound { IfOk result (λ n. n ≤ length text.now) }
-        ensures refused { IfErr result (RefusesLines IsTaken text.now self.old) }
+        ensures refused { IfErr result (RefusesTokenLines text.now self.old) }
     {
         let mut rest = text;
         let mut count = 0;
@@ -104,7 +105,7 @@ impl Reading {
             match self.take_line(line) {
                 Ok(()) => {}
                 Err(Untaken::Refused) => return Err(ScriptError::Refused(count)),
-                Err(Untaken::Memory) => return Err(ScriptError::Memory),
+                Err(Untaken::Memory) => return Err(fault_behind(count, behind)),
             }
             rest = behind;
         }
@@ -114,7 +115,7 @@ impl Reading {
     // What the text makes of it, where it is a line that is taken.
     fn take_line(&mut self, text: &[u8]) -> Result<(), Untaken>
         ensures taken { OnOk result (IsTaken text.now self.old self.new) }
-        ensures refused { IfErr result (λ e. WhenRefused e ((t : TokenScript) → IsTaken text.now self.old t → ⊥)) }
+        ensures refused { IfErr result (λ e. WhenUntaken e ((t : TokenScript) → IsTaken text.now self.old t → ⊥) (IsTakenBehind text.now self.old)) }
     {
         match read_token_line(text) {
             Some(line) => self.apply(line),
@@ -125,7 +126,7 @@ impl Reading {
     // What the line makes of it.
     fn apply(&mut self, line: TokenLine) -> Result<(), Untaken>
         ensures taken { OnOk result (applied (line_of line) self.old ≡ Some self.new) }
-        ensures refused { IfErr result (λ e. WhenRefused e (applied (line_of line) self.old ≡ None)) }
+        ensures refused { IfErr result (λ e. WhenUntaken e (applied (line_of line) self.old ≡ None) (IsAppliedBehind (line_of line) self.old)) }
     {
         match line {
             TokenLine::Empty => Ok(()),
@@ -136,7 +137,7 @@ impl Reading {
 
     fn set_limits(&mut self, limits: TokenLimits) -> Result<(), Untaken>
         ensures taken { OnOk result (applied (says.Log (limits_of limits)) self.old ≡ Some self.new) }
-        ensures refused { IfErr result (λ e. WhenRefused e (applied (says.Log (limits_of limits)) self.old ≡ None)) }
+        ensures refused { IfErr result (λ e. WhenUntaken e (applied (says.Log (limits_of limits)) self.old ≡ None) (IsAppliedBehind (says.Log (limits_of limits)) self.old)) }
     {
         if self.limits.is_some() {
             return Err(Untaken::Refused);
@@ -147,12 +148,57 @@ impl Reading {
 
     fn look(&mut self, token: TokenCommand) -> Result<(), Untaken>
         ensures taken { OnOk result (applied (says.Look (token_of token)) self.old ≡ Some self.new) }
-        ensures refused { IfErr result (λ e. WhenRefused e (applied (says.Look (token_of token)) self.old ≡ None)) }
+        ensures refused { IfErr result (λ e. WhenUntaken e (applied (says.Look (token_of token)) self.old ≡ None) (IsAppliedBehind (says.Look (token_of token)) self.old)) }
     {
         if self.limits.is_none() {
             return Err(Untaken::Refused);
         }
         self.tokens.push(token)?;
         Ok(())
+    }
+}
+
+// Why lines aren't taken, the last of which wanted memory for a token: the first line of the text behind them that is
+// refused, or that want.
+fn fault_behind(count: usize, text: &[u8]) -> ScriptError
+    requires { count + length text.now < 2 ^ 64 }
+    ensures { (s : TokenScript) → HasLimits s → IsFaultBehind text.now s count result }
+{
+    match first_refused(text) {
+        Some(line) => ScriptError::Refused(count + line),
+        None => ScriptError::Memory,
+    }
+}
+
+// The first line of a text, counted from 1, that isn't taken behind the limits. It takes no memory.
+fn first_refused(text: &[u8]) -> Option<usize>
+    ensures lines { (s : TokenScript) → HasLimits s → MatchOption result (AreTakenBehind text.now s) (IsFirstRefused IsTaken text.now s) }
+    ensures bound { IfSome result (λ n. n ≤ length text.now) }
+{
+    let mut rest = text;
+    let mut count = 0;
+    while !rest.is_empty() {
+        let (line, behind) = cut_line(rest);
+        count += 1;
+        if !is_taken_behind(line) {
+            return Some(count);
+        }
+        rest = behind;
+    }
+    None
+}
+
+// Whether a line is taken behind the limits: it is empty, or a token's.
+fn is_taken_behind(text: &[u8]) -> bool
+    ensures taken { IsTrue result → (s : TokenScript) → HasLimits s → IsTakenBehind text.now s }
+    ensures refused { IsFalse result → (s t : TokenScript) → HasLimits s → IsTaken text.now s t → ⊥ }
+{
+    let Some(line) = read_token_line(text) else {
+        return false;
+    };
+    match line {
+        TokenLine::Empty => true,
+        TokenLine::Look(_) => true,
+        TokenLine::Log(_) => false,
     }
 }

@@ -104,12 +104,7 @@ impl DataSpace {
     }
 
     // An ACK came, in a frame of this type.
-    fn take_ack(
-        &mut self,
-        ack: &Ack<'_>,
-        frame: FrameType,
-        now: Moment,
-    ) -> Result<(), StreamFault>
+    fn take_ack(&mut self, ack: &Ack<'_>, frame: FrameType, now: Moment) -> Result<(), StreamFault>
         requires { IsSpace self.old }
         ensures ok { OnOk result (IsAckReceived now.0 self.old self.new ack.now) }
         ensures taken { OnOk result (ack.now.greatest < self.old.next_number) }

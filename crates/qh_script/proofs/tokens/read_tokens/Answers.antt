@@ -4,20 +4,21 @@ use Rattle.std.specs.Prelude.{is_some}
 use Rattle.std.proofs.lemmas.Result.{err_from_is_err_and}
 use Rattle.qh_spec.specs.Lines.{lines}
 use Rattle.qh_spec.specs.Script.{max_script}
-use Rattle.qh_spec.specs.TokenScript.{TokenScript, empty_tokens, IsTaken, AreTaken, IsTokenRefusedAt, too_long, at_line, unlimited}
+use Rattle.qh_spec.specs.TokenScript.{TokenScript, empty_tokens, AreTaken, IsTokenRefusedAt, too_long, at_line, unlimited}
 use Rattle.qh_spec.proofs.TokenTexts.{all_plain}
 use Rattle.qh_script.specs.declared.script.ScriptError.{ScriptError}
 use Rattle.qh_script.specs.declared.script.ScriptError.TheVariants.{Refused, Memory}
 use Rattle.qh_script.specs.declared.tokens.TokenLimits.{TokenLimits}
-use Rattle.qh_script.specs.Script.{RefusesLines}
-use Rattle.qh_script.specs.Tokens.{limits_of, RefusesTokens}
+use Rattle.qh_script.specs.Tokens.{limits_of, RefusesTokenLines, RefusesTokens}
+use Rattle.qh_script.proofs.TokensBehind.{whole}
 use Rattle.qh_script.proofs.tokens.read_tokens.Goals as goal
 
-refused_at : (text : List ℕ) (s : TokenScript) (e : ScriptError) → length text ≤ max_script → s ≡ empty_tokens → RefusesLines IsTaken text s e → RefusesTokens text e
+refused_at : (text : List ℕ) (s : TokenScript) (e : ScriptError) → length text ≤ max_script → s ≡ empty_tokens → RefusesTokenLines text s e → RefusesTokens text e
 refused_at text s (Refused n) short is p =
     subst (λ (m : ℕ). IsTokenRefusedAt text m) (sym p.count)
     (at_line p.front p.line p.rest p.mid short p.is (subst (λ (t : TokenScript). AreTaken p.front t p.mid) is p.taken) p.refused)
-refused_at text s Memory short is p = tt
+refused_at text s Memory short is p =
+    whole text p.end.limits p.end.tokens short (subst (λ (t : TokenScript). AreTaken (lines text) t p.end) is p.taken) p.limited
 
 -- lines that give no limits
 unlimited_at : (text : List ℕ) (s t : TokenScript) (o : Option TokenLimits) (n : ℕ) → length text ≤ max_script → s ≡ empty_tokens → AreTaken (lines text) s t
