@@ -21,6 +21,7 @@ use Rattle.qh_halves.specs.RecvHalves.{recv_at}
 use Rattle.qh_halves.specs.SendHalves.{send_at}
 use Rattle.qh_spec.specs.Acknowledged.{Covers}
 use Rattle.qh_spec.specs.Datagram.{Packet, HasPacket}
+use Rattle.qh_spec.specs.FrameTypes as frame_types
 use Rattle.qh_spec.specs.Link.{other}
 use Rattle.qh_spec.specs.Lists.{In}
 use Rattle.qh_spec.specs.QuicFrame.{StreamFrame}
@@ -74,13 +75,13 @@ module _ {S : Type 0} where
   -- a frame; a CONNECTION_CLOSE comes only once the connection is closed.
   pub data IsKeptFrame (c : Inner S) (came : List (List ℕ)) (f : QuicFrame) : Type 0 where
     ping : f ≡ frame 1 [] → IsKeptFrame c came f
-    response : (echoed : List ℕ) → f ≡ frame 27 (Text echoed ∷ []) → IsKeptFrame c came f
+    response : (echoed : List ℕ) → f ≡ frame frame_types.path_response (Text echoed ∷ []) → IsKeptFrame c came f
     ack : (ranges : List AckRange) → f ≡ ack_frame 0 ranges → AreApart ranges → ((n : ℕ) → Covers f n → HasComeWith c came n) → IsKeptFrame c came f
     stream : (run : StreamFrame) → f ≡ stream_form run → IsSending c.space.streams run.id → IsKeptFrame c came f
-    reset : (id code size : ℕ) → f ≡ frame 4 (Num id ∷ Num code ∷ Num size ∷ []) → IsSending c.space.streams id → IsKeptFrame c came f
-    stop : (id code : ℕ) → f ≡ frame 5 (Num id ∷ Num code ∷ []) → IsReading c.space.streams id → IsKeptFrame c came f
-    max_data : (limit : ℕ) → f ≡ frame 16 (Num limit ∷ []) → limit ≤ c.space.streams.recv.announced.value → IsKeptFrame c came f
-    max_stream_data : (id limit : ℕ) → f ≡ frame 17 (Num id ∷ Num limit ∷ []) → IsReading c.space.streams id → IsLimited c.space.streams id limit → IsKeptFrame c came f
+    reset : (id code size : ℕ) → f ≡ frame frame_types.reset_stream (Num id ∷ Num code ∷ Num size ∷ []) → IsSending c.space.streams id → IsKeptFrame c came f
+    stop : (id code : ℕ) → f ≡ frame frame_types.stop_sending (Num id ∷ Num code ∷ []) → IsReading c.space.streams id → IsKeptFrame c came f
+    max_data : (limit : ℕ) → f ≡ frame frame_types.max_data (Num limit ∷ []) → limit ≤ c.space.streams.recv.announced.value → IsKeptFrame c came f
+    max_stream_data : (id limit : ℕ) → f ≡ frame frame_types.max_stream_data (Num id ∷ Num limit ∷ []) → IsReading c.space.streams id → IsLimited c.space.streams id limit → IsKeptFrame c came f
     max_streams : (dir : Dir) (count : ℕ) → f ≡ frame (by_dir dir 18 19) (Num count ∷ []) → count ≤ (counts_of c.space.streams (is_two_way dir)).announced.value → IsKeptFrame c came f
     close : (reason : Close) → f ≡ close_frame reason → is_open c.state ≡ false → IsKeptFrame c came f
 
@@ -134,12 +135,12 @@ module _ {S : Type 0} where
   pub record SendsAsAnnounced (c : Inner S) (t : List Act) : Type 0 where
     pub datagrams : (datagram : List ℕ) → In datagram (handed_out t) → IsKeptDatagram c (handed_in t) datagram
     pub frames : (f : QuicFrame) → HasSent c t f → IsKeptFrame c (handed_in t) f
-    pub limit : (n : ℕ) → HasSent c t (frame 16 (Num n ∷ [])) → n ≤ c.space.streams.recv.announced.value
+    pub limit : (n : ℕ) → HasSent c t (frame frame_types.max_data (Num n ∷ [])) → n ≤ c.space.streams.recv.announced.value
     pub counts : (dir : Dir) (n : ℕ) → HasSent c t (frame (by_dir dir 18 19) (Num n ∷ [])) → (n ≤ (counts_of c.space.streams (is_two_way dir)).announced.value) × (n ≤ 2 ^ 60)
-    pub stream_limit : (id n : ℕ) → HasSent c t (frame 17 (Num id ∷ Num n ∷ [])) → IsReading c.space.streams id × IsLimited c.space.streams id n
+    pub stream_limit : (id n : ℕ) → HasSent c t (frame frame_types.max_stream_data (Num id ∷ Num n ∷ [])) → IsReading c.space.streams id × IsLimited c.space.streams id n
     pub streams : (run : StreamFrame) → HasSent c t (stream_form run) → IsSending c.space.streams run.id
-    pub resets : (id code size : ℕ) → HasSent c t (frame 4 (Num id ∷ Num code ∷ Num size ∷ [])) → IsSending c.space.streams id
-    pub stops : (id code : ℕ) → HasSent c t (frame 5 (Num id ∷ Num code ∷ [])) → IsReading c.space.streams id
+    pub resets : (id code size : ℕ) → HasSent c t (frame frame_types.reset_stream (Num id ∷ Num code ∷ Num size ∷ [])) → IsSending c.space.streams id
+    pub stops : (id code : ℕ) → HasSent c t (frame frame_types.stop_sending (Num id ∷ Num code ∷ [])) → IsReading c.space.streams id
     pub acks : (f : QuicFrame) (n : ℕ) → HasSent c t f → Covers f n → HasComeWith c (handed_in t) n
     pub numbers : (n : ℕ) → HasNumber (length c.remote_id) (handed_out t) c.side n → n < c.space.next_number
     pub no_close : is_open c.state ≡ true → (f : QuicFrame) → HasSent c t f → is_close f ≡ false

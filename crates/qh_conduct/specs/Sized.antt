@@ -10,13 +10,14 @@ use Rattle.qh_conn.specs.declared.inner.Inner.{Inner}
 use Rattle.qh_frame.specs.Plain.{frame}
 use Rattle.qh_half.specs.Send.{PlainSend, is_reset}
 use Rattle.qh_halves.specs.SendHalves.{send_at, write_fault_at}
+use Rattle.qh_spec.specs.FrameTypes as frame_types
 use Rattle.qh_spec.specs.QuicFrames.{QuicFrame, Num}
 use Rattle.qh_spec.specs.Transcript.{Act, HandedOut, handed_out, if_same_stream, written}
 use Rattle.qh_streams.specs.Streams.{PlainStreams, was_opened}
 
 -- the frame with this final size (RFC 9000, section 19.4)
 abbrev pub reset_frame : (stream code size : ℕ) → QuicFrame
-reset_frame stream code size = frame 4 (Num stream ∷ Num code ∷ Num size ∷ [])
+reset_frame stream code size = frame frame_types.reset_stream (Num stream ∷ Num code ∷ Num size ∷ [])
 
 -- ---- calls
 

@@ -1,5 +1,6 @@
 -- What a packet does whose tag was accepted, and what holds of the connection behind its frames.
 use Rattle.std.proofs.Common.{◌≡◌, ℕ, true, List, [], Option, Some, None, refl, sym, ap, ◌∙◌}
+use Rattle.std.specs.Option.{option_map}
 use Rattle.qh_base.specs.declared.connection_error.ConnectionError.{ConnectionError}
 use Rattle.qh_base.specs.declared.connection_error.ConnectionError.TheVariants.{Memory}
 use Rattle.qh_base.specs.declared.time.Moment.{Moment}
@@ -11,6 +12,7 @@ use Rattle.qh_conn.specs.Receiving.IsPacketHandled.{empty, faulty}
 use Rattle.qh_conn.specs.declared.idle.IdleTimer.{IdleTimer}
 use Rattle.qh_conn.specs.declared.inner.Inner.{Inner}
 use Rattle.qh_conn.proofs.Ends.{same_of}
+use Rattle.qh_frame.specs.TypeOf.{named}
 use Rattle.qh_frame.specs.declared.frame.FrameFault.{FrameFault}
 use Rattle.qh_history.specs.Standing.{SameEnd}
 use Rattle.qh_packet.specs.Frames.{IsFaultyFrame}
@@ -18,12 +20,13 @@ use Rattle.qh_packet.specs.declared.frames.PacketFault.{PacketFault}
 use Rattle.qh_packet.specs.declared.frames.PacketFault.TheVariants as packet_fault
 use Rattle.qh_space.specs.Space.{IsSpace}
 use Rattle.qh_space.specs.declared.data_space.DataSpace.{DataSpace}
+use Rattle.qh_spec.specs.Codes as codes
 
 module _ {S : Type 0} where
   -- no frame of it is taken
   pub handled_faulty : (now : Moment) (number : ℕ) (frames : List ℕ) (old new : Inner S) (fault : PacketFault) (e : TransportError) → IsNewTo old.space number
       → (fault ≡ packet_fault.Empty → frames ≡ []) → ((f : FrameFault) → fault ≡ packet_fault.Frame f → IsFaultyFrame frames f.frame)
-      → (fault ≡ packet_fault.Empty → IsFault 10 None e) → ((f : FrameFault) → fault ≡ packet_fault.Frame f → IsFault 7 f.frame e)
+      → (fault ≡ packet_fault.Empty → IsFault codes.protocol_violation None e) → ((f : FrameFault) → fault ≡ packet_fault.Frame f → IsFault codes.frame_encoding_error (option_map named f.frame) e)
       → IsFaulted now e old new → IsPacketHandled now number frames old new
   handled_faulty now number frames old new packet_fault.Empty e fresh none frame says_none says_frame faulted = empty e fresh (none refl) (says_none refl) faulted
   handled_faulty now number frames old new (packet_fault.Frame f) e fresh none frame says_none says_frame faulted = faulty e f.frame fresh (frame f refl) (says_frame f refl) faulted

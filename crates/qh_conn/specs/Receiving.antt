@@ -1,6 +1,7 @@
 -- What a datagram does that comes (RFC 9000, sections 10.2, 12.2, 12.3 and 12.4).
 use Rattle.std.specs.Prelude.{◌≡◌, ℕ, ◌==◌, Bool, true, ◌||◌, MatchBool, List, [], ◌∷◌, length, Option, Some, None}
 use Rattle.std.specs.List.{AllByRecursion, list_any}
+use Rattle.std.specs.Option.{option_map}
 use Rattle.qh_base.specs.declared.connection_error.ConnectionError.{ConnectionError}
 use Rattle.qh_base.specs.declared.connection_error.ConnectionError.TheVariants.{TransportError as Fault, LocallyClosed}
 use Rattle.qh_base.specs.declared.connection_error.ConnectionClose.{ConnectionClose}
@@ -17,7 +18,7 @@ use Rattle.qh_conn.specs.declared.state.State.TheVariants.{Closed, Draining, Dra
 use Rattle.qh_frame.specs.FrameAt.{Begins}
 use Rattle.qh_frame.specs.Plain.{plain_of}
 use Rattle.qh_frame.specs.Range.{IsInRange}
-use Rattle.qh_frame.specs.TypeOf.{HasType}
+use Rattle.qh_frame.specs.TypeOf.{HasType, named}
 use Rattle.qh_frame.specs.declared.frame.Frame.{Frame}
 use Rattle.qh_packet.specs.Frames.{AreSurveyed, IsFaultyFrame}
 use Rattle.qh_packet.specs.Packet.{IsOpened}
@@ -26,6 +27,8 @@ use Rattle.qh_recovery.specs.PendingAcks.{IsJoined}
 use Rattle.qh_space.specs.Receiving.{IsFrameTaken, frame_refusal}
 use Rattle.qh_space.specs.declared.data_space.DataSpace.{DataSpace}
 use Rattle.qh_spec.specs.Datagram.{HasPacket}
+use Rattle.qh_spec.specs.Codes as codes
+use Rattle.qh_spec.specs.FrameTypes as frame_types
 use Rattle.qh_spec.specs.Link.{other}
 use Rattle.qh_spec.specs.QuicFrames.{QuicFrame, AreQuicFrames}
 use Rattle.qh_spec.specs.declared.sides.Side.{Side}
@@ -71,7 +74,7 @@ pub data AreFramesTaken (now : ℕ) : (bytes : List ℕ) → (old new : DataSpac
 
 -- a CONNECTION_CLOSE (section 19.19)
 abbrev pub is_close : QuicFrame → Bool
-is_close f = f.kind == 28 || f.kind == 29
+is_close f = f.kind == frame_types.connection_close || f.kind == frame_types.application_close
 
 -- ---- the end of a connection (section 10.2)
 
@@ -145,8 +148,8 @@ module _ {S : Type 0} where
   -- are no frame, is a fault (sections 12.4 and 20.1), and no frame of it is taken.
   pub data IsPacketHandled (now : Moment) (number : ℕ) (frames : List ℕ) (old new : Inner S) : Type 0 where
     repeated : IsOldTo old.space number → new ≡ old → IsPacketHandled now number frames old new
-    empty : (e : TransportError) → IsNewTo old.space number → frames ≡ [] → IsFault 10 None e → IsFaulted now e old new → IsPacketHandled now number frames old new
-    faulty : (e : TransportError) (kind : Option ℕ) → IsNewTo old.space number → IsFaultyFrame frames kind → IsFault 7 kind e → IsFaulted now e old new → IsPacketHandled now number frames old new
+    empty : (e : TransportError) → IsNewTo old.space number → frames ≡ [] → IsFault codes.protocol_violation None e → IsFaulted now e old new → IsPacketHandled now number frames old new
+    faulty : (e : TransportError) (kind : Option ℕ) → IsNewTo old.space number → IsFaultyFrame frames kind → IsFault codes.frame_encoding_error (option_map named kind) e → IsFaulted now e old new → IsPacketHandled now number frames old new
     taken : IsNewTo old.space number → IsPacketTaken now number frames old new → IsPacketHandled now number frames old new
 
   -- the datagram is a packet that closes: it has a CONNECTION_CLOSE, and all its frames can be read, with values in range

@@ -16,6 +16,7 @@ use Rattle.qh_frame.specs.Plain.{frame}
 use Rattle.qh_packet.specs.Packet.{header_bytes}
 use Rattle.qh_space.specs.Sending.{AreLeft, IsPacketMade, IsQuiet}
 use Rattle.qh_space.specs.declared.data_space.DataSpace.{DataSpace}
+use Rattle.qh_spec.specs.FrameTypes as frame_types
 use Rattle.qh_spec.specs.QuicFrames.{QuicFrame, Num, Text}
 use Rattle.qh_spec.specs.declared.sides.Side.{Side}
 use Rattle.qh_spec.specs.declared.sides.Space.{Space}
@@ -29,8 +30,8 @@ fault_type (Some kind) = bounded kind
 
 -- the CONNECTION_CLOSE that says the reason (RFC 9000, section 19.19)
 abbrev pub close_frame : Close → QuicFrame
-close_frame (Connection c) = frame 28 (Num (bounded c.code.0) ∷ Num (fault_type c.frame) ∷ Text c.reason ∷ [])
-close_frame (Application a) = frame 29 (Num a.error_code ∷ Text a.reason ∷ [])
+close_frame (Connection c) = frame frame_types.connection_close (Num (bounded c.code.0) ∷ Num (fault_type c.frame) ∷ Text c.reason ∷ [])
+close_frame (Application a) = frame frame_types.application_close (Num a.error_code ∷ Text a.reason ∷ [])
 
 -- a CONNECTION_CLOSE is to be sent
 abbrev pub is_close_due : State → Bool

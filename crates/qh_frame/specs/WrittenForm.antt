@@ -1,5 +1,5 @@
 -- The form in which a frame is written, where it has several (RFC 9000, sections 19.3 and 19.8; RFC 9221, section 4).
-use Rattle.std.specs.Prelude.{◌/◌, ◌==◌, List, [], ◌∷◌, Option, Some, None, if◌then◌else◌}
+use Rattle.std.specs.Prelude.{◌==◌, List, [], ◌∷◌, Option, Some, None, if◌then◌else◌}
 use Rattle.qh_spec.specs.FrameTypes as frame_types
 use Rattle.qh_spec.specs.FrameViews.{stream_values}
 use Rattle.qh_spec.specs.QuicFrame.{StreamFrame, stream_kind, has_bit}

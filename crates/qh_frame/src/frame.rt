@@ -1,5 +1,6 @@
 ghost use Rattle.std.specs.Prelude.{◌≡◌};
-ghost use Rattle.qh_frame.specs.TypeOf.{type_of};
+ghost use Rattle.std.specs.Option.{option_map};
+ghost use Rattle.qh_frame.specs.TypeOf.{named, type_of};
 
 use crate::Ack;
 use qh_base::{ConnectionId, Dir, FrameType, ResetToken, StreamId, VarInt};
@@ -153,4 +154,16 @@ impl Frame<'_> {
 pub struct FrameFault {
     /// The type that the bytes begin with. None where it is cut.
     pub frame: Option<u64>,
+}
+
+impl FrameFault {
+    /// The type that names the frame in an error, as `Frame::frame_type` does.
+    pub fn frame_type(&self) -> Option<u64>
+        ensures { result ≡ option_map named self.now.frame }
+    {
+        match self.frame {
+            Some(8..16) => Some(FrameType::STREAM.0),
+            other => other,
+        }
+    }
 }

@@ -4,7 +4,7 @@ use Rattle.qh_spec.specs.HttpFrame.{HttpFrame, IsHttpFrame}
 use Rattle.qh_spec.specs.Lists.{In}
 use Rattle.qh_spec.specs.Spelling.{known_kinds}
 use Rattle.qh_spec.specs.Varint.{IsVarint}
-use Rattle.qh_h3wire.specs.HttpFrameTypes as types
+use Rattle.qh_spec.specs.HttpFrameTypes as types
 use Rattle.qh_h3wire.specs.Settings.{PlainSettings, MeansSettings, IsSettingsFault, HasNoFault}
 use Rattle.qh_h3wire.specs.SettingsValue.{settings_value}
 use Rattle.qh_h3wire.specs.declared.frame.Frame.{Frame}

@@ -1,7 +1,7 @@
 -- Reading a frame, as a function on lists.
 use Rattle.std.specs.Prelude.{ℕ, ◌+◌, ◌==◌, ◌||◌, nat_lt, Bool, List, length, take, drop, Option, Some, None, Result, Ok, Err, if◌then◌else◌}
 use Rattle.qh_base.specs.Varint.{varint_at}
-use Rattle.qh_h3wire.specs.HttpFrameTypes as types
+use Rattle.qh_spec.specs.HttpFrameTypes as types
 use Rattle.qh_h3wire.specs.Pair.{pair_at}
 use Rattle.qh_h3wire.specs.Settings.{PlainSettings}
 use Rattle.qh_h3wire.specs.SettingsAt.{settings_at}

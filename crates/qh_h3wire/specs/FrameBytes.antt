@@ -2,7 +2,7 @@
 use Rattle.std.specs.Prelude.{ℕ, ◌<◌, ◌≤◌, ◌^◌, List, [], ◌++◌, length, codes, Result, Ok, Err}
 use Rattle.qh_spec.specs.HttpFrame.{HttpFrame, http_frame, data_frame, headers_frame}
 use Rattle.qh_spec.specs.Varint.{varint}
-use Rattle.qh_h3wire.specs.HttpFrameTypes as types
+use Rattle.qh_spec.specs.HttpFrameTypes as types
 use Rattle.qh_h3wire.specs.Settings.{PlainSettings, settings_bytes, AreWritable, settings_as_read}
 use Rattle.qh_h3wire.specs.SettingsValue.{plain_of, settings_value}
 use Rattle.qh_h3wire.specs.declared.frame.Frame.{Frame}

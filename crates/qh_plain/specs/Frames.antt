@@ -5,6 +5,7 @@ use Rattle.qh_base.specs.Varint.{varint_at}
 use Rattle.qh_plain.specs.Chain.{◌>>=◌}
 use Rattle.qh_plain.specs.Sections.{counted}
 use Rattle.qh_spec.specs.HttpFrame.{HttpFrame, AreHttpFrames, data_frame, headers_frame}
+use Rattle.qh_spec.specs.HttpFrameTypes as types
 use Rattle.qh_spec.specs.Spelling.{known_frames, trailer_frames}
 
 -- the first section, the payloads of the DATA frames in one piece, and the last section where there is one
@@ -39,21 +40,21 @@ frame_at bytes =
 -- the payloads of the DATA frames in front
 abbrev pub data_payloads : List HttpFrame → List (List ℕ)
 data_payloads [] = []
-data_payloads (f ∷ fs) = if f.kind == 0 then f.payload ∷ data_payloads fs else []
+data_payloads (f ∷ fs) = if f.kind == types.data_ then f.payload ∷ data_payloads fs else []
 
 -- what follows the DATA frames in front
 abbrev pub after_data : List HttpFrame → List HttpFrame
 after_data [] = []
-after_data (f ∷ fs) = if f.kind == 0 then after_data fs else f ∷ fs
+after_data (f ∷ fs) = if f.kind == types.data_ then after_data fs else f ∷ fs
 
 -- the section of the last frame, where there is one
 abbrev pub last_at : List HttpFrame → Option (Option (List ℕ))
 last_at [] = Some None
-last_at (f ∷ []) = if f.kind == 1 then Some (Some f.payload) else None
+last_at (f ∷ []) = if f.kind == types.headers then Some (Some f.payload) else None
 last_at (f ∷ g ∷ fs) = None
 
 -- the parts of frames that are in order
 abbrev pub parts_at : List HttpFrame → Option Parts
 parts_at [] = None
 parts_at (f ∷ fs) =
-    if f.kind == 1 then (last_at (after_data fs) >>= λ last. Some (record { section = f.payload; body = concat (data_payloads fs); last = last })) else None
+    if f.kind == types.headers then (last_at (after_data fs) >>= λ last. Some (record { section = f.payload; body = concat (data_payloads fs); last = last })) else None

@@ -1,5 +1,6 @@
 -- Frames of HTTP/3 (RFC 9114, section 7.1).
 use Rattle.std.specs.Prelude.{◌≡◌, ℕ, List, [], ◌∷◌, ◌++◌, length}
+use Rattle.qh_spec.specs.HttpFrameTypes as types
 use Rattle.qh_spec.specs.Varint.{IsVarint, varint}
 
 pub record HttpFrame : Type 0 where
@@ -25,8 +26,8 @@ http_frame f = varint f.kind ++ (varint (length f.payload) ++ f.payload)
 
 -- DATA (section 7.2.1)
 abbrev pub data_frame : List ℕ → HttpFrame
-data_frame payload = record { kind = 0; payload = payload }
+data_frame payload = record { kind = types.data_; payload = payload }
 
 -- HEADERS (section 7.2.2)
 abbrev pub headers_frame : List ℕ → HttpFrame
-headers_frame section = record { kind = 1; payload = section }
+headers_frame section = record { kind = types.headers; payload = section }

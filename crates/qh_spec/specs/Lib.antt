@@ -14,6 +14,7 @@ pub mod Growth
 pub mod Headline
 pub mod Honest
 pub mod HttpFrame
+pub mod HttpFrameTypes
 pub mod Lawful
 pub mod Lines
 pub mod Link

@@ -3,13 +3,16 @@ use Rattle.std.specs.Prelude.{◌≡◌, ℕ, ◌==◌, List, [], ◌∷◌, ◌
 use Rattle.std.specs.List.{concat, list_any}
 use Rattle.qh_spec.specs.Fields.{Field}
 use Rattle.qh_spec.specs.HttpFrame.{HttpFrame, AreHttpFrames, data_frame, headers_frame}
+use Rattle.qh_spec.specs.HttpFrameTypes as types
 use Rattle.qh_spec.specs.Meaning.{MeansHead, MeansFields, MeansTrailers}
 use Rattle.qh_spec.specs.Message.{PlainMessage}
 use Rattle.qh_spec.specs.Section.{IsSection}
 
 -- the types of frames to which RFC 9114 gives a meaning (section 7.2), and those to which HTTP/2 gave one (section 7.2.8)
 abbrev pub known_kinds : List ℕ
-known_kinds = 0 ∷ 1 ∷ 3 ∷ 4 ∷ 5 ∷ 7 ∷ 13 ∷ 2 ∷ 6 ∷ 8 ∷ 9 ∷ []
+known_kinds =
+    types.data_ ∷ types.headers ∷ types.cancel_push ∷ types.settings ∷ types.push_promise ∷ types.goaway ∷ types.max_push_id
+    ∷ types.http2_priority ∷ types.http2_ping ∷ types.http2_window_update ∷ types.http2_continuation ∷ []
 
 -- the frames without those of unknown types, which readers skip (section 9)
 abbrev pub known_frames : List HttpFrame → List HttpFrame

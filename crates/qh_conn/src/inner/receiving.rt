@@ -1,4 +1,5 @@
 ghost use Rattle.std.specs.Prelude.{◌≡◌, ◌⊎◌, ◌<◌, ◌^◌, ℕ, List, [], None, Some, Bool, true, false, OnOk, OnErr, IfOk, IfSome, IfNone, IfErr, IsTrue};
+ghost use Rattle.std.specs.Option.{option_map};
 ghost use Rattle.qh_base.specs.declared.connection_error.ConnectionError.TheVariants.{TransportError as Fault};
 ghost use Rattle.qh_base.specs.declared.time.Moment.{Moment as AMoment};
 ghost use Rattle.qh_base.specs.declared.transport_error.TransportError.{TransportError as ATransportError};
@@ -6,11 +7,13 @@ ghost use Rattle.qh_conn.specs.Inner.{IsConnection, IsFailedBy, is_open};
 ghost use Rattle.qh_conn.specs.Receiving.{AreFramesTaken, BringsClose, GoesOnWith, HasContent, HasWhatOpens, IsAccepted, IsDatagramTaken, IsExpectedOf, IsFault, IsNewTo, IsOpenedBy, IsPacketHandled, is_close};
 ghost use Rattle.qh_frame.specs.Plain.{plain_of};
 ghost use Rattle.qh_frame.specs.Range.{IsInRange};
+ghost use Rattle.qh_frame.specs.TypeOf.{named};
 ghost use Rattle.qh_frame.specs.declared.frame.Frame.{Frame as AFrame};
 ghost use Rattle.qh_frame.specs.declared.frame.FrameFault.{FrameFault as AFrameFault};
 ghost use Rattle.qh_packet.specs.Frames.{AreSurveyed, IsFaultyFrame};
 ghost use Rattle.qh_packet.specs.declared.frames.PacketFault.TheVariants as packet_fault;
 ghost use Rattle.qh_space.specs.Space.{IsSpace};
+ghost use Rattle.qh_spec.specs.Codes as codes;
 ghost use Rattle.qh_spec.specs.Link.{other};
 ghost use Rattle.qh_spec.specs.QuicFrames.{QuicFrame, AreQuicFrames};
 ghost use Rattle.qh_streams.specs.declared.fault.StreamFault.TheVariants.{Transport};
@@ -216,12 +219,12 @@ fn closes(frame: &Frame<'_>) -> bool
 
 // The error of a packet of which no frame is taken (RFC 9000, sections 12.4 and 20.1).
 fn error_of(fault: PacketFault) -> TransportError
-    ensures empty { fault ≡ packet_fault.Empty → IsFault 10 None result }
-    ensures frame { (f : AFrameFault) → fault ≡ packet_fault.Frame f → IsFault 7 f.frame result }
+    ensures empty { fault ≡ packet_fault.Empty → IsFault codes.protocol_violation None result }
+    ensures frame { (f : AFrameFault) → fault ≡ packet_fault.Frame f → IsFault codes.frame_encoding_error (option_map named f.frame) result }
 {
     let (code, frame) = match fault {
         PacketFault::Empty => (TransportErrorCode::PROTOCOL_VIOLATION, None),
-        PacketFault::Frame(fault) => (TransportErrorCode::FRAME_ENCODING_ERROR, fault.frame),
+        PacketFault::Frame(fault) => (TransportErrorCode::FRAME_ENCODING_ERROR, fault.frame_type()),
     };
     TransportError {
         code,
