@@ -9,7 +9,6 @@ pub mod HeadParts
 pub mod HeadReading
 pub mod Header
 pub mod HeaderFault
-pub mod HttpFrameTypes
 pub mod Kinds
 pub mod Pair
 pub mod PlainHeader

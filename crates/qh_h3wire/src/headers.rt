@@ -13,19 +13,18 @@ ghost use Rattle.qh_h3wire.specs.HeaderFault.{authority_fault, IfFault, IsAuthor
 ghost use Rattle.qh_h3wire.specs.PlainHeader.{PlainHeader};
 
 use field::fault_of_lines;
-use grammar::is_authority;
 use http::{Method, StatusCode};
 use http_header::{HeaderMap, HeaderValue};
 use http_uri::{Authority, Parts, PathAndQuery, Scheme, Uri};
 use pseudo::{Pseudo, push_map};
 use qh_base::Memory;
+use qh_grammar::is_authority;
 use qh_qpack::HeaderField;
 use std::alloc::Global;
 use std::marker::Model;
 use thiserror::Error;
 
 mod field;
-mod grammar;
 mod pseudo;
 
 /// The head of a message, and its fields. A contract sees it as a plain value.

@@ -1,8 +1,10 @@
 -- What stands behind each keyword.
-use Rattle.std.proofs.Common.{◌≡◌, ℕ, ◌+◌, ◌^◌, ◌<◌, ◌≤◌, List, codes, decimal, bytes_eq, if◌then◌else◌, Option, Some, None, refl, sym, ap, subst, ◌∙◌, arith}
+use Rattle.std.proofs.Common.{◌≡◌, ℕ, ◌+◌, ◌^◌, ◌<◌, ◌≤◌, List, ◌++◌, codes, decimal, bytes_eq, if◌then◌else◌, Option, Some, None, refl, sym, ap, subst, ◌∙◌, arith}
 use Rattle.qh_spec.specs.declared.script.Setting.{Setting}
 use Rattle.qh_spec.specs.declared.script.Setting.TheVariants.{Section, RequestBody, Response, Cap, Bidi, Window, Idle, Rtt, Rounds, Step}
 use Rattle.qh_spec.specs.declared.link.Upset.{Upset}
+use Rattle.http_header.specs.Token.{IsToken, lowercase}
+use Rattle.http_uri.specs.Grammar.{IsUriText}
 use Rattle.qh_spec.specs.Message.{PlainTarget}
 use Rattle.qh_spec.specs.ScriptLine as says
 use Rattle.qh_spec.specs.ScriptLine.{Line, IsNamedValue, IsUpset, lose, twice, late, fail, forge, Says, request, field, trailer, body, fill, set, retry, grease, disturb, setting_bound}
@@ -10,13 +12,22 @@ use Rattle.qh_script.specs.declared.line.keywords.UpsetKind.{UpsetKind}
 use Rattle.qh_script.specs.declared.line.keywords.UpsetKind.TheVariants as upset
 use Rattle.qh_script.specs.declared.line.keywords.Keyword.{Keyword}
 use Rattle.qh_script.specs.declared.line.keywords.Keyword.TheVariants.{Request, Field, Trailer, Body, Fill, Set, Retry, Grease, Disturb}
-use Rattle.qh_script.specs.declared.line.LineError.{LineError}
-use Rattle.qh_script.specs.declared.line.LineError.TheVariants.{Refused, Memory}
-use Rattle.qh_script.specs.Line.{HasNoSpace, IsAsked, RefusesAsked, IsLowerNamed, RefusesNamed, Refuses, IsNumber, keyword_word, upset_word}
+use Rattle.qh_script.specs.declared.line.Disturbance.{Disturbance}
+use Rattle.qh_script.specs.declared.line.Line.TheVariants as line
+use Rattle.qh_script.specs.Line.{HasNoSpace, SplitsFirst, IsNamed, IsNumber, Means, MeansUpset, Tells, keyword_word, upset_word}
 use Rattle.qh_script.proofs.Spaces.{no_space_literal}
 
+-- METHOD TARGET
+pub record IsAsked (text : List ℕ) : Type 0 where
+  pub method : List ℕ
+  pub uri : List ℕ
+  pub target : PlainTarget
+  pub is : text ≡ method ++ (codes " " ++ uri)
+  pub method_is : IsToken method
+  pub uri_is : IsUriText uri target.scheme target.authority target.path_and_query
+
 abbrev pub Argument : Keyword → List ℕ → Type 0
-Argument Request text = (method : List ℕ) × (target : PlainTarget) × IsAsked text method target
+Argument Request text = IsAsked text
 Argument Field text = (name : List ℕ) × (value : List ℕ) × IsNamedValue text name value
 Argument Trailer text = (name : List ℕ) × (value : List ℕ) × IsNamedValue text name value
 Argument Body text = Unit {0}
@@ -34,7 +45,7 @@ upset_said word text _ (fail k w t l m) = (upset.Fail, w, (_, fail k refl t l m)
 upset_said word text _ (forge round side hex bytes w t l m h a b) = (upset.Forge, w, (_, forge round side hex bytes refl t l m h a b))
 
 said : (word text : List ℕ) (l : Line) → Says word text l → (k : Keyword) × (word ≡ keyword_word k) × Argument k text
-said word text _ (request method uri target w t m u) = (Request, w, (method, target, record { uri = uri; is = t; method_is = m; uri_is = u }))
+said word text _ (request method uri target w t m u) = (Request, w, record { method = method; uri = uri; target = target; is = t; method_is = m; uri_is = u })
 said word text _ (field name value w n) = (Field, w, (name, value, n))
 said word text _ (trailer name value w n) = (Trailer, w, (name, value, n))
 said word text _ (body w) = (Body, w, tt)
@@ -137,17 +148,14 @@ pub word_no_space : (word text : List ℕ) (l : Line) → Says word text l → H
 word_no_space word text l s = let a = said word text l s in rw (a.1) (keyword_no_space a.0)
 
 -- what is refused behind each keyword
-pub no_request : (text : List ℕ) (e : LineError) → RefusesAsked text e → Refuses (Says (codes "request") text) e
-no_request text Refused h = λ l s. let a = argument Request text l s in h a.0 a.1 a.2
-no_request text Memory h = tt
+pub no_request : (text : List ℕ) → (IsAsked text → ⊥) → (l : Line) → Says (codes "request") text l → ⊥
+no_request text h l s = h (argument Request text l s)
 
-pub no_field : (text : List ℕ) (e : LineError) → RefusesNamed text e → Refuses (Says (codes "field") text) e
-no_field text Refused h = λ l s. let a = argument Field text l s in h a.0 a.1 a.2
-no_field text Memory h = tt
+pub no_field : (text : List ℕ) → ((name value : List ℕ) → IsNamedValue text name value → ⊥) → (l : Line) → Says (codes "field") text l → ⊥
+no_field text h l s = let a = argument Field text l s in h a.0 a.1 a.2
 
-pub no_trailer : (text : List ℕ) (e : LineError) → RefusesNamed text e → Refuses (Says (codes "trailer") text) e
-no_trailer text Refused h = λ l s. let a = argument Trailer text l s in h a.0 a.1 a.2
-no_trailer text Memory h = tt
+pub no_trailer : (text : List ℕ) → ((name value : List ℕ) → IsNamedValue text name value → ⊥) → (l : Line) → Says (codes "trailer") text l → ⊥
+no_trailer text h l s = let a = argument Trailer text l s in h a.0 a.1 a.2
 
 pub no_fill : (text : List ℕ) → ((n : ℕ) → IsNumber text n → n < 2 ^ 30 + 1 → ⊥) → (l : Line) → Says (codes "fill") text l → ⊥
 no_fill text h l s = let a = argument Fill text l s in h a.0 (a.1, omega (arith, a.2)) (omega (arith, a.2))
@@ -170,9 +178,8 @@ no_setting x text h l s =
     let low : a.0 < setting_bound x = a.2 in
     h a.0 (a.1, omega (arith, low, setting_fits x)) low
 
-pub no_disturb : (kind : UpsetKind) (text : List ℕ) (e : LineError) → Refuses (IsUpset (upset_word kind) text) e → Refuses (Says (keyword_word (Disturb kind)) text) e
-no_disturb kind text Refused h = λ l s. let a = argument (Disturb kind) text l s in h a.0 a.1
-no_disturb kind text Memory h = tt
+pub no_disturb : (kind : UpsetKind) (text : List ℕ) → ((u : Upset) → IsUpset (upset_word kind) text u → ⊥) → (l : Line) → Says (keyword_word (Disturb kind)) text l → ⊥
+no_disturb kind text h l s = let a = argument (Disturb kind) text l s in h a.0 a.1
 
 pub no_retry : (text : List ℕ) → (text ≡ codes "on" → ⊥) → (l : Line) → Says (codes "retry") text l → ⊥
 no_retry text h l s = h (argument Retry text l s)
@@ -181,8 +188,25 @@ pub no_grease : (text : List ℕ) → (text ≡ codes "off" → ⊥) → (l : Li
 no_grease text h l s = h (argument Grease text l s)
 
 -- what is said
-pub is_field : (text lower value : List ℕ) → IsLowerNamed text lower value → Says (codes "field") text (says.Field lower value)
-is_field text lower value n = rw (n.lower_is) (field n.name value refl n.is)
+pub request_only : (text method uri : List ℕ) → SplitsFirst text method uri → (l : Line)
+    → (target : PlainTarget) × IsToken method × IsUriText uri target.scheme target.authority target.path_and_query × (l ≡ says.Request method target)
+    → Says (codes "request") text l
+request_only text method uri split l (target, token, is, e) = rw e (request method uri target refl split.0 token is)
 
-pub is_trailer : (text lower value : List ℕ) → IsLowerNamed text lower value → Says (codes "trailer") text (says.Trailer lower value)
-is_trailer text lower value n = rw (n.lower_is) (trailer n.name value refl n.is)
+pub field_only : (text name value : List ℕ) → IsNamedValue text name value → (l : Line) → IsNamed name value × (l ≡ says.Field (lowercase name) value)
+    → Says (codes "field") text l
+field_only text name value n l (m, e) = rw e (field name value refl n)
+
+pub trailer_only : (text name value : List ℕ) → IsNamedValue text name value → (l : Line) → IsNamed name value × (l ≡ says.Trailer (lowercase name) value)
+    → Says (codes "trailer") text l
+trailer_only text name value n l (m, e) = rw e (trailer name value refl n)
+
+pub named : (text name value : List ℕ) → IsNamedValue text name value → IsNamed name value
+named text name value n = record { name_is = n.name_is; value_is = n.value_is; some = n.some }
+
+pub disturb_tells : (word text : List ℕ) (d : Disturbance) → Tells MeansUpset (IsUpset word text) d → Tells Means (Says word text) (line.Disturb d)
+disturb_tells word text d t = record {
+  meant = says.Disturb t.meant;
+  is = (t.meant, t.is, refl);
+  only = λ l h. rw h.2 (disturb h.0 (t.only h.0 h.1));
+}

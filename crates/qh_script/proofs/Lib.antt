@@ -3,6 +3,8 @@ pub mod Changes
 pub mod Decimals
 pub mod FirstLines
 pub mod Hex
+pub mod Judging
+pub mod Outlines
 pub mod ReadLines
 pub mod Reading
 pub mod Refusals

@@ -1,5 +1,5 @@
 -- What a text asks of the link.
-use Rattle.std.proofs.Common.{◌≡◌, ◌≢◌, ℕ, ◌*◌, ◌<◌, ◌≤◌, List, [], ◌∷◌, ◌++◌, length, codes, decimal, refl, sym, ap, ◌∙◌, arith}
+use Rattle.std.proofs.Common.{◌≡◌, ◌≢◌, ℕ, ◌*◌, ◌<◌, ◌≤◌, List, [], ◌∷◌, ◌++◌, length, codes, decimal, refl, sym, ◌∙◌, subst, arith}
 use Rattle.qh_spec.specs.Lines.{IsHex}
 use Rattle.qh_spec.specs.declared.sides.Side.{Side}
 use Rattle.qh_spec.specs.declared.sides.Side.TheVariants.{Client, Server}
@@ -7,9 +7,7 @@ use Rattle.qh_spec.specs.declared.link.Select.{Select}
 use Rattle.qh_spec.specs.declared.link.Upset.{Upset}
 use Rattle.qh_spec.specs.declared.link.Upset.TheVariants.{Forge}
 use Rattle.qh_spec.specs.ScriptLine.{IsSelect, IsUpset, lose, twice, late, fail, forge, side_word}
-use Rattle.qh_script.specs.declared.line.LineError.{LineError}
-use Rattle.qh_script.specs.declared.line.LineError.TheVariants.{Refused, Memory}
-use Rattle.qh_script.specs.Line.{HasNoSpace, SplitsFirst, SplitsLast, IsNumber, IsNoPositive, Refuses, IsLate, IsNoLate, IsForge, IsNoForge}
+use Rattle.qh_script.specs.Line.{HasNoSpace, SplitsFirst, SplitsLast, IsNumber, IsNoPositive, AreForged, IsForgeable, HasBytes, IsLate, IsNoLate, IsForge, IsNoForge}
 use Rattle.qh_script.proofs.Spaces.{no_space_within, no_space_literal, first_same, last_same}
 use Rattle.qh_script.proofs.ScriptWords.{differ}
 use Rattle.qh_script.proofs.Decimals.{decimal_no_space, same_number}
@@ -66,23 +64,21 @@ forge_same text round side hex round' side' hex' f f' =
     let rest = first_same (decimal round) (side_word side ++ (32 ∷ hex)) (decimal round') (side_word side' ++ (32 ∷ hex')) (decimal_no_space round (omega (arith, f.to))) (decimal_no_space round' (omega (arith, f'.to))) (sym f.is ∙ f'.is) in
     (first_same (side_word side) hex (side_word side') hex' (side_no_space side) (side_no_space side') rest.1).1
 
-record IsForged (text : List ℕ) : Type 0 where
+record IsForged (text : List ℕ) (u : Upset) : Type 0 where
   round : ℕ
   side : Side
   hex : List ℕ
   bytes : List ℕ
   is : IsForge text round side hex
-  hex_is : IsHex hex bytes
-  from : 1 ≤ length bytes
-  to : length bytes ≤ 2048
+  are : AreForged hex bytes
 
-forged : (text : List ℕ) (u : Upset) → IsUpset (codes "forge") text u → IsForged text
+forged : (text : List ℕ) (u : Upset) → IsUpset (codes "forge") text u → IsForged text u
 forged text _ (lose which w s) = absurd (differ (codes "forge") (codes "drop") refl w)
 forged text _ (twice which w s) = absurd (differ (codes "forge") (codes "twice") refl w)
 forged text _ (late select which n w t s l m) = absurd (differ (codes "forge") (codes "late") refl w)
 forged text _ (fail k w t l m) = absurd (differ (codes "forge") (codes "fail") refl w)
 forged text _ (forge round side hex bytes w t l m h a b) =
-    record { round = round; side = side; hex = hex; bytes = bytes; is = record { is = t; from = l; to = m }; hex_is = h; from = a; to = b }
+    record { round = round; side = side; hex = hex; bytes = bytes; is = record { is = t; from = l; to = m }; are = record { is = h; from = a; to = b } }
 
 hex_length : (hex bytes : List ℕ) → IsHex hex bytes → length hex ≡ 2 * length bytes
 hex_length [] [] h = refl
@@ -91,23 +87,41 @@ hex_length (c ∷ []) bytes h = absurd h
 hex_length (c ∷ d ∷ cs) [] h = absurd h
 hex_length (c ∷ d ∷ cs) (b ∷ bs) h = omega (arith, hex_length cs bs h.5)
 
-pub no_forge_hex : (text : List ℕ) (round : ℕ) (side : Side) (hex : List ℕ) → IsForge text round side hex → (e : LineError) → Refuses (IsHex hex) e → Refuses (IsUpset (codes "forge") text) e
-no_forge_hex text round side hex f Refused n = λ u is.
-    let g = forged text u is in
-    n g.bytes (rw (forge_same text round side hex g.round g.side g.hex f g.is) (g.hex_is))
-no_forge_hex text round side hex f Memory n = tt
+pub no_forged : (text : List ℕ) → IsNoForge text → (u : Upset) → IsUpset (codes "forge") text u → ⊥
+no_forged text never u is = let g = forged text u is in never g.round g.side g.hex g.is
 
-pub no_forge_length : (text : List ℕ) (round : ℕ) (side : Side) (hex bytes : List ℕ) → IsForge text round side hex → IsHex hex bytes → ((1 ≤ length bytes) × (length bytes ≤ 2048) → ⊥)
+pub no_forge_hex : (text : List ℕ) (round : ℕ) (side : Side) (hex : List ℕ) → IsForge text round side hex → (IsForgeable hex → ⊥)
     → (u : Upset) → IsUpset (codes "forge") text u → ⊥
-no_forge_length text round side hex bytes f h n u is =
+no_forge_hex text round side hex f never u is =
     let g = forged text u is in
-    let same = forge_same text round side hex g.round g.side g.hex f g.is in
-    let count : length bytes ≡ length g.bytes = omega (arith, hex_length hex bytes h, hex_length g.hex g.bytes g.hex_is, ap length same) in
-    n (omega (arith, g.from, count), omega (arith, g.to, count))
+    never (g.bytes, subst (λ (h : List ℕ). AreForged h g.bytes) (sym (forge_same text round side hex g.round g.side g.hex f g.is)) g.are)
 
-pub is_forged : (text : List ℕ) (round : ℕ) (side : Side) (hex bytes : List ℕ) → IsForge text round side hex → IsHex hex bytes → (1 ≤ length bytes) × (length bytes ≤ 2048)
-    → IsUpset (codes "forge") text (Forge round side bytes)
-is_forged text round side hex bytes f h n = forge round side hex bytes refl f.is f.from f.to h n.0 n.1
+pub forge_only : (text : List ℕ) (round : ℕ) (side : Side) (hex : List ℕ) → IsForge text round side hex → (u : Upset)
+    → (bytes : List ℕ) × AreForged hex bytes × (u ≡ Forge round side bytes) → IsUpset (codes "forge") text u
+forge_only text round side hex f u (bytes, a, e) = rw e (forge round side hex bytes refl f.is f.from f.to a.is a.from a.to)
+
+-- how long the text of so many bytes is
+pub not_forgeable_empty : (hex : List ℕ) → length hex ≡ 0 → IsForgeable hex → ⊥
+not_forgeable_empty hex e (bytes, a) = let from = a.from in omega (arith, hex_length hex bytes a.is)
+
+pub not_forgeable_long : (hex : List ℕ) → 4096 < length hex → IsForgeable hex → ⊥
+not_forgeable_long hex l (bytes, a) = let to = a.to in omega (arith, hex_length hex bytes a.is)
+
+pub forgeable : (hex : List ℕ) → 0 < length hex → length hex ≤ 4096 → HasBytes hex → IsForgeable hex
+forgeable hex some few (bytes, h) =
+    let len = hex_length hex bytes h in
+    (bytes, record { is = h; from = omega arith; to = omega arith })
+
+pub has_bytes : (hex : List ℕ) → IsForgeable hex → HasBytes hex
+has_bytes hex (bytes, a) = (bytes, a.is)
+
+-- the same of the bytes that were read
+pub same_forged : (hex bytes read : List ℕ) → AreForged hex bytes → IsHex hex read → AreForged hex read
+same_forged hex bytes read a is =
+    let from = a.from in
+    let to = a.to in
+    let len : length read ≡ length bytes = omega (arith, hex_length hex bytes a.is, hex_length hex read is) in
+    record { is = is; from = omega arith; to = omega arith }
 
 pub no_late_upset : (text : List ℕ) → IsNoLate text → (u : Upset) → IsUpset (codes "late") text u → ⊥
 no_late_upset text h _ (lose which w s) = differ (codes "late") (codes "drop") refl w
@@ -115,3 +129,24 @@ no_late_upset text h _ (twice which w s) = differ (codes "late") (codes "twice")
 no_late_upset text h _ (late select which n w t s l m) = h which n (record { select = select; is = t; which_is = s; from = l; to = m })
 no_late_upset text h _ (fail k w t l m) = differ (codes "late") (codes "fail") refl w
 no_late_upset text h _ (forge round side hex bytes w t l m i a b) = differ (codes "late") (codes "forge") refl w
+
+pub no_lose_upset : (text : List ℕ) → ((which : Select) → IsSelect text which → ⊥) → (u : Upset) → IsUpset (codes "drop") text u → ⊥
+no_lose_upset text h _ (lose which w s) = h which s
+no_lose_upset text h _ (twice which w s) = differ (codes "drop") (codes "twice") refl w
+no_lose_upset text h _ (late select which n w t s l m) = differ (codes "drop") (codes "late") refl w
+no_lose_upset text h _ (fail k w t l m) = differ (codes "drop") (codes "fail") refl w
+no_lose_upset text h _ (forge round side hex bytes w t l m i a b) = differ (codes "drop") (codes "forge") refl w
+
+pub no_twice_upset : (text : List ℕ) → ((which : Select) → IsSelect text which → ⊥) → (u : Upset) → IsUpset (codes "twice") text u → ⊥
+no_twice_upset text h _ (lose which w s) = differ (codes "twice") (codes "drop") refl w
+no_twice_upset text h _ (twice which w s) = h which s
+no_twice_upset text h _ (late select which n w t s l m) = differ (codes "twice") (codes "late") refl w
+no_twice_upset text h _ (fail k w t l m) = differ (codes "twice") (codes "fail") refl w
+no_twice_upset text h _ (forge round side hex bytes w t l m i a b) = differ (codes "twice") (codes "forge") refl w
+
+pub no_fail_upset : (text : List ℕ) → IsNoPositive text → (u : Upset) → IsUpset (codes "fail") text u → ⊥
+no_fail_upset text h _ (lose which w s) = differ (codes "fail") (codes "drop") refl w
+no_fail_upset text h _ (twice which w s) = differ (codes "fail") (codes "twice") refl w
+no_fail_upset text h _ (late select which n w t s l m) = differ (codes "fail") (codes "late") refl w
+no_fail_upset text h _ (fail k w t l m) = h k (t, omega arith) l m
+no_fail_upset text h _ (forge round side hex bytes w t l m i a b) = differ (codes "fail") (codes "forge") refl w

@@ -1,7 +1,8 @@
 -- What contracts see of settings.
+use Rattle.std.specs.Prelude.{[]}
 use Rattle.std.specs.Option.{option_map}
 use Rattle.qh_base.specs.declared.time.Span.{Span}
-use Rattle.qh_spec.specs.Config.{PlainConfig}
+use Rattle.qh_spec.specs.Config.{PlainConfig, FitSizes, FitIds, FitTimes, FitWindows, FitAttempts}
 use Rattle.qh_script.specs.declared.config.Config.TheInside.{Inside}
 
 -- settings without where they lie in memory, with times in nanoseconds
@@ -31,3 +32,15 @@ plain_config c = record {
   min_reset_interval = c.min_reset_interval.0;
   send_grease = c.send_grease;
 }
+
+-- the settings without versions
+abbrev pub unversioned : PlainConfig → PlainConfig
+unversioned c = record c { versions = [] }
+
+-- the settings fit but for the versions
+pub record FitsBesides (c : PlainConfig) : Type 0 where
+  pub sizes : FitSizes c
+  pub ids : FitIds c
+  pub times : FitTimes c
+  pub windows : FitWindows c
+  pub attempts : FitAttempts c

@@ -1,39 +1,85 @@
 -- What contracts see of a line that was read.
-use Rattle.std.specs.Prelude.{◌≡◌, ◌≢◌, ℕ, ◌+◌, ◌*◌, ◌<◌, ◌≤◌, ◌^◌, List, [], ◌∷◌, ◌++◌, codes, decimal}
+use Rattle.std.specs.Prelude.{◌≡◌, ◌≢◌, ◌↔◌, ℕ, ◌+◌, ◌*◌, ◌<◌, ◌≤◌, ◌^◌, List, [], ◌∷◌, ◌++◌, length, codes, decimal}
 use Rattle.http_header.specs.Token.{IsToken, lowercase}
+use Rattle.http_header.specs.FieldName.{IsFieldName}
+use Rattle.http_header.specs.FieldValue.{IsFieldValue}
 use Rattle.http_uri.specs.Grammar.{IsUriText}
-use Rattle.qh_spec.specs.Message.{PlainTarget, target_of}
-use Rattle.qh_spec.specs.Lines.{IsHexDigit}
+use Rattle.qh_spec.specs.Message.{PlainTarget}
+use Rattle.qh_spec.specs.Lines.{IsHex, IsHexDigit}
 use Rattle.qh_spec.specs.ScriptLine as says
-use Rattle.qh_spec.specs.ScriptLine.{Line as PlainLine, IsLine, IsNamedValue, IsSelect, setting_word, side_word}
+use Rattle.qh_spec.specs.ScriptLine.{Line as PlainLine, IsLine, IsSelect, setting_word, side_word}
 use Rattle.qh_spec.specs.declared.link.Select.{Select}
+use Rattle.qh_spec.specs.declared.link.Upset.{Upset}
+use Rattle.qh_spec.specs.declared.link.Upset.TheVariants as does
 use Rattle.qh_spec.specs.declared.sides.Side.{Side}
 use Rattle.qh_script.specs.declared.line.Line.{Line}
+use Rattle.qh_script.specs.declared.line.Line.TheVariants.{Empty, Request, Field, Trailer, Body, Fill, Set, RetryOn, GreaseOff, Disturb}
+use Rattle.qh_script.specs.declared.line.Disturbance.{Disturbance}
+use Rattle.qh_script.specs.declared.line.Disturbance.TheVariants.{Lose, Twice, Late, Fail, Forge}
 use Rattle.qh_script.specs.declared.line.keywords.UpsetKind.{UpsetKind}
 use Rattle.qh_script.specs.declared.line.keywords.UpsetKind.TheVariants as upset
 use Rattle.qh_script.specs.declared.line.keywords.Keyword.{Keyword}
 use Rattle.qh_script.specs.declared.line.keywords.Keyword.TheVariants as key
-use Rattle.qh_script.specs.declared.line.LineError.{LineError}
-use Rattle.qh_script.specs.declared.line.LineError.TheVariants.{Refused, Memory}
-use Rattle.qh_script.specs.declared.line.Line.TheVariants.{Empty, Request, Field, Trailer, Body, Fill, Set, RetryOn, GreaseOff, Disturb}
 
--- a line without where it lies in memory
-abbrev pub line_of : Line → PlainLine
-line_of Empty = says.Empty
-line_of (Request method uri) = says.Request method (target_of uri)
-line_of (Field name value) = says.Field name value.bytes
-line_of (Trailer name value) = says.Trailer name value.bytes
-line_of (Body text) = says.Body text.now
-line_of (Fill n) = says.Fill n
-line_of (Set setting n) = says.Set setting n
-line_of RetryOn = says.RetryOn
-line_of GreaseOff = says.GreaseOff
-line_of (Disturb u) = says.Disturb u
+-- the text has two digits for each of some bytes
+abbrev pub HasBytes : List ℕ → Type 0
+HasBytes text = (bytes : List ℕ) × IsHex text bytes
 
--- what an error says of the text: that it is no line, or nothing
-abbrev pub RefusesLine : List ℕ → LineError → Type 0
-RefusesLine text Refused = (l : PlainLine) → IsLine text l → ⊥
-RefusesLine text Memory = Unit {0}
+-- the same of 1 to 2,048 bytes
+pub record AreForged (hex bytes : List ℕ) : Type 0 where
+  pub is : IsHex hex bytes
+  pub from : 1 ≤ length bytes
+  pub to : length bytes ≤ 2048
+
+abbrev pub IsForgeable : List ℕ → Type 0
+IsForgeable hex = (bytes : List ℕ) × AreForged hex bytes
+
+-- What is asked of the link stands for this: a text in hexadecimal for its bytes.
+abbrev pub MeansUpset : Disturbance → Upset → Type 0
+MeansUpset (Lose which) u = u ≡ does.Lose which
+MeansUpset (Twice which) u = u ≡ does.Twice which
+MeansUpset (Late which n) u = u ≡ does.Late which n
+MeansUpset (Fail k) u = u ≡ does.Fail k
+MeansUpset (Forge round side hex) u = (bytes : List ℕ) × AreForged hex.now bytes × (u ≡ does.Forge round side bytes)
+
+-- it stands for something
+abbrev pub HasUpset : Disturbance → Type 0
+HasUpset d = (u : Upset) × MeansUpset d u
+
+-- a name and a value that isn't empty
+pub record IsNamed (name value : List ℕ) : Type 0 where
+  pub name_is : IsFieldName name
+  pub value_is : IsFieldValue value
+  pub some : 0 < length value
+
+-- The line stands for this: a URI for its parts, a field's name for its lower case.
+abbrev pub Means : Line → PlainLine → Type 0
+Means Empty l = l ≡ says.Empty
+Means (Request method uri) l =
+    (target : PlainTarget) × IsToken method.now × IsUriText uri.now target.scheme target.authority target.path_and_query × (l ≡ says.Request method.now target)
+Means (Field name value) l = IsNamed name.now value.now × (l ≡ says.Field (lowercase name.now) value.now)
+Means (Trailer name value) l = IsNamed name.now value.now × (l ≡ says.Trailer (lowercase name.now) value.now)
+Means (Body text) l = l ≡ says.Body text.now
+Means (Fill n) l = l ≡ says.Fill n
+Means (Set setting n) l = l ≡ says.Set setting n
+Means RetryOn l = l ≡ says.RetryOn
+Means GreaseOff l = l ≡ says.GreaseOff
+Means (Disturb d) l = (u : Upset) × MeansUpset d u × (l ≡ says.Disturb u)
+
+-- the line stands for something
+abbrev pub HasMeaning : Line → Type 0
+HasMeaning line = (l : PlainLine) × Means line l
+
+-- What was read stands for something, and for nothing but what is said.
+pub record Tells {A B : Type 0} (means : A → B → Type 0) (said : B → Type 0) (a : A) : Type 0 where
+  pub meant : B
+  pub is : means a meant
+  pub only : (b : B) → means a b → said b
+
+-- The line that was read of the text stands for something, and for that alone which the text says.
+pub record StandsFor (text : List ℕ) (line : Line) : Type 0 where
+  pub some : HasMeaning line
+  pub exact : (l : PlainLine) → IsLine text l ↔ Means line l
 
 -- no byte is a space
 abbrev pub HasNoSpace : List ℕ → Type 0
@@ -77,11 +123,6 @@ keyword_word (key.Disturb kind) = upset_word kind
 abbrev pub IsNoPositive : List ℕ → Type 0
 IsNoPositive text = (n : ℕ) → IsNumber text n → 1 ≤ n → n < 2 ^ 63 → ⊥
 
--- what an error says of what may be read: that there is nothing, or nothing is said
-abbrev pub Refuses : {A : Type 0} → (A → Type 0) → LineError → Type 0
-Refuses {A} Reads Refused = (x : A) → Reads x → ⊥
-Refuses {A} Reads Memory = Unit {0}
-
 -- two digits in front, and the byte that they write
 pub record IsHexPair (text : List ℕ) (byte : ℕ) : Type 0 where
   pub first : ℕ
@@ -96,36 +137,6 @@ pub record IsHexPair (text : List ℕ) (byte : ℕ) : Type 0 where
 
 abbrev pub IsNoHexPair : List ℕ → Type 0
 IsNoHexPair text = (byte : ℕ) → IsHexPair text byte → ⊥
-
--- what an error says of a fact: that it isn't so, or nothing
-abbrev pub Excludes : Type 0 → LineError → Type 0
-Excludes P Refused = P → ⊥
-Excludes P Memory = Unit {0}
-
-abbrev pub IsRefused : LineError → Type 0
-IsRefused Refused = Unit {0}
-IsRefused Memory = ⊥
-
--- a name and a value, with the name in lower case
-pub record IsLowerNamed (text lower value : List ℕ) : Type 0 where
-  pub name : List ℕ
-  pub is : IsNamedValue text name value
-  pub lower_is : lower ≡ lowercase name
-
-abbrev pub RefusesNamed : List ℕ → LineError → Type 0
-RefusesNamed text Refused = (name value : List ℕ) → IsNamedValue text name value → ⊥
-RefusesNamed text Memory = Unit {0}
-
--- METHOD TARGET
-pub record IsAsked (text method : List ℕ) (target : PlainTarget) : Type 0 where
-  pub uri : List ℕ
-  pub is : text ≡ method ++ (codes " " ++ uri)
-  pub method_is : IsToken method
-  pub uri_is : IsUriText uri target.scheme target.authority target.path_and_query
-
-abbrev pub RefusesAsked : List ℕ → LineError → Type 0
-RefusesAsked text Refused = (method : List ℕ) (target : PlainTarget) → IsAsked text method target → ⊥
-RefusesAsked text Memory = Unit {0}
 
 -- SEL N
 pub record IsLate (text : List ℕ) (which : Select) (rounds : ℕ) : Type 0 where

@@ -71,14 +71,22 @@ pub fn default_config(alloc: Global) -> Result<Config, Memory>
     ensures default { IfOk result (λ c. c ≡ the_default) }
     ensures fits { IfOk result Fits }
 {
-    Ok(Config {
+    let versions = vec![in alloc; 1]?;
+    Ok(default_with(versions))
+}
+
+/// The same but for the versions, which are these.
+pub(crate) fn default_with(versions: Vec<u32>) -> Config
+    ensures { result ≡ record the_default { versions = versions.items } }
+{
+    Config {
         max_requests: 4_096,
         max_field_section_size: 16_384,
         max_request_body: 1_048_576,
         max_response_body: 1_048_576,
         local_id_len: 8,
         first_id_len: 8,
-        versions: vec![in alloc; 1]?,
+        versions,
         version: 1,
         idle: Some(Span(30_000_000_000)),
         initial_rtt: Span(333_000_000),
@@ -95,5 +103,5 @@ pub fn default_config(alloc: Global) -> Result<Config, Memory>
         retry_token_lifetime: Span(1 << 62),
         min_reset_interval: Span(20_000_000),
         send_grease: true,
-    })
+    }
 }

@@ -1,6 +1,7 @@
 ghost use Rattle.std.specs.Prelude.{◌≡◌, ◌+◌, ◌*◌, ◌-◌, ◌^◌, ◌↔◌, min, sum_by, IsTrue};
 ghost use Rattle.qh_spec.specs.Size.{message_size, enough_rounds};
 ghost use Rattle.qh_spec.specs.Config.{Fits, FitSizes, FitIds, FitVersions, FitTimes, FitWindows, FitAttempts, Within, From};
+ghost use Rattle.qh_script.specs.Config.{FitsBesides};
 
 use crate::Config;
 use qh_service::Message;
@@ -9,7 +10,14 @@ use qh_service::Message;
 pub fn fits(config: &Config) -> bool
     ensures { IsTrue result ↔ Fits config.now }
 {
-    let sizes = sizes_fit(config) && ids_fit(config) && versions_fit(config);
+    fits_besides(config) && versions_fit(config)
+}
+
+/// Whether they fit but for the versions.
+pub(crate) fn fits_besides(config: &Config) -> bool
+    ensures { IsTrue result ↔ FitsBesides config.now }
+{
+    let sizes = sizes_fit(config) && ids_fit(config);
     sizes && times_fit(config) && windows_fit(config) && attempts_fit(config)
 }
 

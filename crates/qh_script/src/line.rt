@@ -1,8 +1,8 @@
-//! The lines of a script.
+//! The lines of a script. They are read where they lie, so it takes no memory.
 
-ghost use Rattle.std.specs.Prelude.{IfOk, IfErr};
-ghost use Rattle.qh_spec.specs.ScriptLine.{IsLine};
-ghost use Rattle.qh_script.specs.Line.{line_of, RefusesLine};
+ghost use Rattle.std.specs.Prelude.{MatchOption};
+ghost use Rattle.qh_spec.specs.ScriptLine.{Line as PlainLine, IsLine};
+ghost use Rattle.qh_script.specs.Line.{StandsFor};
 
 mod arguments;
 mod hex;
@@ -14,35 +14,23 @@ mod upsets;
 mod words;
 
 use arguments::read_argument;
-use http::Method;
-use http_header::{HeaderName, HeaderValue};
-use http_uri::Uri;
+pub(crate) use hex::read_hex;
 use keywords::keyword_of;
 pub(crate) use numbers::{NUMBER_END, read_below, read_number};
-use qh_spec::{Setting, Upset};
-use std::alloc::{AllocError, AllocFailed, Global};
+use qh_spec::{Select, Setting, Side};
 pub(crate) use words::split_first;
 
-/// What a line says.
-#[derive(Drop)]
-pub enum Line<'a> {
+/// What a line says. Texts are as they stand in it.
+#[derive(Clone, Copy)]
+pub(crate) enum Line<'a> {
     /// Nothing.
     Empty,
     /// A request begins.
-    Request {
-        method: Method,
-        uri: Uri,
-    },
+    Request { method: &'a [u8], uri: &'a [u8] },
     /// The last request has this field.
-    Field {
-        name: HeaderName,
-        value: HeaderValue,
-    },
+    Field { name: &'a [u8], value: &'a [u8] },
     /// The last request has this trailer.
-    Trailer {
-        name: HeaderName,
-        value: HeaderValue,
-    },
+    Trailer { name: &'a [u8], value: &'a [u8] },
     /// The last request has this body.
     Body(&'a [u8]),
     /// The last request has a body of so many bytes.
@@ -54,52 +42,32 @@ pub enum Line<'a> {
     /// No reserved frames, stream types and settings are sent.
     GreaseOff,
     /// The link does this.
-    Disturb(Upset),
+    Disturb(Disturbance<'a>),
 }
 
-/// Why a line wasn't taken.
-#[derive(Clone, Copy, PartialEq, Eq)]
-pub enum LineError {
-    /// It isn't of any form.
-    Refused,
-    Memory,
+/// What a line asks of the link, as `Upset` has it.
+#[derive(Clone, Copy)]
+pub(crate) enum Disturbance<'a> {
+    Lose(Select),
+    Twice(Select),
+    Late(Select, u64),
+    Fail(u64),
+    /// The bytes are in hexadecimal.
+    Forge {
+        round: u64,
+        side: Side,
+        hex: &'a [u8],
+    },
 }
 
-impl From<AllocError> for LineError {
-    ghost use Rattle.std.specs.Prelude.{◌≡◌};
-    ghost use Rattle.qh_script.specs.declared.line.LineError.TheVariants.{Memory};
-
-    ghost from_gives = { λ _ e. e ≡ Memory };
-
-    fn from(_: AllocError) -> LineError {
-        LineError::Memory
-    }
-}
-
-impl<T: Drop> From<AllocFailed<T>> for LineError {
-    ghost use Rattle.std.specs.Prelude.{◌≡◌};
-    ghost use Rattle.qh_script.specs.declared.line.LineError.TheVariants.{Memory};
-
-    ghost from_gives = { λ _ e. e ≡ Memory };
-
-    fn from(_: AllocFailed<T>) -> LineError {
-        LineError::Memory
-    }
-}
-
-/// What a line says, without its newline.
-pub fn read_line(alloc: Global, text: &[u8]) -> Result<Line<'_>, LineError>
-    ensures found { IfOk result (λ l. IsLine text.now (line_of l)) }
-    ensures refused { IfErr result (RefusesLine text.now) }
+/// What a line says, without its newline. None if it isn't of any form.
+pub(crate) fn read_line(text: &[u8]) -> Option<Line<'_>>
+    ensures { MatchOption result ((l : PlainLine) → IsLine text.now l → ⊥) (StandsFor text.now) }
 {
     if text.is_empty() {
-        return Ok(Line::Empty);
+        return Some(Line::Empty);
     }
-    let Some((word, behind)) = split_first(text) else {
-        return Err(LineError::Refused);
-    };
-    let Some(keyword) = keyword_of(word) else {
-        return Err(LineError::Refused);
-    };
-    read_argument(alloc, keyword, behind)
+    let (word, behind) = split_first(text)?;
+    let keyword = keyword_of(word)?;
+    read_argument(keyword, behind)
 }

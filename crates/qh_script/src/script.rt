@@ -1,16 +1,19 @@
 ghost use Rattle.std.specs.Prelude.{◌≡◌, ◌≤◌, length, IfOk, IfErr};
 ghost use Rattle.qh_spec.specs.Lines.{lines};
-ghost use Rattle.qh_spec.specs.Script.{empty_script, IsTaken, AreTaken, IsScript};
-ghost use Rattle.qh_script.specs.Script.{RefusesLines, RefusesScript};
+ghost use Rattle.qh_spec.specs.Script.{empty_script, max_script, IsTaken, AreTaken, IsScript};
+ghost use Rattle.qh_script.specs.Script.{RefusesKnown, RefusesLines, RefusesScript};
 
 mod apply;
 mod last;
 mod lines;
+mod outline;
+mod owned;
 mod settings;
 mod untaken;
 
 use crate::{Config, default_config, fits};
 pub use lines::cut_line;
+use outline::fault_of;
 use qh_base::Memory;
 use qh_service::Message;
 use qh_spec::Upset;
@@ -62,7 +65,8 @@ impl From<Memory> for ScriptError {
     }
 }
 
-/// What a script asks for.
+/// What a script asks for. If memory is wanting for it, the text is looked at again without any, so that a fault is
+/// answered in its place.
 pub fn read_script(alloc: Global, text: &[u8]) -> Result<Script, ScriptError>
     ensures script { IfOk result (IsScript text.now) }
     ensures refused { IfErr result (RefusesScript text.now) }
@@ -70,6 +74,18 @@ pub fn read_script(alloc: Global, text: &[u8]) -> Result<Script, ScriptError>
     if text.len() > MAX_SCRIPT {
         return Err(ScriptError::Refused(0));
     }
+    match make_script(alloc, text) {
+        Err(ScriptError::Memory) => Err(fault_of(alloc, text)),
+        answer => answer,
+    }
+}
+
+// The same, but that want of memory may stand for a fault.
+fn make_script(alloc: Global, text: &[u8]) -> Result<Script, ScriptError>
+    requires { length text.now ≤ max_script }
+    ensures script { IfOk result (IsScript text.now) }
+    ensures refused { IfErr result (RefusesKnown text.now) }
+{
     let mut script = Script::empty(alloc)?;
     let count = script.take_lines(alloc, text)?;
     if fits(&script.config) {

@@ -10,11 +10,11 @@ ghost use Rattle.qh_h3wire.specs.HeadReading.{RefusesLines};
 ghost use Rattle.qh_h3wire.specs.Kinds.{IsKind};
 
 use super::HeaderError;
-use super::grammar::{is_authority, is_path_input, is_scheme};
 use http::method::MethodError;
 use http::{Method, StatusCode};
 use http_header::{HeaderName, HeaderNameError, HeaderValue, HeaderValueError, MAX_KEYS};
 use http_uri::{Authority, PathAndQuery, Scheme, UriError};
+use qh_grammar::{is_authority, is_path_input, is_scheme};
 use qh_qpack::HeaderField;
 use std::alloc::Global;
 

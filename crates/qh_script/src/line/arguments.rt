@@ -1,88 +1,49 @@
 //! What a keyword and the text behind it say.
 
-ghost use Rattle.std.specs.Prelude.{◌≡◌, ◌+◌, ◌<◌, ◌≤◌, ◌^◌, IfOk, IfErr, MatchOption};
-ghost use Rattle.qh_spec.specs.ScriptLine.{Says, setting_bound};
-ghost use Rattle.qh_script.specs.Line.{line_of, keyword_word, Refuses};
-ghost use Rattle.qh_script.specs.declared.line.keywords.Keyword.TheVariants.{Request, Field, Trailer, Fill, Set, Retry, Grease};
+ghost use Rattle.std.specs.Prelude.{◌≡◌, MatchOption};
+ghost use Rattle.qh_spec.specs.ScriptLine.{Line as PlainLine, Says, setting_bound};
+ghost use Rattle.qh_script.specs.Line.{keyword_word, Means, Tells};
+ghost use Rattle.qh_script.specs.declared.line.keywords.Keyword.TheVariants.{Fill, Set, Retry, Grease, Disturb};
 
-use super::keywords::Keyword;
-use super::messages::{read_asked, read_named_value};
+use super::keywords::{Keyword, UpsetKind};
+use super::messages::{read_field, read_request, read_trailer};
 use super::numbers::{NUMBER_END, read_below};
 use super::upsets::read_upset;
-use crate::line::{Line, LineError};
+use crate::line::Line;
 use qh_spec::Setting;
-use std::alloc::Global;
 
 /// The greatest length of a body that is filled.
 const MAX_FILL: u64 = 1 << 30;
 
 /// What the text behind a keyword says.
-pub(crate) fn read_argument(
-    alloc: Global,
-    keyword: Keyword,
-    text: &[u8],
-) -> Result<Line<'_>, LineError>
-    ensures found { IfOk result (λ l. Says (keyword_word keyword) text.now (line_of l)) }
-    ensures refused { IfErr result (Refuses (Says (keyword_word keyword) text.now)) }
+pub(crate) fn read_argument(keyword: Keyword, text: &[u8]) -> Option<Line<'_>>
+    ensures { MatchOption result ((l : PlainLine) → Says (keyword_word keyword) text.now l → ⊥) (Tells Means (Says (keyword_word keyword) text.now)) }
 {
     match keyword {
-        Keyword::Request => read_request(alloc, text),
-        Keyword::Field => read_field(alloc, text),
-        Keyword::Trailer => read_trailer(alloc, text),
-        Keyword::Body => Ok(Line::Body(text)),
+        Keyword::Request => read_request(text),
+        Keyword::Field => read_field(text),
+        Keyword::Trailer => read_trailer(text),
+        Keyword::Body => Some(Line::Body(text)),
         Keyword::Fill => read_fill(text),
         Keyword::Set(setting) => read_setting(setting, text),
         Keyword::Retry => read_retry(text),
         Keyword::Grease => read_grease(text),
-        Keyword::Disturb(kind) => {
-            let upset = read_upset(alloc, kind, text)?;
-            Ok(Line::Disturb(upset))
-        }
+        Keyword::Disturb(kind) => read_disturbance(kind, text),
     }
 }
 
-fn read_request(alloc: Global, text: &[u8]) -> Result<Line<'_>, LineError>
-    ensures found { IfOk result (λ l. Says (keyword_word Request) text.now (line_of l)) }
-    ensures refused { IfErr result (Refuses (Says (keyword_word Request) text.now)) }
+fn read_fill(text: &[u8]) -> Option<Line<'_>>
+    ensures { MatchOption result ((l : PlainLine) → Says (keyword_word Fill) text.now l → ⊥) (Tells Means (Says (keyword_word Fill) text.now)) }
 {
-    let (method, uri) = read_asked(alloc, text)?;
-    Ok(Line::Request { method, uri })
+    let len = read_below(text, MAX_FILL + 1)?;
+    Some(Line::Fill(len))
 }
 
-fn read_field(alloc: Global, text: &[u8]) -> Result<Line<'_>, LineError>
-    ensures found { IfOk result (λ l. Says (keyword_word Field) text.now (line_of l)) }
-    ensures refused { IfErr result (Refuses (Says (keyword_word Field) text.now)) }
+fn read_setting(setting: Setting, text: &[u8]) -> Option<Line<'_>>
+    ensures { MatchOption result ((l : PlainLine) → Says (keyword_word (Set setting)) text.now l → ⊥) (Tells Means (Says (keyword_word (Set setting)) text.now)) }
 {
-    let (name, value) = read_named_value(alloc, text)?;
-    Ok(Line::Field { name, value })
-}
-
-fn read_trailer(alloc: Global, text: &[u8]) -> Result<Line<'_>, LineError>
-    ensures found { IfOk result (λ l. Says (keyword_word Trailer) text.now (line_of l)) }
-    ensures refused { IfErr result (Refuses (Says (keyword_word Trailer) text.now)) }
-{
-    let (name, value) = read_named_value(alloc, text)?;
-    Ok(Line::Trailer { name, value })
-}
-
-fn read_fill(text: &[u8]) -> Result<Line<'_>, LineError>
-    ensures found { IfOk result (λ l. Says (keyword_word Fill) text.now (line_of l)) }
-    ensures refused { IfErr result (Refuses (Says (keyword_word Fill) text.now)) }
-{
-    match read_below(text, MAX_FILL + 1) {
-        Some(len) => Ok(Line::Fill(len)),
-        None => Err(LineError::Refused),
-    }
-}
-
-fn read_setting(setting: Setting, text: &[u8]) -> Result<Line<'_>, LineError>
-    ensures found { IfOk result (λ l. Says (keyword_word (Set setting)) text.now (line_of l)) }
-    ensures refused { IfErr result (Refuses (Says (keyword_word (Set setting)) text.now)) }
-{
-    match read_below(text, number_end(setting)) {
-        Some(number) => Ok(Line::Set(setting, number)),
-        None => Err(LineError::Refused),
-    }
+    let number = read_below(text, number_end(setting))?;
+    Some(Line::Set(setting, number))
 }
 
 // What the numbers of a setting lie below.
@@ -96,24 +57,29 @@ fn number_end(setting: Setting) -> u64
     }
 }
 
-fn read_retry(text: &[u8]) -> Result<Line<'_>, LineError>
-    ensures found { IfOk result (λ l. Says (keyword_word Retry) text.now (line_of l)) }
-    ensures refused { IfErr result (Refuses (Says (keyword_word Retry) text.now)) }
+fn read_retry(text: &[u8]) -> Option<Line<'_>>
+    ensures { MatchOption result ((l : PlainLine) → Says (keyword_word Retry) text.now l → ⊥) (Tells Means (Says (keyword_word Retry) text.now)) }
 {
     if text == b"on".as_slice() {
-        Ok(Line::RetryOn)
+        Some(Line::RetryOn)
     } else {
-        Err(LineError::Refused)
+        None
     }
 }
 
-fn read_grease(text: &[u8]) -> Result<Line<'_>, LineError>
-    ensures found { IfOk result (λ l. Says (keyword_word Grease) text.now (line_of l)) }
-    ensures refused { IfErr result (Refuses (Says (keyword_word Grease) text.now)) }
+fn read_grease(text: &[u8]) -> Option<Line<'_>>
+    ensures { MatchOption result ((l : PlainLine) → Says (keyword_word Grease) text.now l → ⊥) (Tells Means (Says (keyword_word Grease) text.now)) }
 {
     if text == b"off".as_slice() {
-        Ok(Line::GreaseOff)
+        Some(Line::GreaseOff)
     } else {
-        Err(LineError::Refused)
+        None
     }
+}
+
+fn read_disturbance(kind: UpsetKind, text: &[u8]) -> Option<Line<'_>>
+    ensures { MatchOption result ((l : PlainLine) → Says (keyword_word (Disturb kind)) text.now l → ⊥) (Tells Means (Says (keyword_word (Disturb kind)) text.now)) }
+{
+    let disturbance = read_upset(kind, text)?;
+    Some(Line::Disturb(disturbance))
 }

@@ -1,23 +1,37 @@
 //! Bytes that are written in hexadecimal.
 
-ghost use Rattle.std.specs.Prelude.{◌≡◌, ℕ, List, IfOk, IfErr, MatchOption};
+ghost use Rattle.std.specs.Prelude.{◌≡◌, ◌↔◌, ℕ, IsTrue, IfOk, MatchOption};
 ghost use Rattle.qh_spec.specs.Lines.{IsHex, IsHexDigit};
-ghost use Rattle.qh_script.specs.Line.{Refuses, IsHexPair, IsNoHexPair};
+ghost use Rattle.qh_script.specs.Line.{HasBytes, IsHexPair, IsNoHexPair};
 
-use crate::line::LineError;
 use bytes::Bytes;
+use qh_base::Memory;
 use std::alloc::Global;
 
-/// The bytes of a text that has two digits for each.
-pub(crate) fn read_hex(alloc: Global, text: &[u8]) -> Result<Bytes, LineError>
-    ensures found { IfOk result (IsHex text.now) }
-    ensures refused { IfErr result (Refuses (IsHex text.now)) }
+/// Whether the text has two digits for each of some bytes.
+pub(crate) fn is_hex(text: &[u8]) -> bool
+    ensures { IsTrue result ↔ HasBytes text.now }
+{
+    let mut rest = text;
+    while !rest.is_empty() {
+        let Some(_) = read_byte(rest) else {
+            return false;
+        };
+        rest = &rest[2..];
+    }
+    true
+}
+
+/// The bytes of such a text.
+pub(crate) fn read_hex(alloc: Global, text: &[u8]) -> Result<Bytes, Memory>
+    requires { HasBytes text.now }
+    ensures { IfOk result (IsHex text.now) }
 {
     let mut bytes = Vec::new(alloc);
     let mut rest = text;
     while !rest.is_empty() {
         let Some(byte) = read_byte(rest) else {
-            return Err(LineError::Refused);
+            unreachable!()
         };
         bytes.push(byte)?;
         rest = &rest[2..];

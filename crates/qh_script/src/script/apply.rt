@@ -1,19 +1,22 @@
 //! What a line makes of a script.
 
 ghost use Rattle.std.specs.Prelude.{◌≡◌, Some, None, OnOk, IfErr};
+ghost use Rattle.http_header.specs.Token.{IsToken, lowercase};
+ghost use Rattle.qh_grammar.specs.Uri.{IsUri};
 ghost use Rattle.qh_spec.specs.Message.{target_of};
 ghost use Rattle.qh_spec.specs.Script.{Script as PlainScript, applied, set_number, IsTaken};
 ghost use Rattle.qh_spec.specs.ScriptLine as says;
-ghost use Rattle.qh_script.specs.Line.{line_of};
-ghost use Rattle.qh_script.specs.Script.{WhenRefused};
+ghost use Rattle.qh_script.specs.declared.line.Line.TheVariants.{Request, Disturb};
+ghost use Rattle.qh_script.specs.Line.{HasMeaning, HasUpset, IsNamed};
+ghost use Rattle.qh_script.specs.Script.{Makes, MakesNone, WhenRefused};
 
 use super::Script;
 use super::last::{add_field, add_trailer, fill_body, set_body};
+use super::owned::{method_of, name_of, upset_of, uri_of, value_of};
 use super::settings::{set_config, set_rounds, set_step};
 use super::untaken::Untaken;
-use crate::line::{Line, LineError, read_line};
+use crate::line::{Disturbance, Line, read_line};
 use http::Method;
-use http_header::{HeaderName, HeaderValue};
 use http_uri::Uri;
 use qh_base::Memory;
 use qh_service::Message;
@@ -26,56 +29,68 @@ impl Script {
         ensures taken { OnOk result (IsTaken text.now self.old self.new) }
         ensures refused { IfErr result (λ e. WhenRefused e ((t : PlainScript) → IsTaken text.now self.old t → ⊥)) }
     {
-        match read_line(alloc, text) {
-            Ok(line) => self.apply(alloc, line),
-            Err(LineError::Refused) => Err(Untaken::Refused),
-            Err(LineError::Memory) => Err(Untaken::Memory),
+        match read_line(text) {
+            Some(line) => self.apply(alloc, line),
+            None => Err(Untaken::Refused),
         }
     }
 
     // What the line makes of it.
     fn apply(&mut self, alloc: Global, line: Line) -> Result<(), Untaken>
-        ensures taken { OnOk result (applied (line_of line.entry) self.old ≡ Some self.new) }
-        ensures refused { IfErr result (λ e. WhenRefused e (applied (line_of line.entry) self.old ≡ None)) }
+        requires { HasMeaning line }
+        ensures taken { OnOk result (Makes line.entry self.old self.new) }
+        ensures refused { IfErr result (λ e. WhenRefused e (MakesNone line.entry self.old)) }
     {
         match line {
             Line::Empty => {}
             Line::Request { method, uri } => self.add_request(alloc, method, uri)?,
-            Line::Field { name, value } => return self.add_field(name, value),
+            Line::Field { name, value } => return self.add_field(alloc, name, value),
             Line::Trailer { name, value } => return self.add_trailer(alloc, name, value),
             Line::Body(text) => return self.set_body(text),
             Line::Fill(n) => return self.fill_body(alloc, n),
             Line::Set(setting, n) => self.set(setting, n),
             Line::RetryOn => self.config.retry = true,
             Line::GreaseOff => self.config.send_grease = false,
-            Line::Disturb(upset) => self.disturb(upset)?,
+            Line::Disturb(disturbance) => self.disturb(alloc, disturbance)?,
         }
         Ok(())
     }
 
-    fn add_request(&mut self, alloc: Global, method: Method, uri: Uri) -> Result<(), Memory>
+    fn add_request(&mut self, alloc: Global, method: &[u8], uri: &[u8]) -> Result<(), Memory>
+        requires method { IsToken method.now }
+        requires uri { IsUri uri.now }
+        ensures { OnOk result (Makes (Request method.entry uri.entry) self.old self.new) }
+    {
+        let method = method_of(alloc, method)?;
+        let uri = uri_of(alloc, uri)?;
+        self.push_request(alloc, method, uri)?;
+        Ok(())
+    }
+
+    fn push_request(&mut self, alloc: Global, method: Method, uri: Uri) -> Result<(), Memory>
         ensures { OnOk result (applied (says.Request method (target_of uri)) self.old ≡ Some self.new) }
     {
         self.requests.push(Message::request(alloc, method, uri)?)?;
         Ok(())
     }
 
-    fn add_field(&mut self, name: HeaderName, value: HeaderValue) -> Result<(), Untaken>
-        ensures taken { OnOk result (applied (says.Field name value.bytes) self.old ≡ Some self.new) }
-        ensures refused { IfErr result (λ e. WhenRefused e (applied (says.Field name value.bytes) self.old ≡ None)) }
+    fn add_field(&mut self, alloc: Global, name: &[u8], value: &[u8]) -> Result<(), Untaken>
+        requires { IsNamed name.now value.now }
+        ensures taken { OnOk result (applied (says.Field (lowercase name.now) value.now) self.old ≡ Some self.new) }
+        ensures refused { IfErr result (λ e. WhenRefused e (applied (says.Field (lowercase name.now) value.now) self.old ≡ None)) }
     {
+        let name = name_of(alloc, name)?;
+        let value = value_of(alloc, value)?;
         add_field(&mut self.requests, name, value)
     }
 
-    fn add_trailer(
-        &mut self,
-        alloc: Global,
-        name: HeaderName,
-        value: HeaderValue,
-    ) -> Result<(), Untaken>
-        ensures taken { OnOk result (applied (says.Trailer name value.bytes) self.old ≡ Some self.new) }
-        ensures refused { IfErr result (λ e. WhenRefused e (applied (says.Trailer name value.bytes) self.old ≡ None)) }
+    fn add_trailer(&mut self, alloc: Global, name: &[u8], value: &[u8]) -> Result<(), Untaken>
+        requires { IsNamed name.now value.now }
+        ensures taken { OnOk result (applied (says.Trailer (lowercase name.now) value.now) self.old ≡ Some self.new) }
+        ensures refused { IfErr result (λ e. WhenRefused e (applied (says.Trailer (lowercase name.now) value.now) self.old ≡ None)) }
     {
+        let name = name_of(alloc, name)?;
+        let value = value_of(alloc, value)?;
         add_trailer(alloc, &mut self.requests, name, value)
     }
 
@@ -101,7 +116,16 @@ impl Script {
         self.step = set_step(self.step, setting, n);
     }
 
-    fn disturb(&mut self, upset: Upset) -> Result<(), Memory>
+    fn disturb(&mut self, alloc: Global, disturbance: Disturbance) -> Result<(), Memory>
+        requires { HasUpset disturbance }
+        ensures { OnOk result (Makes (Disturb disturbance.entry) self.old self.new) }
+    {
+        let upset = upset_of(alloc, disturbance)?;
+        self.push_upset(upset)?;
+        Ok(())
+    }
+
+    fn push_upset(&mut self, upset: Upset) -> Result<(), Memory>
         ensures { OnOk result (applied (says.Disturb upset) self.old ≡ Some self.new) }
     {
         self.schedule.push(upset)?;

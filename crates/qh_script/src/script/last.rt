@@ -12,8 +12,8 @@ use qh_base::Memory;
 use qh_service::Message;
 use std::alloc::Global;
 
-// How many fields and trailers a request takes.
-const MAX_FIELDS: usize = 2_000;
+/// How many fields and trailers a request takes.
+pub(super) const MAX_FIELDS: usize = 2_000;
 
 /// A field more in the last request.
 pub(super) fn add_field(

@@ -1,5 +1,5 @@
 use qh_base::Memory;
-use std::alloc::{AllocError, AllocFailed};
+use std::alloc::AllocFailed;
 
 /// Why a line isn't taken.
 #[derive(Clone, Copy, PartialEq, Eq)]
@@ -16,17 +16,6 @@ impl From<Memory> for Untaken {
     ghost from_gives = { λ _ e. e ≡ variants.Memory };
 
     fn from(_: Memory) -> Untaken {
-        Untaken::Memory
-    }
-}
-
-impl From<AllocError> for Untaken {
-    ghost use Rattle.std.specs.Prelude.{◌≡◌};
-    ghost use Rattle.qh_script.specs.declared.script.untaken.Untaken.TheVariants as variants;
-
-    ghost from_gives = { λ _ e. e ≡ variants.Memory };
-
-    fn from(_: AllocError) -> Untaken {
         Untaken::Memory
     }
 }

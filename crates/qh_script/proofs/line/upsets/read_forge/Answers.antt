@@ -1,19 +1,22 @@
-use Rattle.std.proofs.Common.{◌≡◌, false, true, refl}
-use Rattle.std.proofs.lemmas.Result.{err_from_is_err_and}
-use Rattle.qh_script.proofs.Upsets.{no_forge_hex, no_forge_length, is_forged}
+use Rattle.std.proofs.Common.{refl}
+use Rattle.qh_spec.specs.declared.link.Upset.TheVariants as does
+use Rattle.qh_script.proofs.Refusals.{refused}
+use Rattle.qh_script.proofs.Upsets.{no_forged, no_forge_hex, forge_only}
 use Rattle.qh_script.proofs.line.upsets.read_forge.Goals as goal
 
-pub returns-in_err-bytes-clause-refused : goal.returns-in_err-bytes-clause-refused
-returns-in_err-bytes-clause-refused c =
-    let p = err_from_is_err_and c.from_residual.result c.from_residual.ensures.1 in
-    rw (p.1, p.2) (no_forge_hex c.args.text.now c.in-Some.round c.in-Some.side c.in-Some.hex.now c.in-Some.ensures c.in_err-bytes.field-0.0 c.in_err-bytes.ensures.refused)
+pub returns-in_err-round : goal.returns-in_err-round
+returns-in_err-round c = rw (c.from_residual.ensures) (no_forged c.args.text.now c.in_err-round.ensures)
 
-pub returns-then-not-is_forgeable-clause-refused : goal.returns-then-not-is_forgeable-clause-refused
-returns-then-not-is_forgeable-clause-refused c =
-    no_forge_length c.args.text.now c.in-Some.round c.in-Some.side c.in-Some.hex.now c.in_ok-bytes.bytes c.in-Some.ensures c.in_ok-bytes.ensures.found
-    (λ n. let t : false ≡ true = c.if-not-is_forgeable.ensures.1 (rw (c.len.ensures.value) n) in cc)
+pub returns-then-not-is_forgeable : goal.returns-then-not-is_forgeable
+returns-then-not-is_forgeable c =
+    no_forge_hex c.args.text.now c.in_ok-round.round c.in_ok-round.side c.in_ok-round.hex.now c.in_ok-round.ensures
+    (λ n. refused (c.is_forgeable.ensures.1 n) c.if-not-is_forgeable.true)
 
-pub returns-clause-found : goal.returns-clause-found
-returns-clause-found c =
-    is_forged c.args.text.now c.in-Some.round c.in-Some.side c.in-Some.hex.now c.in_ok-bytes.bytes c.in-Some.ensures c.in_ok-bytes.ensures.found
-    (rw (c.len.ensures.value) at (c.if-not-is_forgeable.ensures.0 refl))
+pub returns : goal.returns
+returns c =
+    let n = c.is_forgeable.ensures.0 c.if-not-is_forgeable.false in
+    record {
+      meant = does.Forge c.in_ok-round.round c.in_ok-round.side n.0;
+      is = (n.0, n.1, refl);
+      only = forge_only c.args.text.now c.in_ok-round.round c.in_ok-round.side c.in_ok-round.hex.now c.in_ok-round.ensures;
+    }

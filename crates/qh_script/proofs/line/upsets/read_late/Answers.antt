@@ -1,17 +1,17 @@
-use Rattle.qh_script.proofs.Upsets.{no_late, no_late_select, no_late_rounds, no_late_many}
+use Rattle.std.proofs.Common.{refl}
+use Rattle.qh_spec.specs.declared.link.Upset.TheVariants as does
+use Rattle.qh_spec.specs.ScriptLine.{late}
+use Rattle.qh_script.proofs.Upsets.{no_late_upset}
 use Rattle.qh_script.proofs.line.upsets.read_late.Goals as goal
 
-pub returns-in_err-select : goal.returns-in_err-select
-returns-in_err-select c = rw (c.from_residual.ensures) (no_late c.args.text.now c.in_err-select.ensures)
-
 pub returns-in_err-which : goal.returns-in_err-which
-returns-in_err-which c =
-    rw (c.from_residual-in_err-which.ensures) (no_late_select c.args.text.now c.in_ok-select.select.now c.in_ok-select.rounds.now c.in_ok-select.ensures c.in_err-which.ensures)
+returns-in_err-which c = rw (c.from_residual.ensures) (no_late_upset c.args.text.now c.in_err-which.ensures)
 
-pub returns-in_err-rounds : goal.returns-in_err-rounds
-returns-in_err-rounds c =
-    rw (c.from_residual-in_err-rounds.ensures) (no_late_rounds c.args.text.now c.in_ok-select.select.now c.in_ok-select.rounds.now c.in_ok-select.ensures c.in_err-rounds.ensures)
-
-pub returns-then-rounds-gt-MAX_ROUNDS : goal.returns-then-rounds-gt-MAX_ROUNDS
-returns-then-rounds-gt-MAX_ROUNDS c =
-    no_late_many c.args.text.now c.in_ok-select.select.now c.in_ok-select.rounds.now c.in_ok-rounds.rounds c.in_ok-select.ensures c.in_ok-rounds.ensures.0 c.if-rounds-gt-MAX_ROUNDS.true
+pub returns : goal.returns
+returns c =
+    let l = c.in_ok-which.ensures in
+    record {
+      meant = does.Late c.in_ok-which.which c.in_ok-which.rounds;
+      is = refl;
+      only = λ u e. rw e (late l.select c.in_ok-which.which c.in_ok-which.rounds refl l.is l.which_is l.from l.to);
+    }

@@ -1,0 +1,2 @@
+pub mod Authority
+pub mod Uri
