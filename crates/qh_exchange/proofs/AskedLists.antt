@@ -1,5 +1,5 @@
 -- Lists of requests that may be asked, and those that may not.
-use Rattle.std.proofs.Common.{◌≡◌, ◌≢◌, inl, inr, ℕ, zero, suc, ◌==◌, true, false, List, [], ◌∷◌, length, Some, None, Err, refl, sym, ap, ◌∙◌, subst, arith}
+use Rattle.std.proofs.Common.{◌≡◌, ◌≢◌, ◌⊎◌, inl, inr, ℕ, zero, suc, ◌==◌, true, false, List, [], ◌∷◌, length, Some, None, Err, refl, sym, ap, ◌∙◌, subst, arith}
 use Rattle.std.specs.Prelude.{codes, slice_get}
 use Rattle.std.proofs.lemmas.Bool.{cases_eq, eq-eqb, ne_eqb}
 use Rattle.qh_base.specs.declared.connection_error.ConnectionError.{ConnectionError}
@@ -14,7 +14,7 @@ use Rattle.qh_spec.specs.Validity.{IsValidHead, IsValidList, IsValidRequest}
 use Rattle.qh_exchange.specs.declared.error.ExchangeError.{ExchangeError}
 use Rattle.qh_exchange.specs.declared.error.ExchangeError.TheVariants as error
 use Rattle.qh_exchange.specs.Clock.{IsClocked}
-use Rattle.qh_exchange.specs.Exchange.{IfInvalid, IfOutOfRounds, IfProtocol, IfTimedOut, IsInvalidAnswer, IsListError}
+use Rattle.qh_exchange.specs.Exchange.{IfInvalid, IfMemory, IfOutOfRounds, IfProtocol, IfTimedOut, IsInvalidAnswer, IsListError}
 use Rattle.qh_exchange.specs.Pair.{PairState, Running}
 use Rattle.qh_exchange.specs.Rounds.{IsAsked}
 use Rattle.qh_exchange.specs.Turn.{is_link}
@@ -86,13 +86,18 @@ invalid_still T U error.OutOfRounds P x y h = tt
 invalid_still T U (error.Invalid index) P x y h = (h, refl, refl)
 invalid_still T U (error.Protocol z) P x y h = tt
 
-pub is_invalid : (U : Type 0) (e : ExchangeError) → IsListError e → IsInvalidAnswer {T = U} (Err e)
-is_invalid U error.Link h = h
-is_invalid U error.Memory h = tt
-is_invalid U error.TimedOut h = h
-is_invalid U error.OutOfRounds h = h
-is_invalid U (error.Invalid index) h = tt
-is_invalid U (error.Protocol x) h = h
+undecided : (Valid Undecided : Type 0) → (Valid → ⊥) → Valid ⊎ Undecided → Undecided
+undecided Valid Undecided bad (inl is_valid) = absurd (bad is_valid)
+undecided Valid Undecided bad (inr is_undecided) = is_undecided
+
+pub is_invalid : (T U : Type 0) (e : ExchangeError) (Valid Undecided : Type 0) → IsListError e → IfMemory {T = T} (Err e) (Valid ⊎ Undecided) → (Valid → ⊥)
+    → IsInvalidAnswer {T = U} (Err e) Undecided
+is_invalid T U error.Link Valid Undecided h m bad = h
+is_invalid T U error.Memory Valid Undecided h m bad = undecided Valid Undecided bad m
+is_invalid T U error.TimedOut Valid Undecided h m bad = h
+is_invalid T U error.OutOfRounds Valid Undecided h m bad = h
+is_invalid T U (error.Invalid index) Valid Undecided h m bad = tt
+is_invalid T U (error.Protocol x) Valid Undecided h m bad = h
 
 pub list_not_out : (U : Type 0) (e : ExchangeError) (P : Type 0) → IsListError e → IfOutOfRounds {T = U} (Err e) P
 list_not_out U error.Link P h = tt

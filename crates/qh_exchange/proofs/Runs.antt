@@ -5,6 +5,7 @@ use Rattle.std.proofs.lemmas.Result.{IfOk-weaker}
 use Rattle.qh_base.specs.declared.connection_error.ConnectionError.{ConnectionError}
 use Rattle.qh_base.specs.declared.memory.Memory.{Memory as OutOfMemory}
 use Rattle.qh_link.specs.ScriptLink.{PlainLink, plan_of}
+use Rattle.qh_plain.specs.Undecided.{IsUndecidedList}
 use Rattle.qh_roles.specs.Server.{GrewByAnswers}
 use Rattle.qh_spec.specs.declared.link.Event.{Event}
 use Rattle.qh_spec.specs.declared.link.Upset.{Upset}
@@ -43,13 +44,16 @@ IsFaultOf config requests index = IsFaultIndex config.max_requests config.max_fi
 abbrev IsValidAt : PlainConfig → List PlainMessage → Type 0
 IsValidAt config requests = IsValidList config.max_requests config.max_field_section_size config.max_request_body requests
 
+abbrev IsUndecidedAt : PlainConfig → List PlainMessage → Type 0
+IsUndecidedAt config requests = IsUndecidedList config.max_requests config.max_field_section_size config.max_request_body requests
+
 -- what the clauses of `exchange` say of a fresh link in memory and of a service that echoes and had served nothing
 pub record Exchanged {V : Type 0} (items : V → List PlainMessage) (config : PlainConfig) (requests : List PlainMessage) (rounds : ℕ) (new : PlainLink) (after : List PlainEntry) (r : Result V ExchangeError) : Type 0 where
   pub answered : IsHonest new.events → IfOk r (λ v. AnsweredOnce config.local_id_len new.events requests [] after (items v))
   pub once : IsHonest new.events → ServedOnce config.local_id_len new.events requests [] after
   pub within : KeepWithin config.local_id_len (conn_config config) new.events
   pub invalid : IfInvalid r (λ index. IsFaultOf config requests index × (new.events ≡ []) × (after ≡ []))
-  pub not_valid : (IsValidAt config requests → ⊥) → IsInvalidAnswer r × (new.events ≡ []) × (after ≡ [])
+  pub not_valid : (IsValidAt config requests → ⊥) → IsInvalidAnswer r (IsUndecidedAt config requests) × (new.events ≡ []) × (after ≡ [])
   pub answers : GrewByAnswers (λ q a. a ≡ echo config.max_response_body q) [] after
   pub cause : CountsFaults 0 new.faults (has_link_failed r)
   pub timed_out : IfTimedOut r (WasIdle (conn_config config).idle [] (moments_of new.events))
@@ -67,7 +71,7 @@ pub record Clauses {V : Type 0} (items : V → List PlainMessage) (config : Plai
   pub within : (earlier more : List Event) → Some old.events ≡ Some earlier → Some new.events ≡ Some (earlier ++ more)
       → KeepWithin config.local_id_len (conn_config config) more
   pub invalid : IfInvalid r (λ index. IsFaultOf config requests index × (new ≡ old) × (after ≡ before))
-  pub not_valid : (IsValidAt config requests → ⊥) → IsInvalidAnswer r × (new ≡ old) × (after ≡ before)
+  pub not_valid : (IsValidAt config requests → ⊥) → IsInvalidAnswer r (IsUndecidedAt config requests) × (new ≡ old) × (after ≡ before)
   pub answers : GrewByAnswers (λ q a. a ≡ echo config.max_response_body q) before after
   pub cause : CountsFaults old.faults new.faults (has_link_failed r)
   pub timed_out : IfTimedOut r (WasIdle (conn_config config).idle (moments_of old.events) (moments_of new.events))
@@ -151,13 +155,13 @@ fault_as V W OutOfRounds P h = tt
 fault_as V W (Protocol x) P h = tt
 fault_as V W Memory P h = tt
 
-invalid_as : (V W : Type 0) (e : ExchangeError) → IsInvalidAnswer {T = V} (Err e) → IsInvalidAnswer {T = W} (Err e)
-invalid_as V W (Invalid index) h = tt
-invalid_as V W Link h = absurd h
-invalid_as V W TimedOut h = absurd h
-invalid_as V W OutOfRounds h = absurd h
-invalid_as V W (Protocol x) h = absurd h
-invalid_as V W Memory h = tt
+invalid_as : (V W : Type 0) (e : ExchangeError) (P : Type 0) → IsInvalidAnswer {T = V} (Err e) P → IsInvalidAnswer {T = W} (Err e) P
+invalid_as V W (Invalid index) P h = tt
+invalid_as V W Link P h = absurd h
+invalid_as V W TimedOut P h = absurd h
+invalid_as V W OutOfRounds P h = absurd h
+invalid_as V W (Protocol x) P h = absurd h
+invalid_as V W Memory P h = h
 
 -- what a record that grew from nothing has
 grown_echoes : (limit : ℕ) (after : List PlainEntry) → GrewByAnswers (λ q a. a ≡ echo limit q) [] after → AreEchoes limit after
@@ -196,7 +200,7 @@ ran_err {V} items s new after x known step schedule honest = record {
   kept_within = known.within;
   cause = known.cause;
   invalid = fault_as V (List PlainMessage) x _ known.invalid;
-  not_valid = λ n. let a = known.not_valid n in (invalid_as V (List PlainMessage) x a.0, a.1, a.2);
+  not_valid = λ n. let a = known.not_valid n in (invalid_as V (List PlainMessage) x _ a.0, a.1, a.2);
   timed_out = time_as V (List PlainMessage) x _ known.timed_out;
   fair = λ u. fair_again V (List PlainMessage) s.config.local_id_len (conn_config s.config).idle new.events x (known.fair (honest u));
   lost = loss_as V (List PlainMessage) x _ known.lost;

@@ -25,11 +25,11 @@ abbrev pub IfMemory : {T : Type 0} → Result T ExchangeError → Type 0 → Typ
 IfMemory (Err Memory) P = P
 IfMemory _ P = Unit {0}
 
--- the list isn't valid, or there was no memory to find that
-abbrev pub IsInvalidAnswer : {T : Type 0} → Result T ExchangeError → Type 0
-IsInvalidAnswer (Err (Invalid index)) = Unit {0}
-IsInvalidAnswer (Err Memory) = Unit {0}
-IsInvalidAnswer _ = ⊥
+-- the list isn't valid; or there was no memory to tell, and the fact holds
+abbrev pub IsInvalidAnswer : {T : Type 0} → Result T ExchangeError → Type 0 → Type 0
+IsInvalidAnswer (Err (Invalid index)) P = Unit {0}
+IsInvalidAnswer (Err Memory) P = P
+IsInvalidAnswer _ P = ⊥
 
 -- the errors of a list that may not be asked
 abbrev pub IsListError : ExchangeError → Type 0

@@ -17,6 +17,7 @@ use Rattle.qh_spec.specs.Validity.{IsFaultIndex, IsValidList}
 use Rattle.qh_spec.specs.Words.{Command, Exchange, Tokens, IsCommand, AreUnknown}
 use Rattle.qh_base.specs.declared.connection_error.ConnectionError.{ConnectionError}
 use Rattle.qh_link.specs.ScriptLink.{PlainLink}
+use Rattle.qh_plain.specs.Undecided.{IsUndecidedList}
 use Rattle.qh_script.specs.Report.{report_by}
 use Rattle.qh_exchange.specs.declared.error.ExchangeError.{ExchangeError}
 use Rattle.qh_exchange.specs.declared.error.ExchangeError.TheVariants.{Invalid, Link, TimedOut, OutOfRounds, Protocol, Memory}
@@ -71,7 +72,8 @@ pub record HasRun (s : Script) (link : PlainLink) (served : List PlainEntry) (re
   -- why it failed
   pub cause : CountsFaults 0 link.faults (has_link_failed result)
   pub invalid : IfInvalid result (λ index. IsFaultIndex s.config.max_requests s.config.max_field_section_size s.config.max_request_body s.requests index × (link.events ≡ []) × (served ≡ []))
-  pub not_valid : (IsValidList s.config.max_requests s.config.max_field_section_size s.config.max_request_body s.requests → ⊥) → IsInvalidAnswer result × (link.events ≡ []) × (served ≡ [])
+  pub not_valid : (IsValidList s.config.max_requests s.config.max_field_section_size s.config.max_request_body s.requests → ⊥) → IsInvalidAnswer result (IsUndecidedList s.config.max_requests s.config.max_field_section_size s.config.max_request_body s.requests)
+      × (link.events ≡ []) × (served ≡ [])
   pub timed_out : IfTimedOut result (WasIdle (conn_config s.config).idle [] (moments_of link.events))
   pub fair : IsUnforged s.schedule → EndsFairly s.config.local_id_len (conn_config s.config).idle link.events result
   pub lost : IfProtocol result (WasLost s.requests (Some []) (Some link.events) [] served)

@@ -1,11 +1,12 @@
-ghost use Rattle.std.specs.Prelude.{◌≡◌, ◌≢◌, ◌<◌, ◌^◌, ◌++◌, [], ℕ, false, List, Some, Ok, Err, length, map, IfOk, IfErr, IsOk};
+ghost use Rattle.std.specs.Prelude.{◌≡◌, ◌≢◌, ◌⊎◌, ◌<◌, ◌^◌, ◌++◌, [], ℕ, false, List, Some, Ok, Err, length, map, IfOk, IfErr, IsOk};
+ghost use Rattle.qh_plain.specs.Undecided.{IsUndecidedList};
 ghost use Rattle.qh_spec.specs.declared.link.Event.{Event};
 ghost use Rattle.qh_spec.specs.Config.{Fits};
 ghost use Rattle.qh_spec.specs.Fault.{CountsFaults};
 ghost use Rattle.qh_spec.specs.Headline.{ServedOnce, AnsweredOnce};
 ghost use Rattle.qh_spec.specs.Honest.{IsHonest};
 ghost use Rattle.qh_spec.specs.Validity.{IsFaultIndex, IsValidList};
-ghost use Rattle.qh_exchange.specs.Exchange.{EndsAs, IfInvalid, IfOutOfRounds, IfProtocol, IfTimedOut, IsInvalidAnswer, IsListError};
+ghost use Rattle.qh_exchange.specs.Exchange.{EndsAs, IfInvalid, IfMemory, IfOutOfRounds, IfProtocol, IfTimedOut, IsInvalidAnswer, IsListError};
 ghost use Rattle.qh_exchange.specs.Clock.{IsClocked};
 ghost use Rattle.qh_exchange.specs.Pair.{KeepWithin};
 ghost use Rattle.qh_exchange.specs.Rounds.{AreFair, IsAsked, RoundsMade};
@@ -56,8 +57,11 @@ pub fn exchange<V: Service, L: Link>(
     // A list that isn't valid is refused with the least index at fault; nothing was sent or served.
     ensures invalid { IfInvalid result (λ index. IsFaultIndex config.now.max_requests config.now.max_field_section_size config.now.max_request_body requests.now index
         × (link.new ≡ link.old) × (service.new ≡ service.old)) }
+    // Such a list is refused. `Memory` is answered of it only where it takes memory to tell: at a request whose path is shown as `/`
+    // and may be empty, and each before it may be asked.
     ensures not_valid { (IsValidList config.now.max_requests config.now.max_field_section_size config.now.max_request_body requests.now → ⊥)
-        → IsInvalidAnswer result × (link.new ≡ link.old) × (service.new ≡ service.old) }
+        → IsInvalidAnswer result (IsUndecidedList config.now.max_requests config.now.max_field_section_size config.now.max_request_body requests.now)
+        × (link.new ≡ link.old) × (service.new ≡ service.old) }
     ensures empty { requests.now ≡ [] → IsOk result × (link.new ≡ link.old) × (service.new ≡ service.old) }
     // Each response that was recorded is one that the service may give to its request.
     ensures answers { GrewByAnswers (V.may_answer (limits_of config.now)) (V.served service.old) (V.served service.new) }
@@ -83,6 +87,8 @@ fn valid_pair(alloc: Global, config: &Config, requests: &[Message]) -> Result<Pa
     ensures asked { IfOk result (IsAsked config.now.local_id_len (conn_config config.now) (limits_of config.now) requests.now) }
     ensures valid { IfOk result (λ _. IsValidList config.now.max_requests config.now.max_field_section_size config.now.max_request_body requests.now) }
     ensures invalid { IfInvalid result (λ index. IsFaultIndex config.now.max_requests config.now.max_field_section_size config.now.max_request_body requests.now index) }
+    ensures memory { IfMemory result (IsValidList config.now.max_requests config.now.max_field_section_size config.now.max_request_body requests.now
+        ⊎ IsUndecidedList config.now.max_requests config.now.max_field_section_size config.now.max_request_body requests.now) }
     ensures errors { IfErr result IsListError }
 {
     valid(config, requests)?;

@@ -50,7 +50,7 @@ returns-in_err-pair-clause-invalid g c =
 pub returns-in_err-pair-clause-not_valid : goal.returns-in_err-pair-clause-not_valid
 returns-in_err-pair-clause-not_valid g c =
     let p = err_from_is_err_and c.from_residual.result c.from_residual.ensures.1 in
-    rw (p.1, p.2) (λ bad. (is_invalid (held_by _ _ c.from_residual.result) _ c.in_err-pair.ensures.errors, refl, refl))
+    rw (p.1, p.2) (λ bad. (is_invalid (held_by _ _ c.valid_pair.result) (held_by _ _ c.from_residual.result) _ _ _ c.in_err-pair.ensures.errors c.in_err-pair.ensures.memory bad, refl, refl))
 
 pub returns-in_err-pair-clause-empty : goal.returns-in_err-pair-clause-empty
 returns-in_err-pair-clause-empty g c = λ none. absurd (is_something _ c.if-is_empty.ensures none)
