@@ -1,7 +1,7 @@
 //! Sets of ranges.
 use crate::{put_count, put_range, put_some, put_yes};
 use qh_base::Memory;
-use qh_buffers::RangeSet;
+use qh_buffers::ArrayRangeSet;
 use row_text::{RowFault, Words, put_text};
 use std::alloc::Global;
 
@@ -11,13 +11,13 @@ const MAX_RANGES: usize = 20;
 /// A set of numbers.
 #[derive(Drop)]
 pub(crate) struct Ranges {
-    set: RangeSet,
+    set: ArrayRangeSet,
 }
 
 impl Ranges {
     pub(crate) fn new(alloc: Global) -> Ranges {
         Ranges {
-            set: RangeSet::new(alloc),
+            set: ArrayRangeSet::new(alloc),
         }
     }
 
@@ -29,7 +29,7 @@ impl Ranges {
         out: &mut Vec<u8>,
     ) -> Result<(), RowFault> {
         match words.next() {
-            "new" => self.set = RangeSet::new(alloc),
+            "new" => self.set = ArrayRangeSet::new(alloc),
             "insert" => self.set.insert(words.number()?..words.number()?)?,
             "remove" => self.set.remove(words.number()?..words.number()?)?,
             "apart" => self.insert_apart(words.number()?)?,
@@ -69,7 +69,7 @@ impl Ranges {
 }
 
 // Appends the ranges of a set, or how many there are.
-fn put_ranges(set: &RangeSet, out: &mut Vec<u8>) -> Result<(), Memory> {
+fn put_ranges(set: &ArrayRangeSet, out: &mut Vec<u8>) -> Result<(), Memory> {
     if set.is_empty() {
         return put_text(out, "none");
     }

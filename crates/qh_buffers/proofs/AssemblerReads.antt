@@ -1,7 +1,6 @@
 -- Which bytes a read gives, and what is left.
-use Rattle.std.proofs.Common.{◌≡◌, ◌⊎◌, ℕ, ◌+◌, ◌-◌, ◌<◌, ◌≤◌, ◌^◌, Bool, true, false, ◌&&◌, ◌||◌, List, [], ◌∷◌, length, get_or, take, if◌then◌else◌, Option, None, is_some, refl, sym, ap, ◌∙◌, subst, arith, inl, inr, nat_lt, nat_le}
+use Rattle.std.proofs.Common.{◌≡◌, ◌⊎◌, ℕ, ◌+◌, ◌-◌, ◌<◌, ◌≤◌, ◌^◌, Bool, true, false, ◌&&◌, ◌||◌, List, [], ◌∷◌, length, take, if◌then◌else◌, Option, None, is_some, refl, sym, ap, ◌∙◌, subst, arith, inl, inr, nat_lt, nat_le}
 use Rattle.std.proofs.lemmas.Bool.{cases_lt, cases_Bool, both_ways, false≢true, or_cases}
-use Rattle.std.proofs.lemmas.List.{get_or_read}
 use Rattle.qh_buffers.specs.declared.assembler.Chunk.{Chunk}
 use Rattle.qh_buffers.specs.Ranges.{PlainRange, is_in, has, count_of, front_of, AreApart}
 use Rattle.qh_buffers.specs.Assembler.{byte_in, waits_in, chunk_at, all_bytes, run_of, first_of, after_front, is_over, AreInOrder, IsKept, IsGiven, IsFrontPiece}
@@ -17,10 +16,6 @@ pub record IsNext (given : List PlainRange) (cs : List Chunk) (max : ℕ) (order
   pub front : IsFront cs at n
   pub from_front : ordered ≡ true → at ≡ front_of given
   pub longest : ordered ≡ true → (n ≡ max) ⊎ (byte_in cs (at + n) ≡ None)
-
-pub has_pieces : (cs : List Chunk) (at n : ℕ) → IsFront cs at n → 0 < n → 0 < length cs
-has_pieces [] at n front some = absurd (false≢true (front.waits at (omega arith) (omega arith)))
-has_pieces (c ∷ cs) at n front some = omega arith
 
 first_offset : (cs : List Chunk) (at n : ℕ) → IsFront cs at n → 0 < n → (chunk_at cs 0).offset ≡ at
 first_offset [] at n front some = absurd (false≢true (front.waits at (omega arith) (omega arith)))
@@ -67,14 +62,10 @@ module _ (given : List PlainRange) (cs : List Chunk) (read max : ℕ) (kept : Is
         longest = λ h. absurd (false≢true h);
       }
 
-  -- the same at the first piece, as it was read
-  pub next_at : (ordered : Bool) (n : ℕ) (first : Chunk) → (ordered ≡ true → n ≡ run_of (front_of given) max cs) → (ordered ≡ false → n ≡ first_of max cs) → 0 < n → first ≡ get_or cs 0 first
-      → IsNext given cs max ordered first.offset n
-  next_at ordered n first run least some read_is =
-      let next = next_is ordered n run least some in
-      let d : Chunk = record { offset = 0; bytes = [] } in
-      let same : chunk_at cs 0 ≡ first = sym (get_or_read cs 0 first (has_pieces cs (chunk_at cs 0).offset n next.front next.some) read_is d) in
-      subst (λ (c : Chunk). IsNext given cs max ordered c.offset n) same next
+  -- the same at the offset of the first piece
+  pub next_at : (ordered : Bool) (at n : ℕ) → at ≡ (chunk_at cs 0).offset → (ordered ≡ true → n ≡ run_of (front_of given) max cs) → (ordered ≡ false → n ≡ first_of max cs) → 0 < n → IsNext given cs max ordered at n
+  next_at ordered at n is run least some =
+      subst (λ (k : ℕ). IsNext given cs max ordered k n) (sym is) (next_is ordered n run least some)
 
   module _ (ordered : Bool) (at n : ℕ) (next : IsNext given cs max ordered at n) where
     abbrev pub range : PlainRange

@@ -79,15 +79,6 @@ module _ (given : List PlainRange) (cs : List Chunk) (new : Chunk) (fits : end_o
   pub missing_none : (k : ℕ) → byte_of new k ≡ None → missing_byte given cs new k ≡ None
   missing_none k none = both (has given k || waits_in cs k) (byte_of new k) none
 
-  pub missing_start : AreMissingTo given cs new new.offset []
-  missing_start = record {
-    low = omega arith;
-    high = omega arith;
-    in_order = tt;
-    ends = omega arith;
-    bytes_are = λ k h. sym (missing_none k (before new k h));
-  }
-
   pub missing_all : (at : ℕ) (parts : List Chunk) → AreMissingTo given cs new at parts → end_of new ≤ at → AreMissing given cs new parts
   missing_all at parts so_far done = record {
     in_order = so_far.in_order;

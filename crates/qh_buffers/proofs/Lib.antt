@@ -5,9 +5,13 @@ pub mod ChunkLaws
 pub mod ChunkMerge
 pub mod ChunkParts
 pub mod ChunkRuns
+pub mod ClippedRanges
 pub mod HandedOut
+pub mod JoinedRanges
 pub mod Keeping
 pub mod MarkedPieces
+pub mod PairedLists
+pub mod PairedRanges
 pub mod PieceSteps
 pub mod Pieces
 pub mod QueuedPieces
@@ -17,3 +21,4 @@ pub mod RangeGaps
 pub mod RangeLaws
 pub mod RangeSearch
 pub mod Segments
+pub mod StoredPieces

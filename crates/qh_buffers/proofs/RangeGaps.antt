@@ -1,11 +1,11 @@
 -- Which numbers ranges that stand apart lack.
-use Rattle.std.proofs.Common.{◌≡◌, ℕ, ◌+◌, ◌-◌, ◌<◌, ◌≤◌, false, List, [], ◌∷◌, length, take, drop, max, Some, sym, ap, ◌∙◌, subst, arith, inl, inr, slice_get}
-use Rattle.std.proofs.lemmas.Bool.{cases_lt, both_ways, or_from}
-use Rattle.std.proofs.lemmas.List.{drop_all, take_all}
+use Rattle.std.proofs.Common.{◌≡◌, ℕ, ◌+◌, ◌-◌, ◌<◌, ◌≤◌, false, List, [], ◌∷◌, length, take, drop, max, Some, sym, ap, ◌∙◌, subst, arith, slice_get}
+use Rattle.std.proofs.lemmas.Bool.{or_from}
+use Rattle.std.proofs.lemmas.List.{take_all}
 use Rattle.std.proofs.lemmas.Option.{none-some, same_Some, slice_get_within, get_or_from_slice_get}
 use Rattle.std.specs.declared.ops.Range.{Range}
 use Rattle.qh_buffers.specs.Ranges.{PlainRange, is_in, has, AreApart, AreNear, IsLeast, IsGreatest, start_behind, range_at, plain}
-use Rattle.qh_buffers.proofs.RangeLaws.{behind, has_cut, has_at, none_below, none_behind, apart_take, apart_drop, apart_both, apart_at, apart_head, some_at, behind_at}
+use Rattle.qh_buffers.proofs.RangeLaws.{behind, has_cut, has_at, none_below, none_behind, apart_take, apart_drop, apart_both, some_at, behind_at}
 use Rattle.qh_buffers.proofs.RangeSearch.{to_plain, plain_at, length-plain}
 
 -- neither part of a list that is cut has the number
@@ -27,27 +27,6 @@ module _ (rs : List PlainRange) (n i j : ℕ) (apart : AreApart 0 rs) (near : Ar
       let m : ℕ = max n (range_at rs (j - 1)).end in
       cut_lacks rs j m (none_behind (take j rs) 0 m (apart_take rs j 0 apart) (omega (arith, ends_at h)))
       (none_below (drop j rs) (max (n + 1) (start_behind 0 (take j rs))) m (apart_both (drop j rs) (n + 1) (start_behind 0 (take j rs)) near.back (apart_drop rs j 0 apart)) (omega (arith, ends_at h)))
-
-  ends_before : has rs n ≡ false → start_behind 0 (take j rs) ≤ n + 1
-  ends_before lacks =
-      elim (cases_lt i j) [
-        | inl some ↦ elim (cases_lt n (range_at rs (j - 1)).end) [
-          | inl within ↦ absurd (both_ways (has rs n) lacks (has_at rs (j - 1) n (omega (arith, near.bound)) (near.begins some) within))
-          | inr past ↦ omega (arith, ends_at some)
-        ]
-        | inr none ↦ let same : i ≡ j = omega (arith, near.order) in rw (← same) (omega (arith, near.front))
-      ]
-
-  pub free_to : has rs n ≡ false → (k : ℕ) → n ≤ k → (j < length rs → k < (range_at rs j).start) → has rs k ≡ false
-  free_to lacks k above under =
-      let front : has (take j rs) k ≡ false = none_behind (take j rs) 0 k (apart_take rs j 0 apart) (omega (arith, ends_before lacks)) in
-      elim (cases_lt j (length rs)) [
-        | inl some ↦ cut_lacks rs j k front (none_below (drop j rs) (range_at rs j).start k (apart_at rs j 0 apart some) (under some))
-        | inr none ↦ cut_lacks rs j k front (rw (drop_all j rs none))
-      ]
-
-  pub next_above : j < length rs → n < (range_at rs j).start
-  next_above h = omega (arith, apart_head rs j (n + 1) near.back h)
 
 -- the first range has 0, or 0 is lacking
 pub first_lacks : (rs : List (Range ℕ)) (r : Range ℕ) → AreApart 0 (plain rs) → Some r ≡ slice_get rs 0 → has (plain rs) r.end ≡ false

@@ -92,11 +92,6 @@ apart_at [] i low apart h = absurd (omega arith)
 apart_at (r ∷ rs) zero low apart h = (omega arith, apart.1, apart.2)
 apart_at (r ∷ rs) (suc i) low apart h = apart_at rs i (r.end + 1) apart.2 (omega arith)
 
-pub apart_head : (rs : List PlainRange) (i low : ℕ) → AreApart low (drop i rs) → i < length rs → low ≤ (range_at rs i).start
-apart_head [] i low apart h = absurd (omega arith)
-apart_head (r ∷ rs) zero low apart h = apart.0
-apart_head (r ∷ rs) (suc i) low apart h = apart_head rs i low apart (omega arith)
-
 pub front_at : (rs : List PlainRange) (i low : ℕ) → AreApart low rs → i < length rs → start_behind low (take i rs) ≤ (range_at rs i).start
 front_at [] i low apart h = absurd (omega arith)
 front_at (r ∷ rs) zero low apart h = apart.0

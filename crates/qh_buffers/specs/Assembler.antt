@@ -1,6 +1,8 @@
 -- What the reader of a stream holds: which bytes it was given, and those that came and weren't given yet (RFC 9000,
 -- section 2.2).
-use Rattle.std.specs.Prelude.{◌≡◌, ◌⊎◌, ℕ, ◌+◌, ◌-◌, ◌<◌, ◌≤◌, ◌==◌, ◌^◌, min, nat_lt, nat_le, Bool, true, false, ◌&&◌, ◌||◌, List, [], ◌∷◌, ◌++◌, length, drop, slice_get, slice_range, slice_index_or, Option, Some, None, is_some, if◌then◌else◌}
+use Rattle.std.specs.Prelude.{◌≡◌, ◌⊎◌, ℕ, ◌+◌, ◌-◌, ◌<◌, ◌≤◌, ◌==◌, ◌^◌, min, nat_lt, nat_le, Bool, true, false, ◌&&◌, ◌||◌, List, [], ◌∷◌, ◌++◌, length, map, drop, slice_get, slice_range, slice_index_or, Option, Some, None, is_some, if◌then◌else◌}
+use Rattle.std.specs.List.{list_any}
+use Rattle.std.specs.declared.ops.Range.{Range}
 use Rattle.qh_buffers.specs.declared.assembler.Chunk.{Chunk}
 use Rattle.qh_buffers.specs.Ranges.{PlainRange, has, front_of, count_of, AreApart}
 
@@ -80,6 +82,16 @@ abbrev pub AreInOrder : ℕ → List Chunk → Type 0
 AreInOrder low [] = Unit {0}
 AreInOrder low (c ∷ cs) = (low ≤ c.offset) × (0 < length c.bytes) × (end_of c < 2 ^ 62) × AreInOrder (end_of c) cs
 
+-- the pieces as a map keeps them: by the offset behind the last byte
+abbrev pub pieces : List (ℕ × List ℕ) → List Chunk
+pieces es = map (λ (e : ℕ × List ℕ). record { offset = e.0 - length e.1; bytes = e.1 }) es
+
+-- from an offset on the pieces of a map stand in order, none is empty, no two are over each other, and offsets stay below
+-- 2 ^ 62
+abbrev pub AreStored : ℕ → List (ℕ × List ℕ) → Type 0
+AreStored low [] = Unit {0}
+AreStored low (e ∷ es) = (low + length e.1 ≤ e.0) × (0 < length e.1) × (e.0 < 2 ^ 62) × AreStored e.0 es
+
 -- a byte waits at the offset
 abbrev pub waits_in : List Chunk → ℕ → Bool
 waits_in cs k = is_some (byte_in cs k)
@@ -101,12 +113,6 @@ end_behind low (c ∷ cs) = end_behind (end_of c) cs
 abbrev pub chunk_at : List Chunk → ℕ → Chunk
 chunk_at cs i = slice_index_or cs i (record { offset = 0; bytes = [] })
 
--- the pieces in front of the index begin at the offset or before it, and the others behind it
-pub record IsCountTo (cs : List Chunk) (offset n : ℕ) : Type 0 where
-  pub bound : n ≤ length cs
-  pub front : 0 < n → (chunk_at cs (n - 1)).offset ≤ offset
-  pub back : AreInOrder (offset + 1) (drop n cs)
-
 -- the part of a piece between two offsets, where there is one
 abbrev pub part : (from to : ℕ) → Chunk → List Chunk
 part from to c = if nat_lt from to then record { offset = from; bytes = slice_range c.bytes (from - c.offset) (to - c.offset) } ∷ [] else []
@@ -114,6 +120,20 @@ part from to c = if nat_lt from to then record { offset = from; bytes = slice_ra
 -- the byte of a new piece at an offset, where it was neither given nor waits
 abbrev pub missing_byte : List PlainRange → List Chunk → Chunk → ℕ → Option ℕ
 missing_byte given cs new k = if has given k || waits_in cs k then None else byte_of new k
+
+-- the parts of a piece between the offsets of some ranges
+abbrev pub parts_of : Chunk → List (Range ℕ) → List Chunk
+parts_of c [] = []
+parts_of c (g ∷ gs) = part g.start g.end c ++ parts_of c gs
+
+-- these ranges of offsets stand in order between two offsets, and none is empty
+abbrev pub AreGaps : (low high : ℕ) → List (Range ℕ) → Type 0
+AreGaps low high [] = Unit {0}
+AreGaps low high (g ∷ gs) = (low ≤ g.start) × (g.start < g.end) × (g.end ≤ high) × AreGaps g.end high gs
+
+-- one of the ranges ends at the offset
+abbrev pub is_end : List (Range ℕ) → ℕ → Bool
+is_end gs k = list_any (λ (g : Range ℕ). g.end == k) gs
 
 -- these parts are what is missing
 pub record AreMissing (given : List PlainRange) (cs : List Chunk) (new : Chunk) (parts : List Chunk) : Type 0 where

@@ -1,6 +1,6 @@
 -- Sets of numbers as ranges in order (quinn-proto, `range_set`).
-use Rattle.std.specs.Prelude.{◌≡◌, ℕ, ◌+◌, ◌<◌, ◌≤◌, ◌-◌, ◌==◌, nat_lt, nat_le, Bool, true, false, ◌&&◌, ◌||◌, not, List, [], ◌∷◌, length, map, take, drop, slice_index_or, if◌then◌else◌}
-use Rattle.std.specs.List.{list_any}
+use Rattle.std.specs.Prelude.{◌≡◌, ℕ, ◌+◌, ◌<◌, ◌≤◌, ◌-◌, ◌==◌, nat_lt, nat_le, Bool, true, false, ◌&&◌, ◌||◌, not, List, [], ◌∷◌, length, map, min, max, take, drop, slice_index_or, if◌then◌else◌}
+use Rattle.std.specs.List.{list_any, filter}
 use Rattle.std.specs.declared.ops.Range.{Range}
 
 -- the numbers from a start on to before an end
@@ -67,6 +67,45 @@ pub record AreNear (rs : List PlainRange) (first last from to : ℕ) : Type 0 wh
 -- a range that may be empty, as the program keeps it
 abbrev pub kept : Range ℕ → List (Range ℕ)
 kept r = if nat_lt r.start r.end then r ∷ [] else []
+
+-- the ranges as a map keeps them: where each starts, and where it ends
+abbrev pub paired : List (ℕ × ℕ) → List PlainRange
+paired es = map (λ (e : ℕ × ℕ). record { start = e.0; end = e.1 }) es
+
+-- those that start at a number or before it
+abbrev pub up_to : ℕ → List (ℕ × ℕ) → List (ℕ × ℕ)
+up_to n es = filter (λ (e : ℕ × ℕ). nat_le e.0 n) es
+
+-- those that start before a number
+abbrev pub before : ℕ → List (ℕ × ℕ) → List (ℕ × ℕ)
+before n es = filter (λ (e : ℕ × ℕ). nat_lt e.0 n) es
+
+-- those that start behind a number
+abbrev pub above : ℕ → List (ℕ × ℕ) → List (ℕ × ℕ)
+above n es = filter (λ (e : ℕ × ℕ). nat_lt n e.0) es
+
+-- those that start at a number or behind it
+abbrev pub from_on : ℕ → List (ℕ × ℕ) → List (ℕ × ℕ)
+from_on n es = filter (λ (e : ℕ × ℕ). nat_le n e.0) es
+
+-- those that start from one number on to before another
+abbrev pub between : (from to : ℕ) → List (ℕ × ℕ) → List (ℕ × ℕ)
+between from to es = filter (λ (e : ℕ × ℕ). nat_le from e.0 && nat_lt e.0 to) es
+
+-- each ends at a number or before it
+abbrev pub clipped : ℕ → List (ℕ × ℕ) → List (ℕ × ℕ)
+clipped n es = map (λ (e : ℕ × ℕ). (e.0, min e.1 n)) es
+
+-- What a range that starts before a number has from that number on stands as a range of its own.
+pub record IsSplit (n : ℕ) (old new : List (ℕ × ℕ)) : Type 0 where
+  pub fronts : (m : ℕ) → m ≤ n → before m new ≡ before m old
+  pub apart : AreApart n (paired (from_on n new))
+  pub numbers : (k : ℕ) → has (paired (from_on n new)) k ≡ (nat_le n k && has (paired old) k)
+
+-- a range in front of others, together with those that it touches then
+abbrev pub joined : (start end : ℕ) → List (ℕ × ℕ) → List (ℕ × ℕ)
+joined start end [] = (start, end) ∷ []
+joined start end (e ∷ es) = if nat_lt end e.0 then (start, end) ∷ e ∷ es else joined start (max end e.1) es
 
 -- the numbers of a range come in, and no other
 pub record IsAdded (old new : List PlainRange) (r : PlainRange) : Type 0 where

@@ -6,7 +6,7 @@ use crate::RangeSet;
 use bytes::Bytes;
 use qh_base::Memory;
 use std::alloc::Global;
-use std::collections::VecDeque;
+use std::collections::BTreeMap;
 use std::marker::Model;
 
 mod chunks;
@@ -31,22 +31,35 @@ impl Chunk {
 }
 
 /// The bytes of a stream that came and wait to be read.
+///
+/// Each piece that waits costs more than its bytes: up to about 125 bytes of the map's nodes (an entry takes 48, and every node
+/// but the root is at least 7 of 15 full), and, unless another piece shares its buffer, the two allocations of a `Bytes`: the
+/// buffer itself, and 32 bytes that count its owners. What the allocator adds to an allocation isn't counted.
+///
+/// A piece that comes whole isn't copied. Of one that is cut, since some of its bytes came or were given before, a part of at
+/// least half its length stays a slice of its buffer, and a lesser part is copied: so what waits keeps at most twice its bytes.
+/// A read that takes a part of the first piece leaves the rest in its buffer.
+///
+/// Flow control counts offsets, so it bounds this memory by a multiple of the window alone: a peer that sends single bytes with
+/// gaps between them makes an end keep some 80 bytes for each byte of the window.
 #[derive(Drop)]
 pub struct Assembler {
     alloc: Global,
     given: RangeSet,
     bytes_read: u64,
-    chunks: VecDeque<Chunk>,
+    /// The pieces that wait, by the offset behind the last byte: a read that takes a part of the first piece cuts it in place, so
+    /// that it takes no memory and can't fail halfway.
+    chunks: BTreeMap<u64, Bytes>,
 }
 
 impl Model for Assembler {
-    ghost use Rattle.qh_buffers.specs.Assembler.{PlainAssembler, IsKept};
+    ghost use Rattle.qh_buffers.specs.Assembler.{PlainAssembler, pieces, AreStored, IsKept};
 
     ghost Value = { PlainAssembler };
 
-    ghost view = { λ s. record { given = s.given; chunks = s.chunks.items } };
+    ghost view = { λ s. record { given = s.given; chunks = pieces s.chunks.entries } };
 
-    ghost invariant = { λ s. IsKept s.given s.chunks.items s.bytes_read };
+    ghost invariant = { λ s. IsKept s.given (pieces s.chunks.entries) s.bytes_read × AreStored 0 s.chunks.entries };
 }
 
 impl Assembler {
@@ -58,7 +71,7 @@ impl Assembler {
             alloc,
             given: RangeSet::new(alloc),
             bytes_read: 0,
-            chunks: VecDeque::new(alloc),
+            chunks: BTreeMap::new(alloc),
         }
     }
 
@@ -84,7 +97,8 @@ impl Assembler {
         let _ = &self.given;
     }
 
-    /// Keeps the bytes of a piece that didn't come before. Of those that came before the first ones stay.
+    /// Keeps the bytes of a piece that didn't come before. Of those that came before the first ones stay. Each part that is put
+    /// in, and each piece or given range that it is cut at, costs the logarithm of how many there are.
     pub fn insert(&mut self, offset: u64, payload: Bytes) -> Result<(), Memory>
         requires { offset + length payload < 2 ^ 62 }
         ensures ok { OnOk result (IsInserted self.old self.new (record { offset = offset; bytes = payload })) }
@@ -98,11 +112,13 @@ impl Assembler {
     }
 
     /// Gives bytes that wait, at most so many; None where none waits, in an ordered read where the next one doesn't. An
-    /// ordered read gives all that it may from the first offset on that no read gave, an unordered one a piece.
+    /// ordered read gives all that it may from the first offset on that no read gave, an unordered one a piece. The bytes are a
+    /// slice of the first piece if it has them all, and a copy of several pieces if not. Each piece that is taken out costs the
+    /// logarithm of how many wait.
     pub fn read(&mut self, max_length: usize, ordered: bool) -> Result<Option<Chunk>, Memory>
         requires { 0 < max_length }
         ensures none { IfOk result (λ o. o ≡ None → self.new ≡ self.old) }
-        ensures none_ordered { IfOk result (λ o. o ≡ None → ordered ≡ true → to_give self.old (read_to self.old) ≡ None) }
+        ensures none_ordered { IfOk result (λ o. o ≡ None → ordered ≡ true → (to_give self.old (read_to self.old) ≡ None) × (was_given self.old (read_to self.old) ≡ false)) }
         ensures none_unordered { IfOk result (λ o. o ≡ None → ordered ≡ false → HasNothing self.old) }
         ensures some { IfOk result (λ o. MatchOption o (Unit {0}) (IsGiven self.old self.new max_length)) }
         ensures front { IfOk result (λ o. ordered ≡ true → MatchOption o (Unit {0}) (IsFrontPiece self.old max_length)) }
@@ -114,7 +130,7 @@ impl Assembler {
         if length == 0 {
             return Ok(None);
         }
-        let offset = self.chunks[0].offset;
+        let offset = chunks::front_offset(&self.chunks);
         let bytes = chunks::front_bytes(self.alloc, &self.chunks, length)?;
         self.given.insert(offset..offset + length as u64)?;
         self.given.is_apart();
@@ -135,13 +151,14 @@ impl Assembler {
     fn next_length(&self, max_length: usize, ordered: bool) -> usize
         ensures ordered { ordered ≡ true → result ≡ run_of (front_of self.now.given) max_length self.now.chunks }
         ensures unordered { ordered ≡ false → result ≡ first_of max_length self.now.chunks }
+        ensures lacks { ordered ≡ true → was_given self.now (read_to self.now) ≡ false }
     {
         if ordered {
             return chunks::run(&self.chunks, self.given.front(), max_length);
         }
-        let Some(first) = self.chunks.front() else {
-            return 0;
-        };
-        max_length.min(first.bytes.len())
+        match self.chunks.first_key_value() {
+            Some((_, first)) => max_length.min(first.len()),
+            None => 0,
+        }
     }
 }

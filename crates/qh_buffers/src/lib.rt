@@ -8,5 +8,5 @@ mod range_set;
 mod send_buffer;
 
 pub use assembler::{Assembler, Chunk};
-pub use range_set::RangeSet;
+pub use range_set::{ArrayRangeSet, RangeSet};
 pub use send_buffer::{Mark, Piece, SendBuffer};

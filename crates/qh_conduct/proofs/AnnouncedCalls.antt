@@ -8,7 +8,7 @@ use Rattle.qh_base.specs.declared.connection_error.ConnectionError.TheVariants.{
 use Rattle.qh_base.specs.declared.time.Moment.{Moment}
 use Rattle.qh_buffers.specs.Ranges.{has}
 use Rattle.qh_conduct.proofs.ConnectionGoesOn.{Goes, carried, come_on, quiet}
-use Rattle.qh_conduct.proofs.SpaceGoesOn.{aged_go, frames_go, left_go, probed_go, space_on}
+use Rattle.qh_conduct.proofs.SpaceGoesOn.{aged_go, frames_go, probed_go, space_on}
 use Rattle.qh_conduct.proofs.StreamsGoOn.{GoOn, same_go}
 use Rattle.qh_conduct.proofs.StreamsReceive.{call_go, polled_go}
 use Rattle.qh_conduct.specs.Announced.{Announced, HasAnnounced, HasComeWith, IsOver, TakesTags}
@@ -25,7 +25,6 @@ use Rattle.qh_conn.specs.Receiving.{GoesOnWith, IsClosedWith, IsDatagramTaken, I
 use Rattle.qh_conn.specs.Receiving.IsDatagramTaken.{dropped, handled, told_again, closed_too, draining, drained}
 use Rattle.qh_conn.specs.Receiving.IsPacketHandled.{repeated, empty, faulty, taken}
 use Rattle.qh_conn.specs.Sending.{NothingIsSent}
-use Rattle.qh_conn.specs.Sending.NothingIsSent.{quiet as quiet_none, exhausted, told, draining as draining_told, drained as drained_told}
 use Rattle.qh_conn.specs.Timers.{IsTimedOut, restarted}
 use Rattle.qh_conn.specs.Timers.IsTimedOut.{idle, recovery, closed, draining as draining_over, waits, drained as drained_still}
 use Rattle.qh_conn.specs.declared.event.ConnectionEvent.{ConnectionEvent}
@@ -126,19 +125,8 @@ module _ {S : Type 0} where
 
   -- ---- nothing is sent
 
-  left_step : (old new : Inner S) → GoOn old.space.streams new.space.streams → new ≡ with_space old (record old.space { streams = new.space.streams }) → IsQuietStep old new
-  left_step old new go e = with_step old new go e
-
-  pub none_step : (old new : Inner S) → NothingIsSent old new → IsQuietStep old new
-  none_step old new (quiet_none up is left e) = left_step old new (left_go old.space.streams new.space.streams left) e
-  none_step old new (exhausted is left e) = left_step old new (left_go old.space.streams new.space.streams left) e
-  none_step old new (told reason until is e) = same_step old new e
-  none_step old new (draining_told until is e) = same_step old new e
-  none_step old new (drained_told is e) = same_step old new e
-
   pub none_sent : (old new : Inner S) (t : List Act) → NothingIsSent old new → HasAnnounced old t → HasAnnounced new t
-  unfolding HasAnnounced
-  none_sent old new t is p = stands_on old new t t (none_step old new is) refl (λ d among. among) p
+  none_sent old new t is p = subst (λ (c : Inner S). HasAnnounced c t) (sym is.0) p
 
   -- ---- what is due
 

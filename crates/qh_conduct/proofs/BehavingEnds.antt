@@ -21,7 +21,6 @@ use Rattle.qh_conn.specs.Follows.{Follows, event_acts, transmit_acts}
 use Rattle.qh_conn.specs.Inner.{IsFailedBy, IsNewSpace, IsSameEnd, is_open}
 use Rattle.qh_conn.specs.Receiving.{IsEventTaken, received}
 use Rattle.qh_conn.specs.Sending.{ClosesReadBack, IsDatagramMade, NothingIsSent}
-use Rattle.qh_conn.specs.Sending.NothingIsSent.{quiet, exhausted, told, draining, drained}
 use Rattle.qh_conn.specs.Timers.{IsTimedOut}
 use Rattle.qh_conn.specs.declared.event.ConnectionEvent.{ConnectionEvent}
 use Rattle.qh_conn.specs.declared.event.ConnectionEvent.TheVariants.{Close, Datagram}
@@ -62,11 +61,7 @@ module _ {S : Type 0} where
   own_end c = record { side = refl; local_id = refl; remote_id = refl; config = refl }
 
   none_end : (old new : Inner S) → NothingIsSent old new → IsSameEnd old new
-  none_end old new (quiet up is left e) = same_end old new _ e (record { side = refl; local_id = refl; remote_id = refl; config = refl })
-  none_end old new (exhausted is left e) = same_end old new _ e (record { side = refl; local_id = refl; remote_id = refl; config = refl })
-  none_end old new (told reason until is e) = same_end old new old e (own_end old)
-  none_end old new (draining until is e) = same_end old new old e (own_end old)
-  none_end old new (drained is e) = same_end old new old e (own_end old)
+  none_end old new n = same_end old new old n.0 (own_end old)
 
   failed_end : (old new : Inner S) → IsFailedBy old new → IsSameEnd old new
   failed_end old new f = same_end old new _ f.rest_is (record { side = refl; local_id = refl; remote_id = refl; config = refl })

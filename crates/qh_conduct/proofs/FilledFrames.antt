@@ -44,7 +44,7 @@ use Rattle.qh_spec.specs.declared.sides.Side.{Side}
 use Rattle.qh_spec.specs.declared.sides.Space.{Space}
 use Rattle.qh_spec.specs.declared.sides.Space.TheVariants.{Data}
 use Rattle.qh_streams.proofs.StreamsWritten.{piece_length}
-use Rattle.qh_streams.specs.Streams.{PlainStreams, AreWritten, IsHandedOver, IsReadBack, half_bytes, head_bound, written_frame}
+use Rattle.qh_streams.specs.Streams.{PlainStreams, AreWritten, IsHandedOver, IsReadBack, half_bytes, max_frame_header, written_frame}
 use Rattle.qh_streams.specs.Streams.AreWritten.{none as none_written, more as more_written}
 use Rattle.qh_streams.specs.Streams.IsHandedOver.{stream as stream_handed, reset as reset_handed, stop as stop_handed, max_stream_data as max_stream_data_handed, max_data as max_data_handed, max_streams as max_streams_handed}
 use Rattle.qh_streams.specs.declared.frames.SentFrame.{SentFrame}
@@ -72,14 +72,14 @@ gives_filled room piece h next (inl p) =
 gives_filled room piece h next (inr p) = inr p.fin_is
 
 handed_filled : (old mid : PlainStreams) (room : ℕ) (f : SentFrame) → IsHandedOver old mid room f → IsFilled (written_frame mid f)
-handed_filled old mid room f (stream_handed id piece idle next rest) = λ run is.
+handed_filled old mid room f (stream_handed id piece next rest) = λ run is.
     let s = next.step in
     let carries = form_carries (piece.offsets.start == 0) piece.fin id.0 piece.offsets.start (half_bytes (send_at mid.send id.0) piece) refl in
     let same : record { id = id.0; offset = piece.offsets.start; payload = half_bytes (send_at mid.send id.0) piece; fin = piece.fin } ≡ run = same_Some _ run (sym carries ∙ is) in
     let half = step_next old.send mid.send id.0 0 s in
-    let something : (0 < length (half_bytes (send_at mid.send id.0) piece)) ⊎ (piece.fin ≡ true) = rw half (gives_filled (room - head_bound) piece s.half s.next s.step) in
+    let something : (0 < length (half_bytes (send_at mid.send id.0) piece)) ⊎ (piece.fin ≡ true) = rw half (gives_filled (room - max_frame_header) piece s.half s.next s.step) in
     subst (λ (r : Run). HasSomething r) same something
-handed_filled old mid room f (reset_handed id frame_of idle next rest) = no_stream (written_frame mid (sent.ResetStream id frame_of)) refl
+handed_filled old mid room f (reset_handed id frame_of next rest) = no_stream (written_frame mid (sent.ResetStream id frame_of)) refl
 handed_filled old mid room f (stop_handed id code step rest) = no_stream (written_frame mid (sent.StopSending id code)) refl
 handed_filled old mid room f (max_stream_data_handed id limit step rest) = no_stream (written_frame mid (sent.MaxStreamData id limit)) refl
 handed_filled old mid room f (max_data_handed limit is due rest) = no_stream (written_frame mid (sent.MaxData limit)) refl
@@ -137,7 +137,7 @@ put_filled true room old new mid after frames put =
     record {
       bytes = pings ++ (due ++ w.bytes);
       appended = w.out_is ∙ append_assoc mid (pings ++ due) w.bytes ∙ ap (λ (z : List ℕ). mid ++ z) (append_assoc pings due w.bytes);
-      filled = ping_filled old.is_ping_due (due ++ w.bytes) (response_filled old.path_response w.bytes put.reads_back (written_filled _ old.streams w.mid w.frames w.bytes w.written));
+      filled = ping_filled old.is_ping_due (due ++ w.bytes) (response_filled old.path_response w.bytes put.reads_back (written_filled _ old.streams new.streams w.frames w.bytes w.written));
     }
 put_filled false room old new mid after frames none = record { bytes = []; appended = none.1 ∙ sym (append-nil mid); filled = none_filled }
 

@@ -92,8 +92,8 @@ given_small : (f : Frame) (c : StreamFrame) (id : ℕ) → coming_of f ≡ Some 
 given_small kind.Padding f id is small = none_some _ None f refl is
 given_small kind.Ping f id is small = none_some _ None f refl is
 given_small (kind.Ack a) f id is small = none_some _ None f refl is
-given_small (kind.ResetStream s code size) f id is small = subst (λ (g : StreamFrame). stream_given id g < 2 ^ 62) (same_Some (coming.ResetStream s code size) f is) (omega arith)
-given_small (kind.StopSending s code) f id is small = subst (λ (g : StreamFrame). stream_given id g < 2 ^ 62) (same_Some (coming.StopSending s code) f is) (omega arith)
+given_small (kind.ResetStream s code size) f id is small = subst (λ (g : StreamFrame). stream_given id g < 2 ^ 62) (same_Some (coming.Reset s code size) f is) (omega arith)
+given_small (kind.StopSending s code) f id is small = subst (λ (g : StreamFrame). stream_given id g < 2 ^ 62) (same_Some (coming.Stop s code) f is) (omega arith)
 given_small (kind.Crypto offset payload) f id is small = none_some _ None f refl is
 given_small (kind.NewToken token) f id is small = none_some _ None f refl is
 given_small (kind.Stream s) f id is small = subst (λ (g : StreamFrame). stream_given id g < 2 ^ 62) (same_Some (coming.Stream s.id s.offset s.payload.now s.fin) f is) (omega arith)

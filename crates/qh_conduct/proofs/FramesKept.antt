@@ -5,7 +5,6 @@ use Rattle.std.proofs.lemmas.Bool.{eq-eqb}
 use Rattle.std.proofs.lemmas.List.{append-nil}
 use Rattle.qh_buffers.specs.Ranges.{PlainRange, has}
 use Rattle.qh_conduct.proofs.ConnectionGoesOn.{Goes, frame_on, live_on}
-use Rattle.qh_conduct.proofs.SpaceGoesOn.{left_go}
 use Rattle.qh_conduct.proofs.StreamsGoOn.{GoOn, go_on, handed_goes, reading_on, same_go, sending_on}
 use Rattle.qh_conduct.specs.Announced.{AreLive, HasComeWith, IsKeptFrame}
 use Rattle.qh_conduct.specs.Announced.IsKeptFrame.{ping, response, ack, stream, reset, stop, max_data, max_stream_data, max_streams}
@@ -50,12 +49,12 @@ module _ {S : Type 0} (c : Inner S) (came : List (List ℕ)) where
   at_goes old new go = record { side = refl; local_id = refl; remote_id = refl; streams = go; next = omega arith; shut = λ no. no }
 
   handed_kept : (old mid : PlainStreams) (room : ℕ) (f : SentFrame) → AreLive old → IsHandedOver old mid room f → IsKeptFrame (at mid) came (written_frame mid f)
-  handed_kept old mid room f live (stream_handed id piece idle next rest) =
-      let go = handed_goes old mid room f (stream_handed id piece idle next rest) in
+  handed_kept old mid room f live (stream_handed id piece next rest) =
+      let go = handed_goes old mid room f (stream_handed id piece next rest) in
       stream (record { id = id.0; offset = piece.offsets.start; payload = half_bytes (send_at mid.send id.0) piece; fin = piece.fin }) refl
       (sending_on go.later id.0 (live.send id.0 (half_of old id.0 next.step.half next.step.was)))
-  handed_kept old mid room f live (reset_handed id frame_of idle next rest) =
-      let go = handed_goes old mid room f (reset_handed id frame_of idle next rest) in
+  handed_kept old mid room f live (reset_handed id frame_of next rest) =
+      let go = handed_goes old mid room f (reset_handed id frame_of next rest) in
       reset id.0 frame_of.code frame_of.final_size refl (sending_on go.later id.0 (live.send id.0 (half_of old id.0 next.step.half next.step.was)))
   handed_kept old mid room f live (stop_handed id code step rest) =
       let go = handed_goes old mid room f (stop_handed id code step rest) in
@@ -114,11 +113,11 @@ module _ {S : Type 0} (c : Inner S) (came : List (List ℕ)) where
       let w = put.streams in
       let pings = bytes_if old.is_ping_due ping_bytes in
       let due = response_bytes old.path_response in
-      let last : GoOn w.mid c.space.streams = subst (λ (s : PlainStreams). GoOn w.mid s) same (left_go w.mid new.streams w.rest) in
+      let last : GoOn new.streams c.space.streams = subst (λ (s : PlainStreams). GoOn new.streams s) same (same_go new.streams) in
       record {
         bytes = pings ++ (due ++ w.bytes);
         appended = w.out_is ∙ append_assoc mid (pings ++ due) w.bytes ∙ ap (λ (z : List ℕ). mid ++ z) (append_assoc pings due w.bytes);
-        kept = ping_kept old.is_ping_due (due ++ w.bytes) (response_kept old.path_response w.bytes put.reads_back (written_kept _ old.streams w.mid w.frames w.bytes w.written live last));
+        kept = ping_kept old.is_ping_due (due ++ w.bytes) (response_kept old.path_response w.bytes put.reads_back (written_kept _ old.streams new.streams w.frames w.bytes w.written live last));
       }
   put_kept false room old new mid after frames none live same = record { bytes = []; appended = none.1 ∙ sym (append-nil mid); kept = none_kept }
 

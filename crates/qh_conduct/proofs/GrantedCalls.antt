@@ -6,7 +6,7 @@ use Rattle.qh_base.specs.declared.connection_error.ConnectionError.{ConnectionEr
 use Rattle.qh_base.specs.declared.connection_error.ConnectionError.TheVariants.{Memory, LocallyClosed}
 use Rattle.qh_base.specs.declared.path.Transmit.{Transmit}
 use Rattle.qh_base.specs.declared.time.Moment.{Moment}
-use Rattle.qh_conduct.proofs.AnnouncedCalls.{IsQuietStep, closes_step, drained_open, drained_step, none_step, polled_step, timed_step, with_step}
+use Rattle.qh_conduct.proofs.AnnouncedCalls.{IsQuietStep, closes_step, drained_open, drained_step, polled_step, timed_step, with_step}
 use Rattle.qh_conduct.proofs.SpaceGoesOn.{frames_go, made_go}
 use Rattle.qh_conduct.proofs.StreamsGoOn.{GoOn, same_go}
 use Rattle.qh_conduct.proofs.StreamsReceive.{call_go, limit_at_first}
@@ -24,7 +24,6 @@ use Rattle.qh_conn.specs.Receiving.IsDatagramTaken.{dropped, handled, told_again
 use Rattle.qh_conn.specs.Receiving.IsPacketHandled.{repeated, empty, faulty, taken}
 use Rattle.qh_conn.specs.Sending.{AreFramesMade, IsDatagramMade, NothingIsSent}
 use Rattle.qh_conn.specs.Sending.AreFramesMade.{packet as packet_made, close as close_made}
-use Rattle.qh_conn.specs.Sending.NothingIsSent.{quiet as quiet_none, exhausted, told, draining as draining_told, drained as drained_told}
 use Rattle.qh_conn.specs.Timers.{IsTimedOut, restarted}
 use Rattle.qh_conn.specs.Timers.IsTimedOut.{idle, recovery, closed, draining as draining_over, waits, drained as drained_still}
 use Rattle.qh_conn.specs.declared.config.ConnConfig.{ConnConfig}
@@ -135,16 +134,8 @@ module _ {S : Type 0} where
 
   -- ---- nothing is sent, and what is due
 
-  config_none : (old new : Inner S) → NothingIsSent old new → new.config ≡ old.config
-  config_none old new (quiet_none up is left e) = ap (λ (c : Inner S). c.config) e
-  config_none old new (exhausted is left e) = ap (λ (c : Inner S). c.config) e
-  config_none old new (told reason until is e) = ap (λ (c : Inner S). c.config) e
-  config_none old new (draining_told until is e) = ap (λ (c : Inner S). c.config) e
-  config_none old new (drained_told is e) = ap (λ (c : Inner S). c.config) e
-
   pub none_granted : (old new : Inner S) → NothingIsSent old new → HasGranted old → HasGranted new
-  unfolding HasGranted
-  none_granted old new is p = quiet_on old new (none_step old new is) (config_none old new is) p
+  none_granted old new is p = subst (λ (c : Inner S). HasGranted c) (sym is.0) p
 
   config_timed : (now : ℕ) (old new : Inner S) → IsTimedOut now old new → new.config ≡ old.config
   config_timed now old new (idle up due e) = ap (λ (c : Inner S). c.config) e

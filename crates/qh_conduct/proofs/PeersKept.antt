@@ -30,8 +30,8 @@ use Rattle.qh_transcript.proofs.SendingFrames.{form_carries}
 
 abbrev pub form_of : StreamFrame → QuicFrame
 form_of (coming.Stream id offset payload fin) = stream_form (record { id = id.0; offset = offset; payload = payload; fin = fin })
-form_of (coming.ResetStream id code size) = frame 4 (Num id.0 ∷ Num code ∷ Num size ∷ [])
-form_of (coming.StopSending id code) = frame 5 (Num id.0 ∷ Num code ∷ [])
+form_of (coming.Reset id code size) = frame 4 (Num id.0 ∷ Num code ∷ Num size ∷ [])
+form_of (coming.Stop id code) = frame 5 (Num id.0 ∷ Num code ∷ [])
 form_of (coming.MaxData limit) = frame 16 (Num limit ∷ [])
 form_of (coming.MaxStreamData id limit) = frame 17 (Num id.0 ∷ Num limit ∷ [])
 form_of (coming.MaxStreams dir count) = frame (by_dir dir 18 19) (Num count ∷ [])
@@ -90,16 +90,16 @@ module _ {S : Type 0} (c : Inner S) (came : List (List ℕ)) where
   -- what the sender of a frame is bound to by it
   abbrev pub Says : StreamFrame → Type 0
   Says (coming.Stream id offset payload fin) = IsSending c.space.streams id.0
-  Says (coming.ResetStream id code size) = IsSending c.space.streams id.0
-  Says (coming.StopSending id code) = IsReading c.space.streams id.0
+  Says (coming.Reset id code size) = IsSending c.space.streams id.0
+  Says (coming.Stop id code) = IsReading c.space.streams id.0
   Says (coming.MaxData limit) = limit ≤ c.space.streams.recv.announced.value
   Says (coming.MaxStreamData id limit) = IsReading c.space.streams id.0 × IsLimited c.space.streams id.0 limit
   Says (coming.MaxStreams dir count) = count ≤ (counts_of c.space.streams (is_two_way dir)).announced.value
 
   says_form : (f : StreamFrame) → IsKeptFrame c came (form_of f) → Says f
   says_form (coming.Stream id offset payload fin) k = says_stream c came _ (record { id = id.0; offset = offset; payload = payload; fin = fin }) refl k
-  says_form (coming.ResetStream id code size) k = says_reset c came _ id.0 code size refl k
-  says_form (coming.StopSending id code) k = says_stop c came _ id.0 code refl k
+  says_form (coming.Reset id code size) k = says_reset c came _ id.0 code size refl k
+  says_form (coming.Stop id code) k = says_stop c came _ id.0 code refl k
   says_form (coming.MaxData limit) k = says_limit c came _ limit refl k
   says_form (coming.MaxStreamData id limit) k = says_stream_limit c came _ id.0 limit refl k
   says_form (coming.MaxStreams dir count) k = says_count c came _ dir count refl k
@@ -135,8 +135,8 @@ module _ {S : Type 0} (c : Inner S) (t : List Act) (p : Announced c t) (own : �
 
   pub says_came : (f : StreamFrame) → CameIn own datagrams side f → Says c (handed_in t) f
   says_came (coming.Stream id offset payload fin) has = says_run _ has
-  says_came (coming.ResetStream id code size) has = says_coming _ has
-  says_came (coming.StopSending id code) has = says_coming _ has
+  says_came (coming.Reset id code size) has = says_coming _ has
+  says_came (coming.Stop id code) has = says_coming _ has
   says_came (coming.MaxData limit) has = says_coming _ has
   says_came (coming.MaxStreamData id limit) has = says_coming _ has
   says_came (coming.MaxStreams dir count) has = says_coming _ has

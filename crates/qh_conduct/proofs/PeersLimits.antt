@@ -87,8 +87,8 @@ data_small own datagrams side (coming.MaxData limit) has =
     let less = limit_small own datagrams side limit (subst (λ (q : QuicFrame). HasFrame own datagrams side q) (plain_is has.frame _ has.is) has.has) in
     omega (arith, less)
 data_small own datagrams side (coming.Stream id offset payload fin) has = omega arith
-data_small own datagrams side (coming.ResetStream id code size) has = omega arith
-data_small own datagrams side (coming.StopSending id code) has = omega arith
+data_small own datagrams side (coming.Reset id code size) has = omega arith
+data_small own datagrams side (coming.Stop id code) has = omega arith
 data_small own datagrams side (coming.MaxStreamData id limit) has = omega arith
 data_small own datagrams side (coming.MaxStreams dir count) has = omega arith
 
@@ -98,8 +98,8 @@ module _ {S : Type 0} (c : Inner S) (came : List (List ℕ)) where
   data_below : (f : StreamFrame) → Says c came f → data_given f ≤ c.space.streams.recv.announced.value
   data_below (coming.MaxData limit) says = says
   data_below (coming.Stream id offset payload fin) says = omega arith
-  data_below (coming.ResetStream id code size) says = omega arith
-  data_below (coming.StopSending id code) says = omega arith
+  data_below (coming.Reset id code size) says = omega arith
+  data_below (coming.Stop id code) says = omega arith
   data_below (coming.MaxStreamData id limit) says = omega arith
   data_below (coming.MaxStreams dir count) says = omega arith
 
@@ -110,13 +110,13 @@ module _ {S : Type 0} (c : Inner S) (came : List (List ℕ)) where
   count_below false (coming.MaxStreams Uni count) says = says
   count_below true (coming.MaxData limit) says = omega arith
   count_below true (coming.Stream id offset payload fin) says = omega arith
-  count_below true (coming.ResetStream id code size) says = omega arith
-  count_below true (coming.StopSending id code) says = omega arith
+  count_below true (coming.Reset id code size) says = omega arith
+  count_below true (coming.Stop id code) says = omega arith
   count_below true (coming.MaxStreamData id limit) says = omega arith
   count_below false (coming.MaxData limit) says = omega arith
   count_below false (coming.Stream id offset payload fin) says = omega arith
-  count_below false (coming.ResetStream id code size) says = omega arith
-  count_below false (coming.StopSending id code) says = omega arith
+  count_below false (coming.Reset id code size) says = omega arith
+  count_below false (coming.Stop id code) says = omega arith
   count_below false (coming.MaxStreamData id limit) says = omega arith
 
   stream_below : (id : ℕ) (h : PlainRecv) → recv_at c.space.streams.recv id ≡ Some h → (f : StreamFrame) → Says c came f → stream_given id f ≤ h.sent_max_stream_data
@@ -126,8 +126,8 @@ module _ {S : Type 0} (c : Inner S) (came : List (List ℕ)) where
   ]
   stream_below id h there (coming.MaxData limit) says = omega arith
   stream_below id h there (coming.Stream s offset payload fin) says = omega arith
-  stream_below id h there (coming.ResetStream s code size) says = omega arith
-  stream_below id h there (coming.StopSending s code) says = omega arith
+  stream_below id h there (coming.Reset s code size) says = omega arith
+  stream_below id h there (coming.Stop s code) says = omega arith
   stream_below id h there (coming.MaxStreams dir count) says = omega arith
 
   -- of a stream that wasn't opened none is given
@@ -138,8 +138,8 @@ module _ {S : Type 0} (c : Inner S) (came : List (List ℕ)) where
   ]
   stream_none id bound not (coming.MaxData limit) says = omega arith
   stream_none id bound not (coming.Stream s offset payload fin) says = omega arith
-  stream_none id bound not (coming.ResetStream s code size) says = omega arith
-  stream_none id bound not (coming.StopSending s code) says = omega arith
+  stream_none id bound not (coming.Reset s code size) says = omega arith
+  stream_none id bound not (coming.Stop s code) says = omega arith
   stream_none id bound not (coming.MaxStreams dir count) says = omega arith
 
 new_limit : (b : Bool) (limit : ℕ) (h : PlainRecv) → (if b then Some (new_recv limit) else None) ≡ Some h → h.sent_max_stream_data ≡ limit

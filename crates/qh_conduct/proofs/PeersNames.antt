@@ -77,8 +77,8 @@ flipped_back a b e x is = sym (not_not b) ∙ ap not (sym e ∙ is)
 -- a frame names a stream that its sender opened, or that came to it
 named_opened : {S : Type 0} (c : Inner S) (came : List (List ℕ)) (f : StreamFrame) (stream : ℕ) → Names stream f → Says c came f → was_opened c.space.streams stream ≡ true
 named_opened c came (coming.Stream id offset payload fin) stream is says = rw (← is) says.0
-named_opened c came (coming.ResetStream id code size) stream is says = rw (← is) says.0
-named_opened c came (coming.StopSending id code) stream is says = rw (← is) says.0
+named_opened c came (coming.Reset id code size) stream is says = rw (← is) says.0
+named_opened c came (coming.Stop id code) stream is says = rw (← is) says.0
 named_opened c came (coming.MaxStreamData id limit) stream is says = rw (← is) says.0.0
 named_opened c came (coming.MaxData limit) stream is says = absurd is
 named_opened c came (coming.MaxStreams dir count) stream is says = absurd is
@@ -122,8 +122,8 @@ module _ {S : Type 0} (c p : Inner S) (tc tp : List Act) (peers : ArePeers c p) 
 
   pub names_known : (g : StreamFrame) → Says p (handed_in tp) g → NamesKnown c.space.streams g
   names_known (coming.Stream id offset payload fin) says = sent_known id.0 says
-  names_known (coming.ResetStream id code size) says = sent_known id.0 says
-  names_known (coming.StopSending id code) says = read_known id.0 says
+  names_known (coming.Reset id code size) says = sent_known id.0 says
+  names_known (coming.Stop id code) says = read_known id.0 says
   names_known (coming.MaxStreamData id limit) says = read_known id.0 says.0
   names_known (coming.MaxStreams dir count) says = let most = b.live.counts (is_two_way dir) in omega (arith, says, most)
   names_known (coming.MaxData limit) says = tt

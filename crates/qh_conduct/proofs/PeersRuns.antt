@@ -81,11 +81,11 @@ module _ {S : Type 0} (p : Inner S) (t : List Act) (f : Following p t) (filled :
       let most = run_reaches _ came in
       let end = r.1 in
       subst (λ (s : ℕ). to ≤ length (written t s)) r.0 (omega (arith, most, end))
-  reaches_written (coming.ResetStream id code size) stream to came r =
+  reaches_written (coming.Reset id code size) stream to came r =
       let is = reset_size id.0 code size _ came (plain_is came.frame _ came.is) in
       let end = r.1 in
       subst (λ (s : ℕ). to ≤ length (written t s)) r.0 (omega (arith, is, end))
-  reaches_written (coming.StopSending id code) stream to came r = absurd r
+  reaches_written (coming.Stop id code) stream to came r = absurd r
   reaches_written (coming.MaxData limit) stream to came r = absurd r
   reaches_written (coming.MaxStreamData id limit) stream to came r = absurd r
   reaches_written (coming.MaxStreams dir count) stream to came r = absurd r
@@ -96,11 +96,11 @@ module _ {S : Type 0} (p : Inner S) (t : List Act) (f : Following p t) (filled :
       let whole = ((run_is _ came).end r.1).1 in
       let end = r.2 in
       subst (λ (s : ℕ). size ≡ length (written t s)) r.0 (omega (arith, whole, end))
-  ends_written (coming.ResetStream id code known) stream size came r =
+  ends_written (coming.Reset id code known) stream size came r =
       let is = reset_size id.0 code known _ came (plain_is came.frame _ came.is) in
       let end = r.1 in
       subst (λ (s : ℕ). size ≡ length (written t s)) r.0 (omega (arith, is, end))
-  ends_written (coming.StopSending id code) stream size came r = absurd r
+  ends_written (coming.Stop id code) stream size came r = absurd r
   ends_written (coming.MaxData limit) stream size came r = absurd r
   ends_written (coming.MaxStreamData id limit) stream size came r = absurd r
   ends_written (coming.MaxStreams dir count) stream size came r = absurd r

@@ -5,11 +5,9 @@ use Rattle.qh_base.specs.declared.time.Moment.{Moment}
 use Rattle.qh_conduct.specs.Calls.{ToldTheSame}
 use Rattle.qh_conn.specs.Sending.{AreFramesMade, IsDatagramMade, NothingIsSent}
 use Rattle.qh_conn.specs.Sending.AreFramesMade.{packet, close}
-use Rattle.qh_conn.specs.Sending.NothingIsSent.{quiet, exhausted, told, draining, drained}
 use Rattle.qh_conn.specs.declared.inner.Inner.{Inner}
 use Rattle.qh_halves.specs.declared.counts.StreamCounts.{StreamCounts}
-use Rattle.qh_history.proofs.Carried.{by_left, by_packet}
-use Rattle.qh_space.specs.Sending.{AreLeft}
+use Rattle.qh_history.proofs.Carried.{by_packet}
 use Rattle.qh_spec.specs.declared.sides.Side.{Side}
 use Rattle.qh_spec.specs.declared.sides.Space.{Space}
 use Rattle.qh_streams.specs.Streams.{PlainStreams, counts_of, with_counts, IsHandedOver, IsLostFrame}
@@ -37,8 +35,8 @@ lost_most first old new f (max_stream_data_lost id limit step rest) p = ap most 
 lost_most first old new f (max_streams_lost dir n rest) p = counts_most new old _ _ rest refl ∙ p
 
 handed_most : (first old new : PlainStreams) (room : ℕ) (f : SentFrame) → IsHandedOver old new room f → most old ≡ most first → most new ≡ most first
-handed_most first old new room f (stream_handed id piece idle next rest) p = ap most rest ∙ p
-handed_most first old new room f (reset_handed id reset idle next rest) p = ap most rest ∙ p
+handed_most first old new room f (stream_handed id piece next rest) p = ap most rest ∙ p
+handed_most first old new room f (reset_handed id reset next rest) p = ap most rest ∙ p
 handed_most first old new room f (stop_handed id code step rest) p = ap most rest ∙ p
 handed_most first old new room f (max_stream_data_handed id limit step rest) p = ap most rest ∙ p
 handed_most first old new room f (max_data_handed limit is due rest) p = ap most rest ∙ p
@@ -47,9 +45,6 @@ handed_most first old new room f (max_streams_handed dir n is due rest) p = coun
 of_both : (old new : PlainStreams) → most new ≡ most old → ToldTheSame old new
 of_both old new e true = (ap (λ (x : (ℕ × ℕ) × (ℕ × ℕ)). x.0.0) e, ap (λ (x : (ℕ × ℕ) × (ℕ × ℕ)). x.0.1) e)
 of_both old new e false = (ap (λ (x : (ℕ × ℕ) × (ℕ × ℕ)). x.1.0) e, ap (λ (x : (ℕ × ℕ) × (ℕ × ℕ)). x.1.1) e)
-
-left_most : (old new : PlainStreams) → AreLeft old new → most new ≡ most old
-left_most old new left = by_left (λ s. most s ≡ most old) (lost_most old) (handed_most old) old new left refl
 
 module _ {S : Type 0} where
   frames_most : (now : Moment) (old new : Inner S) (before frames : List ℕ) → AreFramesMade now old new before frames → most new.space.streams ≡ most old.space.streams
@@ -60,12 +55,5 @@ module _ {S : Type 0} where
       → ToldTheSame old.space.streams new.space.streams
   made_permits sealed now old new before after transmit m = of_both old.space.streams new.space.streams (frames_most now old new _ m.bytes.frames m.bytes.made)
 
-  nothing_most : (old new : Inner S) → NothingIsSent old new → most new.space.streams ≡ most old.space.streams
-  nothing_most old new (quiet up is left e) = left_most old.space.streams new.space.streams left
-  nothing_most old new (exhausted is left e) = left_most old.space.streams new.space.streams left
-  nothing_most old new (told reason until is e) = ap (λ (x : Inner S). most x.space.streams) e
-  nothing_most old new (draining until is e) = ap (λ (x : Inner S). most x.space.streams) e
-  nothing_most old new (drained is e) = ap (λ (x : Inner S). most x.space.streams) e
-
   pub none_permits : (old new : Inner S) → NothingIsSent old new → ToldTheSame old.space.streams new.space.streams
-  none_permits old new n = of_both old.space.streams new.space.streams (nothing_most old new n)
+  none_permits old new n = of_both old.space.streams new.space.streams (ap (λ (x : Inner S). most x.space.streams) n.0)

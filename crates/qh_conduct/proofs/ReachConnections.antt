@@ -23,7 +23,6 @@ use Rattle.qh_conn.specs.Receiving.IsDatagramTaken.{dropped, handled, told_again
 use Rattle.qh_conn.specs.Receiving.IsPacketHandled.{repeated, empty, faulty, taken as in_taken}
 use Rattle.qh_conn.specs.Sending.{AreFramesMade, IsDatagramMade, NothingIsSent}
 use Rattle.qh_conn.specs.Sending.AreFramesMade.{packet as packet_made, close as close_made}
-use Rattle.qh_conn.specs.Sending.NothingIsSent.{quiet, exhausted, told, draining as none_draining, drained as none_drained}
 use Rattle.qh_conn.specs.Streams.{IsRead, IsReadFault, IsWriteRefused}
 use Rattle.qh_conn.specs.Streams.IsWriteRefused.{closed as write_closed, wanting as write_wanting, refused as write_refused}
 use Rattle.qh_conn.specs.Timers.{AreLostByAge, IsProbed, IsTimedOut}
@@ -46,9 +45,8 @@ use Rattle.qh_half.specs.declared.fault.WriteFault.{WriteFault}
 use Rattle.qh_half.specs.declared.fault.WriteFault.TheVariants as write_fault
 use Rattle.qh_halves.specs.RecvHalves.{IsRecvStep, is_wanting, Stops, TakesReset}
 use Rattle.qh_halves.specs.SendHalves.{write_limit}
-use Rattle.qh_history.proofs.Carried.{by_left, by_loss, by_packet, by_probe}
+use Rattle.qh_history.proofs.Carried.{by_loss, by_packet, by_probe}
 use Rattle.qh_packet.proofs.Packets.{has_packet}
-use Rattle.qh_space.specs.Sending.{AreLeft}
 use Rattle.qh_space.specs.declared.data_space.DataSpace.{DataSpace}
 use Rattle.qh_spec.proofs.Members.{in_last, in_left}
 use Rattle.qh_spec.proofs.TranscriptLaws.{handed_in-append}
@@ -82,8 +80,8 @@ module _ (own : ℕ) (side : Side) (xs ys : List (List ℕ)) (among : (d : List 
 
   pub came_among : (f : StreamFrame) → CameIn own xs side f → CameIn own ys side f
   came_among (coming.Stream id offset payload fin) q = run_among _ q
-  came_among (coming.ResetStream id code size) q = coming_among _ q
-  came_among (coming.StopSending id code) q = coming_among _ q
+  came_among (coming.Reset id code size) q = coming_among _ q
+  came_among (coming.Stop id code) q = coming_among _ q
   came_among (coming.MaxData limit) q = coming_among _ q
   came_among (coming.MaxStreamData id limit) q = coming_among _ q
   came_among (coming.MaxStreams dir count) q = coming_among _ q
@@ -115,9 +113,6 @@ blocked_untouched s id write_fault.ClosedStream = nothing_touched s
 blocked_untouched s id (write_fault.Stopped code) = nothing_touched s
 
 module _ (side : Side) (frames : List StreamFrame) where
-  left_reached : (old new : PlainStreams) → AreLeft old new → AreReached side old frames → AreReached side new frames
-  left_reached old new l = by_left (λ s. AreReached side s frames) (step.lost side frames) (step.handed side frames) old new l
-
   aged_reached : (now : ℕ) (old new : DataSpace) → AreLostByAge now old new → AreReached side old.streams frames → AreReached side new.streams frames
   aged_reached now old new (some_lost moment largest is before acked lost) p = by_loss (λ s. AreReached side s frames) (step.lost side frames) largest now old new lost p
   aged_reached now old new (no_loss later same) p = subst (λ (s : DataSpace). AreReached side s.streams frames) (sym same) p
@@ -268,15 +263,8 @@ module _ {S : Type 0} where
 
   -- ---- datagrams that are sent
 
-  left : (old new : Inner S) (t : List Act) → AreLeft old.space.streams new.space.streams → new ≡ with_streams old new.space.streams → Knows old t → Knows new t
-  left old new t l e = called old new t e (λ frames. left_reached old.side frames old.space.streams new.space.streams l)
-
   none_sent : (old new : Inner S) (t : List Act) → NothingIsSent old new → Knows old t → Knows new t
-  none_sent old new t (quiet opened silent l e) p = left old new t l e p
-  none_sent old new t (exhausted used l e) p = left old new t l e p
-  none_sent old new t (told reason until is e) p = same_knows old new t e p
-  none_sent old new t (none_draining until is e) p = same_knows old new t e p
-  none_sent old new t (none_drained is e) p = same_knows old new t e p
+  none_sent old new t n p = same_knows old new t n.0 p
 
   frames_made : (now : Moment) (old new : Inner S) (t : List Act) (before frames : List ℕ) → AreFramesMade now old new before frames → Knows old t → Knows new t
   frames_made now old new t before bytes (packet_made opened packet e) =

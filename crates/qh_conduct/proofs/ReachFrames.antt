@@ -183,7 +183,7 @@ piece_farther id offset payload fin side frames fresh r next p = record {
 }
 
 reset_farther : (id : StreamId) (code size : ℕ) (side : Side) (frames : List StreamFrame) (fresh : ℕ) (r next : PlainRecv) → IsResetBy r next code size fresh
-    → Farther side (coming.ResetStream id code size) frames id.0 fresh r next
+    → Farther side (coming.Reset id code size) frames id.0 fresh r next
 reset_farther id code size side frames fresh r next p = record {
   end = p.fresh_is;
   reaches = inr (refl, sym p.end_is);
@@ -211,7 +211,7 @@ module _ (side : Side) (frames : List StreamFrame) where
         | inr none ↦ absent_reached side g frames r.mid s id.0 none refl refl refl came
       ])
   received old new f ok (reset_received id code size r) p =
-      let g : StreamFrame = coming.ResetStream id code size in
+      let g : StreamFrame = coming.Reset id code size in
       let peers = not_own old id.0 (has_recv old.side id.0) 4 (first_refusal _ _ ok) in
       let s : PlainStreams = record r.mid { recv = new.recv; events = r.mid.events ++ readable_events old id } in
       let came = arrived_reached side g frames old r.mid id.0 refl peers r.arrived (more_reached side old g frames p) in
@@ -220,11 +220,11 @@ module _ (side : Side) (frames : List StreamFrame) where
         | inr none ↦ absent_reached side g frames r.mid s id.0 none refl refl refl came
       ])
   received old new f ok (stop_received mid id code arrived step e) p =
-      let g : StreamFrame = coming.StopSending id code in
+      let g : StreamFrame = coming.Stop id code in
       parts_reached g mid new _ e refl refl refl refl refl
       (arrived_reached side g frames old mid id.0 refl (not_own old id.0 (has_send old.side id.0) 5 ok) arrived (more_reached side old g frames p))
   received old new f ok (stopped_before id code arrived was) p =
-      let g : StreamFrame = coming.StopSending id code in
+      let g : StreamFrame = coming.Stop id code in
       arrived_reached side g frames old new id.0 refl (not_own old id.0 (has_send old.side id.0) 5 ok) arrived (more_reached side old g frames p)
   received old new f ok (max_data_received limit e) p = parts_reached f old new _ e refl refl refl refl refl (more_reached side old f frames p)
   received old new f ok (max_stream_data_received mid id limit arrived step unblocked e) p =

@@ -199,8 +199,8 @@ module _ (side : Side) (frames : List StreamFrame) where
   closed_reached old new s id was_live e = untouched side s new frames (untouched_by s new (counted_closed s id was_live) e (closed_untouched s id was_live))
 
   pub handed : (old new : PlainStreams) (room : ℕ) (f : SentFrame) → IsHandedOver old new room f → AreReached side old frames → AreReached side new frames
-  handed old new room f (stream_handed id piece idle next e) = parts_reached old new _ e refl refl refl refl refl
-  handed old new room f (reset_handed id frame idle next e) = parts_reached old new _ e refl refl refl refl refl
+  handed old new room f (stream_handed id piece next e) = parts_reached old new _ e refl refl refl refl refl
+  handed old new room f (reset_handed id frame next e) = parts_reached old new _ e refl refl refl refl refl
   handed old new room f (stop_handed id code step e) = half_reached old new (inl step) (λ r next p. rw p.2 (record { end = refl; state = refl })) e
   handed old new room f (max_stream_data_handed id limit step e) = half_reached old new (inl step) (λ r next p. rw p.2 (record { end = refl; state = refl })) e
   handed old new room f (max_data_handed limit is due e) = parts_reached old new _ e refl refl refl refl refl

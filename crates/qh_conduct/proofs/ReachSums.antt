@@ -151,8 +151,8 @@ module _ (side : Side) (s : PlainStreams) (frames : List StreamFrame) (p : AreRe
 
   ends_reach : (f : StreamFrame) (stream size : ℕ) → EndsAt stream size f → Reaches stream size f
   ends_reach (coming.Stream id offset payload fin) stream size e = (e.0, e.2)
-  ends_reach (coming.ResetStream id code known) stream size e = e
-  ends_reach (coming.StopSending id code) stream size e = absurd e
+  ends_reach (coming.Reset id code known) stream size e = e
+  ends_reach (coming.Stop id code) stream size e = absurd e
   ends_reach (coming.MaxData limit) stream size e = absurd e
   ends_reach (coming.MaxStreamData id limit) stream size e = absurd e
   ends_reach (coming.MaxStreams dir count) stream size e = absurd e
@@ -218,11 +218,11 @@ module _ (side : Side) (s : PlainStreams) (frames : List StreamFrame) (p : AreRe
       let to = offset + length payload in
       by_none _ _ (id_known id.0 (has_recv s.side id.0) 8 named)
       (unrefused g id.0 to fin agree (refl, refl) (λ end. (refl, end, refl)) t 8 fits all (λ h is. limit id.0 to h (refl, refl) is))
-  frame_unrefused (coming.ResetStream id code size) t agree fits all limit named =
-      let g : StreamFrame = coming.ResetStream id code size in
+  frame_unrefused (coming.Reset id code size) t agree fits all limit named =
+      let g : StreamFrame = coming.Reset id code size in
       by_none _ _ (id_known id.0 (has_recv s.side id.0) 4 named)
       (unrefused g id.0 size true agree (refl, refl) (λ end. (refl, refl)) t 4 fits all (λ h is. limit id.0 size h (refl, refl) is))
-  frame_unrefused (coming.StopSending id code) t agree fits all limit named = id_known id.0 (has_send s.side id.0) 5 named
+  frame_unrefused (coming.Stop id code) t agree fits all limit named = id_known id.0 (has_send s.side id.0) 5 named
   frame_unrefused (coming.MaxStreamData id limit) t agree fits all within named = id_known id.0 (has_send s.side id.0) 17 named
   frame_unrefused (coming.MaxData limit) t agree fits all within named = refl
   frame_unrefused (coming.MaxStreams Bi count) t agree fits all limit named = rw (le-ltb (2 ^ 60) count named) refl

@@ -7,10 +7,10 @@ use Rattle.qh_base.specs.declared.connection_error.ConnectionError.{ConnectionEr
 use Rattle.qh_base.specs.declared.connection_error.ConnectionError.TheVariants.{LocallyClosed}
 use Rattle.qh_base.specs.declared.path.Transmit.{Transmit}
 use Rattle.qh_base.specs.declared.time.Moment.{Moment}
-use Rattle.qh_conduct.proofs.AnnouncedCalls.{IsQuietStep, closes_step, drained_open, drained_step, none_step, polled_step, timed_step, with_step}
+use Rattle.qh_conduct.proofs.AnnouncedCalls.{IsQuietStep, closes_step, drained_open, drained_step, polled_step, timed_step, with_step}
 use Rattle.qh_conduct.proofs.DatagramsKept.{open_reads_back}
 use Rattle.qh_conduct.proofs.PacketsKept.{only_packet}
-use Rattle.qh_conduct.proofs.SizedSpaces.{AreSaid, aged_on, close_said, frames_on, left_on, made_on, packet_said, probed_on}
+use Rattle.qh_conduct.proofs.SizedSpaces.{AreSaid, aged_on, close_said, frames_on, made_on, packet_said, probed_on}
 use Rattle.qh_conduct.proofs.StreamsReceive.{call_go}
 use Rattle.qh_conduct.proofs.TakenOn.{TakenOn, IsWriting, call_view, closed_after, polled_taken, self_taken, taken_after, taken_on, written_closed, written_taken}
 use Rattle.qh_conduct.specs.Announced.{IsOver, MakesTags}
@@ -29,7 +29,6 @@ use Rattle.qh_conn.specs.Receiving.IsDatagramTaken.{dropped, handled, told_again
 use Rattle.qh_conn.specs.Receiving.IsPacketHandled.{repeated, empty, faulty, taken}
 use Rattle.qh_conn.specs.Sending.{AreFramesMade, ClosesReadBack, IsDatagramMade, NothingIsSent, close_frame, datagram_of, overhead}
 use Rattle.qh_conn.specs.Sending.AreFramesMade.{packet as packet_made, close as close_made}
-use Rattle.qh_conn.specs.Sending.NothingIsSent.{quiet as quiet_none, exhausted, told, draining as draining_told, drained as drained_told}
 use Rattle.qh_conn.specs.Timers.{IsTimedOut, restarted}
 use Rattle.qh_conn.specs.Timers.IsTimedOut.{idle, recovery, closed, draining as draining_over, waits, drained as drained_still}
 use Rattle.qh_conn.specs.declared.event.ConnectionEvent.{ConnectionEvent}
@@ -193,16 +192,8 @@ module _ {S : Type 0} where
 
   -- ---- nothing is sent, and what is due
 
-  none_on : (old new : Inner S) → NothingIsSent old new → TakenOn old.space.streams new.space.streams
-  none_on old new (quiet_none up is left e) = left_on old.space.streams new.space.streams left
-  none_on old new (exhausted is left e) = left_on old.space.streams new.space.streams left
-  none_on old new (told reason until is e) = same_streams old new _ e refl
-  none_on old new (draining_told until is e) = same_streams old new _ e refl
-  none_on old new (drained_told is e) = same_streams old new _ e refl
-
   pub none_sized : (old new : Inner S) (t : List Act) → NothingIsSent old new → HasSized old t → HasSized new t
-  unfolding HasSized
-  none_sized old new t is p = stays old new t (quiet_step old new (none_step old new is) (none_on old new is)) p
+  none_sized old new t is p = subst (λ (c : Inner S). HasSized c t) (sym is.0) p
 
   timed_on : (now : ℕ) (old new : Inner S) → IsTimedOut now old new → TakenOn old.space.streams new.space.streams
   timed_on now old new (idle up due e) = same_streams old new _ e refl

@@ -30,18 +30,18 @@ use Rattle.qh_half.specs.declared.send.SendState.TheVariants.{ResetSent}
 use Rattle.qh_half.specs.declared.send.ResetFrame.{ResetFrame}
 use Rattle.qh_halves.specs.SendHalves.{IsSentNext, send_at}
 use Rattle.qh_halves.specs.declared.send_halves.Transmission.TheVariants.{Reset}
-use Rattle.qh_history.proofs.Carried.{by_frame, by_left, by_loss, by_packet, by_probe}
+use Rattle.qh_history.proofs.Carried.{by_frame, by_loss, by_packet, by_probe}
 use Rattle.qh_recovery.specs.PendingAcks.{IsAckPut}
 use Rattle.qh_recovery.specs.declared.sent_packets.SentPacket.{SentPacket}
 use Rattle.qh_space.specs.Receiving.{IsFrameTaken, frame_refusal}
-use Rattle.qh_space.specs.Sending.{AreElicitingPut, AreLeft, IsPacketMade, ReadsBack, bytes_if, may_elicit, ping_bytes, response_bytes, with_sent}
+use Rattle.qh_space.specs.Sending.{AreElicitingPut, IsPacketMade, ReadsBack, bytes_if, may_elicit, ping_bytes, response_bytes, with_sent}
 use Rattle.qh_space.specs.declared.data_space.DataSpace.{DataSpace}
 use Rattle.qh_spec.specs.Lists.{In}
 use Rattle.qh_spec.specs.QuicFrames.{QuicFrame, Value, AreQuicFrames, Num, Text}
 use Rattle.qh_spec.specs.Transcript.{Act}
 use Rattle.qh_streams.proofs.StreamsKept.{still_opened}
 use Rattle.qh_streams.proofs.StreamsTracked.{step_goes}
-use Rattle.qh_streams.specs.Streams.{PlainStreams, AreWritten, IsControlIdle, IsHandedOver, IsLostFrame, IsReadBack, half_bytes, head_bound, was_opened, written_frame}
+use Rattle.qh_streams.specs.Streams.{PlainStreams, AreWritten, IsHandedOver, IsLostFrame, IsReadBack, half_bytes, max_frame_header, was_opened, written_frame}
 use Rattle.qh_streams.specs.Streams.AreWritten.{none as none_written, more as more_written}
 use Rattle.qh_streams.specs.Streams.IsHandedOver.{stream as stream_handed, reset as reset_handed, stop as stop_handed, max_stream_data as max_stream_data_handed, max_data as max_data_handed, max_streams as max_streams_handed}
 use Rattle.qh_streams.specs.declared.frames.SentFrame.{SentFrame}
@@ -74,9 +74,6 @@ aged_on now old new (age_not_yet later e) = subst (λ (s : DataSpace). TakenOn o
 pub probed_on : (now : ℕ) (old new : DataSpace) → IsProbed now old new → TakenOn old.streams new.streams
 probed_on now old new (probe_due moment is by_now due) = by_probe (λ s. TakenOn old.streams s) (lost_on old.streams) old new due (self_taken old.streams)
 probed_on now old new (probe_not_yet later e) = subst (λ (s : DataSpace). TakenOn old.streams s.streams) (sym e) (self_taken old.streams)
-
-pub left_on : (old new : PlainStreams) → AreLeft old new → TakenOn old new
-left_on old new left = by_left (λ s. TakenOn old s) (lost_on old) (handed_on old) old new left (self_taken old)
 
 pub made_on : (now around room : ℕ) (old new : DataSpace) (before after : List ℕ) → IsPacketMade now around room old new before after → TakenOn old.streams new.streams
 made_on now around room old new before after made =
@@ -118,12 +115,12 @@ module _ (s : PlainStreams) (t : List Act) where
   other_frame : (kind : ℕ) (values : List Value) → (kind ≡ 4 → ⊥) → IsSaid (frame kind values)
   other_frame kind values none stream code size e = absurd (none (ap (λ (g : QuicFrame). g.kind) e))
 
-  reset_said : (old mid : PlainStreams) (room : ℕ) (id : StreamId) (r : ResetFrame) → AreTaken old t → IsControlIdle old → IsSentNext old.send mid.send (room - head_bound) id.0 (Reset r) → mid ≡ record old { send = mid.send } → TakenOn mid s
+  reset_said : (old mid : PlainStreams) (room : ℕ) (id : StreamId) (r : ResetFrame) → AreTaken old t → IsSentNext old.send mid.send (room - max_frame_header) id.0 (Reset r) → mid ≡ record old { send = mid.send } → TakenOn mid s
       → IsSaid (reset_frame id.0 r.code r.final_size)
-  reset_said old mid room id r p idle next rest go stream code size e =
+  reset_said old mid room id r p next rest go stream code size e =
       let id_is : id.0 ≡ stream = front_number e in
       let size_is : r.final_size ≡ size = third_number e in
-      let later = (handed_goes old mid room _ (reset_handed id r idle next rest)).later in
+      let later = (handed_goes old mid room _ (reset_handed id r next rest)).later in
       let at : IsClosedAt mid t id.0 r.final_size = record {
         size_is = next.step.step.1 ∙ p.halves id.0 next.step.half next.step.was;
         opened = still_opened later id.0 (opened_here old t id.0 next.step.half p next.step.was);
@@ -134,9 +131,9 @@ module _ (s : PlainStreams) (t : List Act) where
       subst (λ (n : ℕ). IsClosedAt s t n size) id_is (subst (λ (n : ℕ). IsClosedAt s t id.0 n) size_is (closed_after mid s t id.0 r.final_size go at))
 
   handed_said : (old mid : PlainStreams) (room : ℕ) (f : SentFrame) → AreTaken old t → IsHandedOver old mid room f → TakenOn mid s → IsSaid (written_frame mid f)
-  handed_said old mid room f p (stream_handed id piece idle next rest) go =
+  handed_said old mid room f p (stream_handed id piece next rest) go =
       other_kind _ 10 15 (form_kind _ (record { id = id.0; offset = piece.offsets.start; payload = half_bytes (send_at mid.send id.0) piece; fin = piece.fin }) refl) (λ low high. absurd (omega (arith, low)))
-  handed_said old mid room f p (reset_handed id r idle next rest) go = reset_said old mid room id r p idle next rest go
+  handed_said old mid room f p (reset_handed id r next rest) go = reset_said old mid room id r p next rest go
   handed_said old mid room f p (stop_handed id code step rest) go = other_frame 5 (Num id.0 ∷ Num code ∷ []) (λ same. omega (arith, same))
   handed_said old mid room f p (max_stream_data_handed id limit step rest) go = other_frame 17 (Num id.0 ∷ Num limit ∷ []) (λ same. omega (arith, same))
   handed_said old mid room f p (max_data_handed limit is due rest) go = other_frame 16 (Num limit ∷ []) (λ same. omega (arith, same))
@@ -193,7 +190,7 @@ module _ (s : PlainStreams) (t : List Act) where
         bytes = pings ++ (due ++ w.bytes);
         appended = w.out_is ∙ append_assoc mid (pings ++ due) w.bytes ∙ ap (λ (z : List ℕ). mid ++ z) (append_assoc pings due w.bytes);
         said = ping_said old.is_ping_due (due ++ w.bytes) (response_said old.path_response w.bytes put.reads_back
-            (written_said _ old.streams w.mid w.frames w.bytes w.written p (subst (λ (x : PlainStreams). TakenOn w.mid x) same (left_on w.mid new.streams w.rest))));
+            (written_said _ old.streams new.streams w.frames w.bytes w.written p (subst (λ (x : PlainStreams). TakenOn new.streams x) same (self_taken new.streams))));
       }
   put_said false room old new mid after frames none p same = record { bytes = []; appended = none.1 ∙ sym (append-nil mid); said = none_said }
 

@@ -10,13 +10,13 @@ use Rattle.qh_conn.specs.Timers.{AreLostByAge, IsProbed}
 use Rattle.qh_conn.specs.Timers.AreLostByAge.{due as age_due, not_yet as age_not_yet}
 use Rattle.qh_conn.specs.Timers.IsProbed.{due as probe_due, not_yet as probe_not_yet}
 use Rattle.qh_frame.specs.declared.frame.Frame.{Frame}
-use Rattle.qh_history.proofs.Carried.{by_frame, by_left, by_loss, by_packet, by_probe}
+use Rattle.qh_history.proofs.Carried.{by_frame, by_loss, by_packet, by_probe}
 use Rattle.qh_loss.specs.declared.probe.Probe.{Probe}
 use Rattle.qh_loss.specs.declared.probe.Probe.TheVariants as probe
 use Rattle.qh_recovery.specs.declared.sent_packets.SentPacket.{SentPacket}
 use Rattle.qh_space.specs.Receiving.{IsFrameTaken, IsLossTaken, frame_refusal}
 use Rattle.qh_space.specs.Receiving.IsFrameTaken.{passive, streams as of_streams, ack as of_ack, challenge, close}
-use Rattle.qh_space.specs.Sending.{AreElicitingPut, AreLeft, IsPacketMade, may_elicit, with_sent}
+use Rattle.qh_space.specs.Sending.{AreElicitingPut, IsPacketMade, may_elicit, with_sent}
 use Rattle.qh_space.specs.Timers.{pings_after}
 use Rattle.qh_space.specs.declared.data_space.DataSpace.{DataSpace}
 use Rattle.qh_streams.specs.Streams.{PlainStreams, IsHandedOver, IsLostFrame}
@@ -94,9 +94,6 @@ probed_go now old new (probe_due moment is by_now due) =
 probed_go now old new (probe_not_yet later e) = subst (λ (s : DataSpace). SpaceGoes old s) (sym e) (space_same old)
 
 -- ---- what is handed out
-
-pub left_go : (old new : PlainStreams) → AreLeft old new → GoOn old new
-left_go old new left = by_left (λ s. GoOn old s) (lost_on old) (handed_on old) old new left (same_go old)
 
 pub made_go : (now around room : ℕ) (old new : DataSpace) (before after : List ℕ) → IsPacketMade now around room old new before after → GoOn old.streams new.streams
 made_go now around room old new before after made =

@@ -239,8 +239,8 @@ limit_rises : (half next : PlainRecv) (window limit : ℕ) → limit ≡ limit_o
 limit_rises half next window limit is e = omega (arith, is, e)
 
 pub handed_goes : (old new : PlainStreams) (room : ℕ) (f : SentFrame) → IsHandedOver old new room f → GoOn old new
-handed_goes old new room f (stream_handed id piece idle next rest) = send_go old new rest (send_step next.step)
-handed_goes old new room f (reset_handed id reset idle next rest) = send_go old new rest (send_step next.step)
+handed_goes old new room f (stream_handed id piece next rest) = send_go old new rest (send_step next.step)
+handed_goes old new room f (reset_handed id reset next rest) = send_go old new rest (send_step next.step)
 handed_goes old new room f (stop_handed id code step rest) = recv_go old new rest (recv_step step (λ half next gives. same_limit half next (ap (λ (r : PlainRecv). r.sent_max_stream_data) gives.2)))
 handed_goes old new room f (max_stream_data_handed id limit step rest) =
     recv_go old new rest (recv_step step (λ half next gives. limit_rises half next old.recv.stream_window limit gives.0 (ap (λ (r : PlainRecv). r.sent_max_stream_data) gives.2)))

@@ -241,8 +241,8 @@ acked_taken_on old new f (max_streams_acked dir count rest) =
     same_taken old new (acked_goes old new f (max_streams_acked dir count rest)).later (ap (λ (s : PlainStreams). s.send.halves) rest ∙ with_counts_send old (is_two_way dir) _)
 
 pub handed_taken_on : (old new : PlainStreams) (room : ℕ) (f : SentFrame) → IsHandedOver old new room f → TakenOn old new
-handed_taken_on old new room f (stream_handed id piece idle next rest) = taken_by old new (handed_goes old new room f (stream_handed id piece idle next rest)).later (step_goes next.step) (gives_taken _ piece)
-handed_taken_on old new room f (reset_handed id reset idle next rest) = taken_by old new (handed_goes old new room f (reset_handed id reset idle next rest)).later (step_goes next.step) (gives_reset_taken reset)
+handed_taken_on old new room f (stream_handed id piece next rest) = taken_by old new (handed_goes old new room f (stream_handed id piece next rest)).later (step_goes next.step) (gives_taken _ piece)
+handed_taken_on old new room f (reset_handed id reset next rest) = taken_by old new (handed_goes old new room f (reset_handed id reset next rest)).later (step_goes next.step) (gives_reset_taken reset)
 handed_taken_on old new room f (stop_handed id code step rest) = same_taken old new (handed_goes old new room f (stop_handed id code step rest)).later (ap (λ (s : PlainStreams). s.send.halves) rest)
 handed_taken_on old new room f (max_stream_data_handed id limit step rest) = same_taken old new (handed_goes old new room f (max_stream_data_handed id limit step rest)).later (ap (λ (s : PlainStreams). s.send.halves) rest)
 handed_taken_on old new room f (max_data_handed limit is due rest) = same_taken old new (handed_goes old new room f (max_data_handed limit is due rest)).later (ap (λ (s : PlainStreams). s.send.halves) rest)

@@ -42,8 +42,8 @@ pub record IsStreamKnown (s : PlainStreams) (id : ℕ) (has_half : Bool) : Type 
 -- the frame names a stream with the half that it is for; a count of streams is one that a limit can be (RFC 9000, section 19.11)
 abbrev pub NamesKnown : PlainStreams → StreamFrame → Type 0
 NamesKnown s (coming.Stream id offset payload fin) = IsStreamKnown s id.0 (has_recv s.side id.0)
-NamesKnown s (coming.ResetStream id code size) = IsStreamKnown s id.0 (has_recv s.side id.0)
-NamesKnown s (coming.StopSending id code) = IsStreamKnown s id.0 (has_send s.side id.0)
+NamesKnown s (coming.Reset id code size) = IsStreamKnown s id.0 (has_recv s.side id.0)
+NamesKnown s (coming.Stop id code) = IsStreamKnown s id.0 (has_send s.side id.0)
 NamesKnown s (coming.MaxStreamData id limit) = IsStreamKnown s id.0 (has_send s.side id.0)
 NamesKnown s (coming.MaxStreams dir count) = count ≤ 2 ^ 60
 NamesKnown s (coming.MaxData limit) = Unit {0}

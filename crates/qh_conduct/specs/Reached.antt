@@ -30,20 +30,20 @@ CameIn id_length datagrams sender f = HasComing id_length datagrams sender f
 -- how far the frame reaches on the stream: a STREAM frame to the end of its bytes, a RESET_STREAM to its final size
 abbrev pub Reaches : (stream to : ℕ) → StreamFrame → Type 0
 Reaches stream to (coming.Stream id offset payload fin) = (id.0 ≡ stream) × (offset + length payload ≡ to)
-Reaches stream to (coming.ResetStream id code size) = (id.0 ≡ stream) × (size ≡ to)
+Reaches stream to (coming.Reset id code size) = (id.0 ≡ stream) × (size ≡ to)
 Reaches stream to other = ⊥
 
 -- the frame says that the stream has this final size: a STREAM frame with FIN, a RESET_STREAM
 abbrev pub EndsAt : (stream size : ℕ) → StreamFrame → Type 0
 EndsAt stream size (coming.Stream id offset payload fin) = (id.0 ≡ stream) × (fin ≡ true) × (offset + length payload ≡ size)
-EndsAt stream size (coming.ResetStream id code known) = (id.0 ≡ stream) × (known ≡ size)
+EndsAt stream size (coming.Reset id code known) = (id.0 ≡ stream) × (known ≡ size)
 EndsAt stream size other = ⊥
 
 -- the frame names the stream
 abbrev pub Names : (stream : ℕ) → StreamFrame → Type 0
 Names stream (coming.Stream id offset payload fin) = id.0 ≡ stream
-Names stream (coming.ResetStream id code size) = id.0 ≡ stream
-Names stream (coming.StopSending id code) = id.0 ≡ stream
+Names stream (coming.Reset id code size) = id.0 ≡ stream
+Names stream (coming.Stop id code) = id.0 ≡ stream
 Names stream (coming.MaxStreamData id limit) = id.0 ≡ stream
 Names stream other = ⊥
 

@@ -8,7 +8,7 @@ use Rattle.qh_buffers.specs.Ranges.{PlainRange}
 use Rattle.qh_conn.specs.Inner.{IsConnection, counted, is_open}
 use Rattle.qh_conn.specs.Sending.{AreBytesMade, AreFramesMade, AreFramesPut, IsDatagramMade, NothingIsSent, close_frame, datagram_of, idle_after, is_close_due, overhead, without_close_due}
 use Rattle.qh_conn.specs.Sending.AreFramesMade.{packet, close}
-use Rattle.qh_conn.specs.Sending.NothingIsSent.{told, draining, drained}
+use Rattle.qh_conn.specs.Sending.IsSilent.{told, draining, drained}
 use Rattle.qh_conn.specs.Timers.{sent_at}
 use Rattle.qh_conn.specs.declared.inner.Inner.{Inner}
 use Rattle.qh_conn.specs.declared.state.Close.{Close}
@@ -22,7 +22,7 @@ use Rattle.qh_history.proofs.SameEnd as same
 use Rattle.qh_history.specs.Standing.{SameEnd}
 use Rattle.qh_packet.specs.Packet.{header_bytes}
 use Rattle.qh_recovery.specs.PendingAcks.{IsAckPut}
-use Rattle.qh_space.specs.Sending.{AreElicitingPut, AreLeft, IsPacketMade, due_bytes, may_elicit}
+use Rattle.qh_space.specs.Sending.{AreElicitingPut, IsPacketMade, due_bytes, may_elicit}
 use Rattle.qh_space.specs.Space.{IsSpace}
 use Rattle.qh_space.specs.declared.data_space.DataSpace.{DataSpace}
 use Rattle.qh_spec.specs.declared.sides.Side.{Side}
@@ -89,15 +89,15 @@ module _ {S : Type 0} where
         })
 
     end_kept : (o : Option ℕ) → IfSome o (λ n. (n ≡ old.space.next_number) × (n < 2 ^ 62) × IsPacketMade now.0 around room old.space space before after)
-        → (o ≡ None → AreLeft old.space.streams space.streams) → SameEnd old.space space
-    end_kept None none left = same.left old.space space (left refl)
-    end_kept (Some n) is left = same.made now.0 around room old.space space before after is.2
+        → (o ≡ None → space ≡ old.space) → SameEnd old.space space
+    end_kept None none nothing = (ap (λ (s : DataSpace). s.streams.side) (nothing refl), ap (λ (s : DataSpace). s.streams.peer) (nothing refl))
+    end_kept (Some n) is nothing = same.made now.0 around room old.space space before after is.2
 
     pub packet_kept : (o : Option ℕ) → IsConnection old → is_open old.state ≡ true
         → IfSome o (λ n. (n ≡ old.space.next_number) × (n < 2 ^ 62) × IsPacketMade now.0 around room old.space space before after)
-        → (o ≡ None → AreLeft old.space.streams space.streams) → IsSpace space → IsConnection new
-    packet_kept o whole opened is left is_space =
-        let kept = space_kept old space whole opened (end_kept o is left) is_space in
+        → (o ≡ None → space ≡ old.space) → IsSpace space → IsConnection new
+    packet_kept o whole opened is nothing is_space =
+        let kept = space_kept old space whole opened (end_kept o is nothing) is_space in
         subst (λ (c : Inner S). IsConnection c) is_after (record {
           space = kept.space;
           of = kept.of;
@@ -126,9 +126,9 @@ module _ {S : Type 0} where
   pub silent : (c : Inner S) (s : State) → c.state ≡ s → is_open s ≡ false → is_close_due s ≡ false → NothingIsSent c c
   silent c Established is closed due = absurd (both_ways true closed refl)
   silent c (Closed reason true until) is closed due = absurd (both_ways true due refl)
-  silent c (Closed reason false until) is closed due = told reason until is refl
-  silent c (Draining until) is closed due = draining until is refl
-  silent c Drained is closed due = drained is refl
+  silent c (Closed reason false until) is closed due = (refl, told reason until is)
+  silent c (Draining until) is closed due = (refl, draining until is)
+  silent c Drained is closed due = (refl, drained is)
 
   -- ---- a datagram
 

@@ -12,7 +12,7 @@ use Rattle.qh_frame.specs.Range.{IsInRange}
 use Rattle.qh_frame.specs.TypeOf.{HasType}
 use Rattle.qh_frame.specs.declared.frame.Frame.{Frame}
 use Rattle.qh_packet.proofs.Surveys.{frame_takes}
-use Rattle.qh_packet.specs.Frames.{AreSurveyed}
+use Rattle.qh_packet.specs.Frames.{AreValidFrames}
 use Rattle.qh_space.specs.Receiving.{IsFrameTaken, frame_refusal}
 use Rattle.qh_space.specs.Space.{IsSpace}
 use Rattle.qh_space.specs.declared.data_space.DataSpace.{DataSpace}
@@ -53,7 +53,7 @@ pub record AreTakenUpTo (now : ℕ) (bytes rest : List ℕ) (old mid : DataSpace
   pub left : AreInRange rest
   pub space : IsSpace mid
 
-pub taken_none : (now : ℕ) (bytes : List ℕ) (s : DataSpace) (is_eliciting : _) → AreSurveyed bytes is_eliciting → IsSpace s → AreTakenUpTo now bytes bytes s s
+pub taken_none : (now : ℕ) (bytes : List ℕ) (s : DataSpace) (is_eliciting : _) → AreValidFrames bytes is_eliciting → IsSpace s → AreTakenUpTo now bytes bytes s s
 taken_none now bytes s is_eliciting h space = record {
   taken = [];
   goes_on = λ new later end t. t;

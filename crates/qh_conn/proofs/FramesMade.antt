@@ -88,7 +88,7 @@ put_asks true room old new mid after frames put =
     record {
       bytes = ping ++ (response ++ w.bytes);
       appended = w.out_is ∙ append_assoc mid (ping ++ response) w.bytes ∙ ap (λ (z : List ℕ). mid ++ z) (append_assoc ping response w.bytes);
-      asking = ping_asks old.is_ping_due (response ++ w.bytes) (response_asks old.path_response w.bytes put.reads_back (written_ask _ old.streams w.mid w.frames w.bytes w.written));
+      asking = ping_asks old.is_ping_due (response ++ w.bytes) (response_asks old.path_response w.bytes put.reads_back (written_ask _ old.streams new.streams w.frames w.bytes w.written));
     }
 put_asks false room old new mid after frames none = record { bytes = []; appended = none.1 ∙ sym (append-nil mid); asking = nothing_asks }
 

@@ -4,8 +4,8 @@ use Rattle.std.proofs.lemmas.Bool.{both_ways, cases_Bool, cases_eq, eq-eqb, or_l
 use Rattle.qh_conn.proofs.PacketsOut.{IsFewer, fewer_progress, same_fewer}
 use Rattle.qh_conn.specs.Inner.{is_open, with_space}
 use Rattle.qh_conn.specs.Progress.{AreAllAcknowledged, IsHeld, NumberedPacket, Progress}
-use Rattle.qh_conn.specs.Sending.{NothingIsSent}
-use Rattle.qh_conn.specs.Sending.NothingIsSent.{quiet as is_quiet, exhausted as is_exhausted, told as was_told, draining as is_draining, drained as is_drained}
+use Rattle.qh_conn.specs.Sending.{IsSilent, NothingIsSent}
+use Rattle.qh_conn.specs.Sending.IsSilent.{quiet as is_quiet, exhausted as is_exhausted, told as was_told, draining as is_draining, drained as is_drained}
 use Rattle.qh_conn.specs.declared.inner.Inner.{Inner}
 use Rattle.qh_recovery.specs.SentPackets.{bytes_in_flight}
 use Rattle.qh_recovery.specs.Window.{allows}
@@ -32,17 +32,15 @@ module _ {S : Type 0} where
     | inr (inr scattered) ↦ inr scattered
   ]
 
-  streams_progress : (old new : Inner S) (sent accepted : List NumberedPacket) → new ≡ with_space old (record old.space { streams = new.space.streams }) → Progress old sent accepted → Progress new sent accepted
-  streams_progress old new sent accepted e p =
-      let same : new.space ≡ record old.space { streams = new.space.streams } = ap (λ (c : Inner S). c.space) e in
-      fewer_progress old new sent accepted (subst (λ (s : DataSpace). IsFewer old.space s) (sym same) (same_fewer old.space (record old.space { streams = new.space.streams }) refl refl refl)) p
+  why : (c : Inner S) (sent accepted : List NumberedPacket) → IsSilent c → is_open c.state ≡ true → Progress c sent accepted
+      → (c.space.next_number ≡ 2 ^ 62) ⊎ (AreAllAcknowledged sent accepted × IsHeld c)
+  why c sent accepted (is_quiet here q) still p = inr (quiet_acknowledged c sent accepted q p, quiet_held c q)
+  why c sent accepted (is_exhausted none) still p = inl none
+  why c sent accepted (was_told reason until is) still p = absurd (both_ways (is_open c.state) (ap is_open is) still)
+  why c sent accepted (is_draining until is) still p = absurd (both_ways (is_open c.state) (ap is_open is) still)
+  why c sent accepted (is_drained is) still p = absurd (both_ways (is_open c.state) (ap is_open is) still)
 
   pub nothing_sent : (old new : Inner S) (sent accepted : List NumberedPacket) → NothingIsSent old new → is_open old.state ≡ true → Progress old sent accepted
       → Progress new sent accepted × ((old.space.next_number ≡ 2 ^ 62) ⊎ (AreAllAcknowledged sent accepted × IsHeld new))
-  nothing_sent old new sent accepted (is_quiet here q left e) still p =
-      let after = streams_progress old new sent accepted e p in
-      (after, inr (quiet_acknowledged new sent accepted q after, quiet_held new q))
-  nothing_sent old new sent accepted (is_exhausted none left e) still p = (streams_progress old new sent accepted e p, inl none)
-  nothing_sent old new sent accepted (was_told reason until is e) still p = absurd (both_ways (is_open old.state) (ap is_open is) still)
-  nothing_sent old new sent accepted (is_draining until is e) still p = absurd (both_ways (is_open old.state) (ap is_open is) still)
-  nothing_sent old new sent accepted (is_drained is e) still p = absurd (both_ways (is_open old.state) (ap is_open is) still)
+  nothing_sent old new sent accepted n still p =
+      subst (λ (c : Inner S). Progress c sent accepted × ((old.space.next_number ≡ 2 ^ 62) ⊎ (AreAllAcknowledged sent accepted × IsHeld c))) (sym n.0) (p, why old sent accepted n.1 still p)

@@ -12,9 +12,9 @@ use Rattle.qh_conn.specs.Timers.IsProbed.{due as probe_due, not_yet as probe_not
 use Rattle.qh_frame.specs.declared.frame.Frame.{Frame}
 use Rattle.qh_halves.specs.Counts.{is_own, is_bi}
 use Rattle.qh_halves.specs.declared.counts.StreamCounts.{StreamCounts}
-use Rattle.qh_history.proofs.Carried.{by_loss, by_probe, by_frame, by_left, by_packet}
+use Rattle.qh_history.proofs.Carried.{by_loss, by_probe, by_frame, by_packet}
 use Rattle.qh_space.specs.Receiving.{IsFrameTaken}
-use Rattle.qh_space.specs.Sending.{AreLeft, IsPacketMade}
+use Rattle.qh_space.specs.Sending.{IsPacketMade}
 use Rattle.qh_space.specs.declared.data_space.DataSpace.{DataSpace}
 use Rattle.qh_spec.specs.declared.sides.Dir.TheVariants.{Bi, Uni}
 use Rattle.qh_streams.specs.Streams.{PlainStreams, counts_of, with_counts, counted_closed, dir_of, finished_events, is_live, was_opened, HasArrived, IsReceived, IsHandedOver, IsLostFrame, IsAckedFrame, IsPolled}
@@ -63,8 +63,8 @@ acked_own old new f (max_stream_data_acked id limit step rest) = ap own rest
 acked_own old new f (max_streams_acked dir n rest) = counts_own new old _ _ rest refl
 
 handed_own : (old new : PlainStreams) (room : ℕ) (f : SentFrame) → IsHandedOver old new room f → own new ≡ own old
-handed_own old new room f (stream_handed id piece idle next rest) = ap own rest
-handed_own old new room f (reset_handed id reset idle next rest) = ap own rest
+handed_own old new room f (stream_handed id piece next rest) = ap own rest
+handed_own old new room f (reset_handed id reset next rest) = ap own rest
 handed_own old new room f (stop_handed id code step rest) = ap own rest
 handed_own old new room f (max_stream_data_handed id limit step rest) = ap own rest
 handed_own old new room f (max_data_handed limit is due rest) = ap own rest
@@ -131,9 +131,6 @@ packet_counts now number is_eliciting bytes old mid new taken end accepted are =
 pub made_counts : (now overhead room : ℕ) (old new : DataSpace) (before after : List ℕ) → IsPacketMade now overhead room old new before after → HaveSameCounts old.streams new.streams
 made_counts now overhead room old new before after made = same_counts old.streams new.streams
     (by_packet (λ s. own s ≡ own old.streams) (lost_keeps old.streams) (handed_keeps old.streams) now overhead room old new before after made refl)
-
-pub left_counts : (old new : PlainStreams) → AreLeft old new → HaveSameCounts old new
-left_counts old new left = same_counts old new (by_left (λ s. own s ≡ own old) (lost_keeps old) (handed_keeps old) old new left refl)
 
 aged_own : (now : ℕ) (old new : DataSpace) → AreLostByAge now old new → own new.streams ≡ own old.streams
 aged_own now old new (age_due moment largest is by_now acked lost) = by_loss (λ s. own s ≡ own old.streams) (lost_keeps old.streams) largest now old new lost refl

@@ -11,12 +11,9 @@ use Rattle.qh_conn.proofs.PacketsCome.{failed_end, failed_follows}
 use Rattle.qh_conn.specs.Follows.{Following, Follows, transmit_acts}
 use Rattle.qh_conn.specs.Inner.{IsConnection, IsFailedBy, IsSameEnd}
 use Rattle.qh_conn.specs.Sending.{ClosesReadBack, IsDatagramMade, NothingIsSent}
-use Rattle.qh_conn.specs.Sending.NothingIsSent.{quiet, exhausted, told, draining, drained}
 use Rattle.qh_conn.specs.declared.inner.Inner.{Inner}
-use Rattle.qh_history.proofs.Made.{left_stands}
 use Rattle.qh_history.proofs.SameEnd as same
 use Rattle.qh_history.proofs.WithinLimits as limits
-use Rattle.qh_space.specs.Sending.{AreLeft}
 use Rattle.qh_space.specs.declared.data_space.DataSpace.{DataSpace}
 use Rattle.qh_spec.specs.Transcript.{Act}
 use Rattle.qh_spec.specs.declared.sides.Side.{Side}
@@ -26,29 +23,11 @@ use Rattle.qh_spec.specs.declared.sides.Space.TheVariants.{Data}
 module _ {S : Type 0} where
   -- ---- nothing is sent
 
-  left_follows : (old new : Inner S) (t : List Act) → AreLeft old.space.streams new.space.streams → IsSameEnd old new → new.error ≡ old.error → new.space.dedup ≡ old.space.dedup → Following old t → Following new t
-  left_follows old new t left ends error dedup p = elim p.is_space [
-    | inl failed ↦ carried_on old new t p.space ends (inl (error ∙ failed)) (space_follows old t p)
-    | inr is ↦
-        let left_of : AreLeft p.space.streams new.space.streams = subst (λ (s : DataSpace). AreLeft s.streams new.space.streams) is left in
-        carried_on old new t new.space ends (inr refl)
-        (stepped old.side (length old.local_id) (length old.remote_id) old.config p.space new.space t (same.left p.space new.space left_of) (dedup ∙ ap (λ (s : DataSpace). s.dedup) is)
-        (λ sent came. left_stands p.space new.space sent came t left_of) (λ given. limits.left p.space new.space given t left_of) (space_follows old t p))
-  ]
-
   nothing_end : (old new : Inner S) → NothingIsSent old new → IsSameEnd old new
-  nothing_end old new (quiet up is left e) = rw e (same_end refl refl refl refl)
-  nothing_end old new (exhausted is left e) = rw e (same_end refl refl refl refl)
-  nothing_end old new (told reason until is e) = rw e (same_end refl refl refl refl)
-  nothing_end old new (draining until is e) = rw e (same_end refl refl refl refl)
-  nothing_end old new (drained is e) = rw e (same_end refl refl refl refl)
+  nothing_end old new n = rw n.0 (same_end refl refl refl refl)
 
   nothing_follows : (old new : Inner S) (t : List Act) → NothingIsSent old new → Following old t → Following new t
-  nothing_follows old new t (quiet up is left e) p = left_follows old new t left (nothing_end old new (quiet up is left e)) (ap (λ (c : Inner S). c.error) e) (ap (λ (c : Inner S). c.space.dedup) e) p
-  nothing_follows old new t (exhausted is left e) p = left_follows old new t left (nothing_end old new (exhausted is left e)) (ap (λ (c : Inner S). c.error) e) (ap (λ (c : Inner S). c.space.dedup) e) p
-  nothing_follows old new t (told reason until is e) p = subst (λ (c : Inner S). Following c t) (sym e) p
-  nothing_follows old new t (draining until is e) p = subst (λ (c : Inner S). Following c t) (sym e) p
-  nothing_follows old new t (drained is e) p = subst (λ (c : Inner S). Following c t) (sym e) p
+  nothing_follows old new t n p = subst (λ (c : Inner S). Following c t) (sym n.0) p
 
   -- ---- whatever is answered
 

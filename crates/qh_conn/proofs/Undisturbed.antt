@@ -10,7 +10,7 @@ use Rattle.qh_base.specs.declared.path.Transmit.{Transmit}
 use Rattle.qh_base.specs.declared.time.Moment.{Moment}
 use Rattle.qh_base.specs.declared.transport_error.TransportError.{TransportError}
 use Rattle.qh_conn.proofs.Ends.{ended_with, not_for_time}
-use Rattle.qh_conn.proofs.OwnCounts.{left_counts, made_counts, packet_counts, polled_counts, recovered_counts}
+use Rattle.qh_conn.proofs.OwnCounts.{made_counts, packet_counts, polled_counts, recovered_counts}
 use Rattle.qh_conn.proofs.Transmitted.{IsTransmitted}
 use Rattle.qh_conn.specs.Event.{IsPolledEvent}
 use Rattle.qh_conn.specs.Event.IsPolledEvent.{stream, lost, none as nothing}
@@ -18,9 +18,8 @@ use Rattle.qh_conn.specs.Inner.{HaveSameCounts, with_space, with_streams}
 use Rattle.qh_conn.specs.Receiving.{GoesOnWith, IsDatagramTaken, IsFaulted, IsPacketHandled, IsPacketTaken, handed_at}
 use Rattle.qh_conn.specs.Receiving.IsDatagramTaken.{dropped, handled, told_again, closed_too, draining, drained}
 use Rattle.qh_conn.specs.Receiving.IsPacketHandled.{repeated, empty, faulty, taken}
-use Rattle.qh_conn.specs.Sending.{AreFramesMade, NothingIsSent}
+use Rattle.qh_conn.specs.Sending.{AreFramesMade}
 use Rattle.qh_conn.specs.Sending.AreFramesMade.{packet, close}
-use Rattle.qh_conn.specs.Sending.NothingIsSent.{quiet, exhausted, told, draining as draining_told, drained as drained_told}
 use Rattle.qh_conn.specs.Timers.{IsKeptByTimers, IsTimedOut, IsUndisturbed, RunsOn, restarted, sent_at}
 use Rattle.qh_conn.specs.Timers.IsTimedOut.{idle, recovery, closed, draining as draining_over, waits, drained as drained_still}
 use Rattle.qh_conn.specs.declared.event.ConnectionEvent.{ConnectionEvent}
@@ -31,7 +30,6 @@ use Rattle.qh_conn.specs.declared.inner.Inner.{Inner}
 use Rattle.qh_conn.specs.declared.state.State.{State}
 use Rattle.qh_conn.specs.declared.state.State.TheVariants.{Drained}
 use Rattle.qh_conn.specs.declared.stats.UdpStats.{UdpStats}
-use Rattle.qh_space.specs.Sending.{AreLeft}
 use Rattle.qh_spec.specs.declared.sides.Side.{Side}
 use Rattle.qh_spec.specs.declared.sides.Space.{Space}
 use Rattle.qh_streams.specs.Streams.{PlainStreams, IsPolled}
@@ -115,24 +113,10 @@ module _ {S : Type 0} where
       }
   frames_undisturbed now old new before frames (close reason until is bytes e) = rw e (record { counts = same_streams old.space.streams; idle = same_idle now old.idle; timed_out = λ is. is })
 
-  left_undisturbed : (now : Moment) (old new : Inner S) → AreLeft old.space.streams new.space.streams → new ≡ with_space old (record old.space { streams = new.space.streams }) → IsUndisturbed now old new
-  left_undisturbed now old new left e = record {
-    counts = left_counts old.space.streams new.space.streams left;
-    idle = subst (λ (t : IdleTimer). RunsOn now old.idle t) (sym (ap (λ (c : Inner S). c.idle) e)) (same_idle now old.idle);
-    timed_out = λ is. sym (ap (λ (c : Inner S). c.error) e) ∙ is;
-  }
-
-  nothing_undisturbed : (now : Moment) (old new : Inner S) → NothingIsSent old new → IsUndisturbed now old new
-  nothing_undisturbed now old new (quiet up is left e) = left_undisturbed now old new left e
-  nothing_undisturbed now old new (exhausted is left e) = left_undisturbed now old new left e
-  nothing_undisturbed now old new (told reason until is e) = same_undisturbed now old new e
-  nothing_undisturbed now old new (draining_told until is e) = same_undisturbed now old new e
-  nothing_undisturbed now old new (drained_told is e) = same_undisturbed now old new e
-
   pub transmitted_undisturbed : (sealed : Side → Space → ℕ → List ℕ) (now : Moment) (old new : Inner S) (before after : List ℕ) (answer : Result (Option Transmit) OutOfMemory)
       → IsTransmitted sealed now old new before after answer → OnOk answer (IsUndisturbed now old new)
   transmitted_undisturbed sealed now old new before after (Ok (Some transmit)) a = frames_undisturbed now old new _ _ a.some.bytes.made
-  transmitted_undisturbed sealed now old new before after (Ok None) a = nothing_undisturbed now old new (a.none refl).1
+  transmitted_undisturbed sealed now old new before after (Ok None) a = same_undisturbed now old new ((a.none refl).1).0
   transmitted_undisturbed sealed now old new before after (Err e) a = tt
 
   -- ---- what is due

@@ -13,7 +13,6 @@ use Rattle.qh_conn.specs.Receiving.IsDatagramTaken.{dropped, handled, told_again
 use Rattle.qh_conn.specs.Receiving.IsPacketHandled.{repeated, empty, faulty, taken as in_taken}
 use Rattle.qh_conn.specs.Sending.{AreFramesMade, IsDatagramMade, NothingIsSent}
 use Rattle.qh_conn.specs.Sending.AreFramesMade.{packet as packet_made, close as close_made}
-use Rattle.qh_conn.specs.Sending.NothingIsSent.{quiet, exhausted, told, draining as none_draining, drained as none_drained}
 use Rattle.qh_conn.specs.Timers.{AreLostByAge, IsProbed, IsTimedOut}
 use Rattle.qh_conn.specs.Timers.AreLostByAge.{due as some_lost, not_yet as no_loss}
 use Rattle.qh_conn.specs.Timers.IsProbed.{due as some_probe, not_yet as no_probe}
@@ -24,7 +23,6 @@ use Rattle.qh_frame.specs.Plain.{plain_of}
 use Rattle.qh_frame.specs.WrittenForm.{written_form}
 use Rattle.qh_frame.specs.declared.frame.Frame.{Frame}
 use Rattle.qh_history.proofs.WaitingKept as space
-use Rattle.qh_space.specs.Sending.{AreLeft}
 use Rattle.qh_space.specs.declared.data_space.DataSpace.{DataSpace}
 use Rattle.qh_spec.specs.FrameViews.{stream_of}
 use Rattle.qh_spec.specs.QuicFrame.{StreamFrame as Run}
@@ -32,7 +30,6 @@ use Rattle.qh_spec.specs.QuicFrames.{QuicFrame, AreQuicFrames}
 use Rattle.qh_spec.specs.declared.sides.Side.{Side}
 use Rattle.qh_spec.specs.declared.sides.Space.{Space}
 use Rattle.qh_streams.specs.Streams.{PlainStreams}
-use Rattle.qh_transcript.proofs.ReceivingKept.{at_once}
 use Rattle.qh_transcript.proofs.WaitingFrames.{kept_keeps}
 use Rattle.qh_transcript.specs.Sending.{some_run, runs_of}
 use Rattle.qh_transcript.specs.Waiting.{KeepsWhatCame}
@@ -74,10 +71,6 @@ aged_keeps now old new came (no_loss later same) = same_keeps old.streams new.st
 probed_keeps : (now : ℕ) (old new : DataSpace) (came : List Run) → IsProbed now old new → KeepsWhatCame old.streams came → KeepsWhatCame new.streams came
 probed_keeps now old new came (some_probe moment is before due) = space.probe old new came due
 probed_keeps now old new came (no_probe later same) = same_keeps old.streams new.streams came (ap (λ (s : DataSpace). s.streams) same)
-
-still_keeps : (old new : PlainStreams) (came : List Run) → AreLeft old new → KeepsWhatCame old came → KeepsWhatCame new came
-still_keeps old new came (inl same) = same_keeps old new came same
-still_keeps old new came (inr lost) = kept_keeps old new came (at_once old new lost)
 
 -- ---- the connection
 
@@ -124,11 +117,7 @@ module _ {S : Type 0} where
     kept first frames (close_made reason until closed are is) = streams_keep old new _ came is refl
 
   pub none_keeps : (old new : Inner S) (came : List Run) → NothingIsSent old new → KeepsWhatCame old.space.streams came → KeepsWhatCame new.space.streams came
-  none_keeps old new came (quiet opened silent still is) = still_keeps old.space.streams new.space.streams came still
-  none_keeps old new came (exhausted used still is) = still_keeps old.space.streams new.space.streams came still
-  none_keeps old new came (told reason until closed is) = streams_keep old new old came is refl
-  none_keeps old new came (none_draining until closed is) = streams_keep old new old came is refl
-  none_keeps old new came (none_drained closed is) = streams_keep old new old came is refl
+  none_keeps old new came n = streams_keep old new old came n.0 refl
 
   pub timed_out_keeps : (now : ℕ) (old new : Inner S) (came : List Run) → IsTimedOut now old new → KeepsWhatCame old.space.streams came → KeepsWhatCame new.space.streams came
   timed_out_keeps now old new came (idle opened due is) p = streams_keep old new _ came is refl p

@@ -20,7 +20,7 @@ use Rattle.qh_frame.specs.Plain.{plain_of}
 use Rattle.qh_frame.specs.Range.{IsInRange}
 use Rattle.qh_frame.specs.TypeOf.{HasType, named}
 use Rattle.qh_frame.specs.declared.frame.Frame.{Frame}
-use Rattle.qh_packet.specs.Frames.{AreSurveyed, IsFaultyFrame}
+use Rattle.qh_packet.specs.Frames.{AreValidFrames, IsFaultyFrame}
 use Rattle.qh_packet.specs.Packet.{IsOpened}
 use Rattle.qh_recovery.specs.Accepted.{IsNew, IsNextOf, Remembers}
 use Rattle.qh_recovery.specs.PendingAcks.{IsJoined}
@@ -135,7 +135,7 @@ module _ {S : Type 0} where
   -- a packet is taken whose number is new
   pub record IsPacketTaken (now : Moment) (number : ℕ) (frames : List ℕ) (old new : Inner S) : Type 0 where
     pub is_eliciting : Bool
-    pub surveyed : AreSurveyed frames is_eliciting
+    pub surveyed : AreValidFrames frames is_eliciting
     pub mid : DataSpace
     pub accepted : IsAccepted number is_eliciting old.space mid
     pub space : DataSpace

@@ -3,7 +3,7 @@ use Rattle.std.specs.Prelude.{◌≡◌, ℕ, ◌+◌, ◌-◌, ◌^◌, ◌<◌
 use Rattle.qh_base.specs.declared.path.Transmit.{Transmit}
 use Rattle.qh_base.specs.declared.time.Moment.{Moment}
 use Rattle.qh_conn.specs.Config.{bounded}
-use Rattle.qh_conn.specs.Inner.{is_open, counted, with_space}
+use Rattle.qh_conn.specs.Inner.{is_open, counted}
 use Rattle.qh_conn.specs.Timers.{sent_at}
 use Rattle.qh_conn.specs.declared.idle.IdleTimer.{IdleTimer}
 use Rattle.qh_conn.specs.declared.inner.Inner.{Inner}
@@ -14,7 +14,7 @@ use Rattle.qh_conn.specs.declared.state.State.TheVariants.{Closed, Draining, Dra
 use Rattle.qh_frame.specs.FrameBytes.{frame_bytes}
 use Rattle.qh_frame.specs.Plain.{frame}
 use Rattle.qh_packet.specs.Packet.{header_bytes}
-use Rattle.qh_space.specs.Sending.{AreLeft, IsPacketMade, IsQuiet}
+use Rattle.qh_space.specs.Sending.{IsPacketMade, IsQuiet}
 use Rattle.qh_space.specs.declared.data_space.DataSpace.{DataSpace}
 use Rattle.qh_spec.specs.FrameTypes as frame_types
 use Rattle.qh_spec.specs.QuicFrames.{QuicFrame, Num, Text}
@@ -92,11 +92,15 @@ module _ {S : Type 0} where
     pub destination : t.destination ≡ old.addresses.remote
     pub source : t.src_ip ≡ old.addresses.local_ip
 
-  -- Nothing is to be sent: no ACK is due, and nothing waits that may be sent; or no packet number is left; or the connection was
+  -- Why nothing is sent: no ACK is due, and nothing waits that may be sent; or no packet number is left; or the connection was
   -- closed, and nothing more is to be told.
-  pub data NothingIsSent (old new : Inner S) : Type 0 where
-    quiet : is_open old.state ≡ true → IsQuiet new.space → AreLeft old.space.streams new.space.streams → new ≡ with_space old (record old.space { streams = new.space.streams }) → NothingIsSent old new
-    exhausted : old.space.next_number ≡ 2 ^ 62 → AreLeft old.space.streams new.space.streams → new ≡ with_space old (record old.space { streams = new.space.streams }) → NothingIsSent old new
-    told : (reason : Close) (until : Moment) → old.state ≡ Closed reason false until → new ≡ old → NothingIsSent old new
-    draining : (until : Moment) → old.state ≡ Draining until → new ≡ old → NothingIsSent old new
-    drained : old.state ≡ Drained → new ≡ old → NothingIsSent old new
+  pub data IsSilent (c : Inner S) : Type 0 where
+    quiet : is_open c.state ≡ true → IsQuiet c.space → IsSilent c
+    exhausted : c.space.next_number ≡ 2 ^ 62 → IsSilent c
+    told : (reason : Close) (until : Moment) → c.state ≡ Closed reason false until → IsSilent c
+    draining : (until : Moment) → c.state ≡ Draining until → IsSilent c
+    drained : c.state ≡ Drained → IsSilent c
+
+  -- nothing is to be sent, and nothing changed
+  abbrev pub NothingIsSent : (old new : Inner S) → Type 0
+  NothingIsSent old new = (new ≡ old) × IsSilent old

@@ -94,8 +94,8 @@ impl<S: Session> Connection<S> {
 
     /// Takes what is handed in from outside. A datagram that isn't a packet for this end, by its id and its tag, is dropped, and
     /// a packet whose number isn't new. A packet without a frame and a frame at fault close the connection with PROTOCOL_VIOLATION,
-    /// FRAME_ENCODING_ERROR or the code of the frame's refusal (RFC 9000, section 20.1). Want of memory ends the connection: the
-    /// error that it keeps is Memory then, and what waited to be read is dropped.
+    /// FRAME_ENCODING_ERROR or the code of the frame's refusal (RFC 9000, section 20.1), unless memory is wanting. Want of memory
+    /// ends the connection: the error that it keeps is Memory then, and what waited to be read is dropped.
     pub fn handle_event(&mut self, event: ConnectionEvent) -> Result<(), Memory>
         ensures ok { OnOk result (IsEventTaken (S.accepts self.old.session) event self.old self.new) }
         ensures err { OnErr result (IsFailedBy (received event self.old) self.new) }

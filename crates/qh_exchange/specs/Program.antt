@@ -67,7 +67,7 @@ pub record HasRun (s : Script) (link : PlainLink) (served : List PlainEntry) (re
   pub served_once : IsUnforged s.schedule → ServedOnce s.config.local_id_len link.events s.requests [] served
   pub answered_once : IsUnforged s.schedule → IfOk result (λ answers. AnsweredOnce s.config.local_id_len link.events s.requests [] served answers)
   pub echoes : AreEchoes s.config.max_response_body served
-  -- what an end sent kept within what it was given before, whatever the schedule does
+  -- what an end sent kept within what it was given before, as far as STREAM frames go, whatever the schedule does
   pub kept_within : KeepWithin s.config.local_id_len (conn_config s.config) link.events
   -- why it failed
   pub cause : CountsFaults 0 link.faults (has_link_failed result)

@@ -1,4 +1,5 @@
--- What a side sends keeps within the limits of its peer (RFC 9000, sections 4.1 and 4.6), told of events and datagrams alone.
+-- What a side sends keeps within the limits of its peer (RFC 9000, sections 4.1 and 4.6), as far as STREAM frames go, told of
+-- events and datagrams alone.
 use Rattle.std.specs.Prelude.{◌≡◌, ℕ, ◌+◌, ◌<◌, ◌≤◌, Bool, true, List, [], ◌∷◌, ◌++◌, length, map, sum_by, if◌then◌else◌}
 use Rattle.qh_conn.specs.Config.{peer_of}
 use Rattle.qh_conn.specs.Follows.{HasComing}
@@ -22,7 +23,7 @@ first_stream_limit side peer id = if is_bi id then (if is_own side id then peer.
 abbrev pub first_stream_count : PeerLimits → (two_way : Bool) → ℕ
 first_stream_count peer two_way = if two_way then peer.max_bidi else peer.max_uni
 
--- A side that sent this datagram behind these events kept within the limits that it was given before: of each limit the greatest
+-- A side that sent this datagram behind these events kept within the limits that it was given before, as far as STREAM frames go: of each limit the greatest
 -- of the first, by the settings that both ends begin with, and of those in frames that came in datagrams given to it before.
 pub record KeptWithin (id_length : ℕ) (config : ConnConfig) (side : Side) (before : List Event) (datagram : List ℕ) : Type 0 where
   -- frames of the peer's that came before

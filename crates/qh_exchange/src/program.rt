@@ -43,8 +43,7 @@ pub(crate) struct Ending {
 /// has its answer, or where each token was looked at, 2 for other words, 3 for a script or for commands that are refused,
 /// 4 to 8 for an exchange that failed, 9 for want of memory, 10 and 11 for a fault of the input and of the output, 12 for
 /// what isn't built yet. Before the last line of status 0 stands the report, or the line of each token, before that of 4
-/// to 8 the entries of the record, and before that of 9 too if there is memory for them. Nothing is written before the input
-/// was read.
+/// to 8 the entries of the record, and before that of 9 too if there is memory for them.
 ///
 /// The service has served nothing. `exchange` puts a new link into the bench for a script that is taken; else the bench stays as it is.
 pub fn run<S: Source, K: Sink>(

@@ -29,7 +29,7 @@ pub enum Frame<'a> {
     ResetStream {
         id: StreamId,
         error_code: VarInt,
-        final_offset: VarInt,
+        final_size: VarInt,
     },
     /// Asks for the end of a stream (section 19.5).
     StopSending {

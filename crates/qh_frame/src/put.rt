@@ -26,10 +26,10 @@ pub fn put_reset_stream(
     out: &mut Vec<u8>,
     id: StreamId,
     error_code: VarInt,
-    final_offset: VarInt,
+    final_size: VarInt,
 ) -> Result<(), Memory>
     requires id { id.0 < 2 ^ 62 }
-    ensures ok { OnOk result (IsPut out.old.items out.new.items (frame frame_types.reset_stream (Num id.0 ∷ Num error_code ∷ Num final_offset ∷ [])) (25)) }
+    ensures ok { OnOk result (IsPut out.old.items out.new.items (frame frame_types.reset_stream (Num id.0 ∷ Num error_code ∷ Num final_size ∷ [])) (25)) }
     ensures err { OnErr result (out.new.items ≡ out.old.items) }
 {
     put_three(
@@ -37,7 +37,7 @@ pub fn put_reset_stream(
         FrameType::RESET_STREAM.0,
         number(id.0),
         error_code,
-        final_offset,
+        final_size,
     )
 }
 

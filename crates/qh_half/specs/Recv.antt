@@ -214,7 +214,7 @@ pub record IsRead (old new : PlainRecv) (max_length : ℕ) (c : Chunk) : Type 0 
 
 -- no byte that a read may give waits
 abbrev pub WaitsForMore : PlainRecv → Type 0
-WaitsForMore r = MatchBool r.is_unordered (HasNothing r.assembler) (to_give r.assembler (read_to r.assembler) ≡ None)
+WaitsForMore r = MatchBool r.is_unordered (HasNothing r.assembler) ((to_give r.assembler (read_to r.assembler) ≡ None) × (was_given r.assembler (read_to r.assembler) ≡ false))
 
 -- The answer of a read: bytes, the end or the reset, each only where it is its turn.
 pub data IsReadAnswer (old new : PlainRecv) (max_length : ℕ) : Result (Option Chunk) ReadFault → Type 0 where

@@ -10,7 +10,7 @@ use Rattle.qh_buffers.specs.SendBuffer.{waits as byte_waits}
 use Rattle.qh_halves.specs.declared.pending.PendingStream.{PendingStream}
 use Rattle.qh_halves.specs.Pending.{PlainPending, has}
 use Rattle.qh_half.specs.Send.{PlainSend, held, Waits, new_send}
-use Rattle.qh_halves.specs.SendHalves.{half_in, half_priority, unacked, AreSendHalves}
+use Rattle.qh_halves.specs.SendHalves.{IsHalf, held_of, half_in, half_priority, unacked, AreSendHalves}
 
 pub at_key : (id k : ℕ) → is_at (nat_cmp id) k ≡ (id == k)
 at_key id k = grind arith
@@ -129,3 +129,12 @@ module _ (es : List (ℕ × PlainSend)) (pending : PlainPending) (max_data data_
     ];
     credit = ok.credit;
   }
+
+-- what is told of it
+pub is_put_in : (es : List (ℕ × PlainSend)) (max_data data_sent send_window id limit : ℕ) → half_in es id ≡ None → (new : List (ℕ × PlainSend)) → new ≡ insert_entry nat_cmp es id (new_send limit)
+    → IsHalf (record { halves = es; max_data = max_data; data_sent = data_sent; send_window = send_window }) (record { halves = new; max_data = max_data; data_sent = data_sent; send_window = send_window }) id (Some (new_send limit)) 0
+is_put_in es max_data data_sent send_window id limit none new new_is = record {
+  halves_are = λ k. ap (λ (l : List (ℕ × PlainSend)). half_in l k) new_is ∙ value_inserted es id (new_send limit) k none;
+  rest_is = let none : data_sent + 0 ≡ data_sent = omega arith in rw none refl;
+  held_is = ap (λ (o : Option PlainSend). unacked new + held_of o) none ∙ (let sum = ap unacked new_is ∙ unacked_inserted es id (new_send limit) none in omega (arith, sum));
+}

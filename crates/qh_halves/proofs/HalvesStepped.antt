@@ -22,9 +22,10 @@ use Rattle.qh_half.specs.declared.send.SendState.{SendState}
 use Rattle.qh_half.specs.declared.send.SendState.TheVariants.{Ready, DataSent, ResetSent}
 use Rattle.qh_half.specs.declared.send.Outgoing.{Outgoing}
 use Rattle.qh_half.specs.Send.{PlainSend, is_done, is_done_in, is_reset, held, Waits}
-use Rattle.qh_halves.specs.SendHalves.{PlainSendHalves, IsStep, IsLast, IsAbsent, half_is_span, half_in, half_priority, unacked, entry_of, AreSendHalves}
+use Rattle.qh_halves.specs.SendHalves.{PlainSendHalves, IsStep, IsLast, IsAbsent, half_is_span, half_in, half_priority, held_of, unacked, entry_of, AreSendHalves}
 use Rattle.qh_halves.proofs.PendingOrder.{same_is, same_itself}
 use Rattle.qh_halves.proofs.PendingRoom.{there_is_room}
+use Rattle.qh_halves.proofs.HalvesWithdrawn.{unacked_removed}
 
 at_key : (id k : ℕ) → is_at (nat_cmp id) k ≡ (k == id)
 at_key id k = grind arith
@@ -335,6 +336,7 @@ module _ (s : Inside) (ok : AreSendHalves s.halves.entries s.pending s.max_data 
     is = record {
       halves_are = λ k. rw new_is (half_set es id k h next (sym was));
       rest_is = rw sent_is refl;
+      held_is = ap (λ (o : Option PlainSend). unacked new + held_of o) (sym was) ∙ ap (λ (l : List (ℕ × PlainSend)). unacked l + held h) new_is ∙ unacked_set es id h next (sym was);
     };
     count = rw new_is (length-set_value (is_at (nat_cmp id)) es next);
   }
@@ -350,6 +352,10 @@ module _ (s : Inside) (ok : AreSendHalves s.halves.entries s.pending s.max_data 
     is = record {
       halves_are = λ k. rw new_is (half_left k sorted);
       rest_is = let none : s.data_sent + 0 ≡ s.data_sent = omega arith in rw none refl;
+      held_is =
+          let left = unacked_removed written id next half_here in
+          let sum : unacked (remove_entry (is_at (nat_cmp id)) written) + held h ≡ unacked es + 0 = omega (arith, left, unacked_set es id h next (sym was)) in
+          ap (λ (o : Option PlainSend). unacked new + held_of o) (sym was) ∙ ap (λ (l : List (ℕ × PlainSend)). unacked l + held h) new_is ∙ sum;
     };
     count =
         let set = length-set_value (is_at (nat_cmp id)) es next in

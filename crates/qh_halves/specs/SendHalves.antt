@@ -47,11 +47,18 @@ unacked (e ∷ es) = held e.1 + unacked es
 abbrev pub write_limit : PlainSendHalves → ℕ
 write_limit s = min (s.max_data - s.data_sent) (s.send_window - unacked s.halves)
 
+-- how many bytes a half holds, 0 if there is none
+abbrev pub held_of : Option PlainSend → ℕ
+held_of None = 0
+held_of (Some h) = held h
+
 -- One half is another now, or gone, and all others are as they were. So many bytes more were taken, and nothing else that
 -- the halves share changed.
 pub record IsHalf (old new : PlainSendHalves) (id : ℕ) (half : Option PlainSend) (taken : ℕ) : Type 0 where
   pub halves_are : (k : ℕ) → send_at new k ≡ (if k == id then half else send_at old k)
   pub rest_is : new ≡ record old { halves = new.halves; data_sent = old.data_sent + taken }
+  -- all halves together hold as many bytes more, or fewer, as this one does
+  pub held_is : unacked new.halves + held_of (send_at old id) ≡ unacked old.halves + held_of half
 
 -- the half of a stream goes on to another so, and isn't done
 pub record IsStep (P : PlainSend → PlainSend → Type 0) (old new : PlainSendHalves) (id taken : ℕ) : Type 0 where
@@ -82,6 +89,8 @@ pub record IsAbsent (old new : PlainSendHalves) (id : ℕ) : Type 0 where
 pub record AreAdded (old new : PlainSendHalves) (first count limit : ℕ) : Type 0 where
   pub halves_are : (k : ℕ) → send_at new k ≡ (if is_in_range first count k then Some (new_send limit) else send_at old k)
   pub rest_is : new ≡ record old { halves = new.halves }
+  -- all halves together hold as many bytes as before
+  pub held_is : unacked new.halves ≡ unacked old.halves
 
 -- ---- faults: of a stream without a half, and else of its half
 

@@ -40,8 +40,8 @@ lost_stands largest now old new sent came t l p = record {
 -- what a frame brings came
 carried : (came : List Run) (c : StreamFrame) → IsCarried (came ++ runs_in c) c
 carried came (coming.Stream id offset payload fin) = in_last _ came
-carried came (coming.ResetStream id code size) = tt
-carried came (coming.StopSending id code) = tt
+carried came (coming.Reset id code size) = tt
+carried came (coming.Stop id code) = tt
 carried came (coming.MaxData limit) = tt
 carried came (coming.MaxStreamData id limit) = tt
 carried came (coming.MaxStreams dir count) = tt

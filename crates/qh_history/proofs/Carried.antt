@@ -16,7 +16,7 @@ use Rattle.qh_space.specs.Receiving.IsFrameTaken.{passive, streams as of_streams
 use Rattle.qh_space.specs.Sending.{AreElicitingPut, IsPacketMade, may_elicit, with_sent}
 use Rattle.qh_space.specs.Timers.{IsProbeDue}
 use Rattle.qh_space.specs.declared.data_space.DataSpace.{DataSpace}
-use Rattle.qh_streams.specs.Streams.{PlainStreams, AreAcked, AreLost, AreWritten, IsAckedFrame, IsHandedOver, IsLostAtOnce, IsLostFrame, IsReceived}
+use Rattle.qh_streams.specs.Streams.{PlainStreams, AreAcked, AreLost, AreWritten, IsAckedFrame, IsHandedOver, IsLostFrame, IsReceived}
 use Rattle.qh_streams.specs.Streams.AreAcked.{none as none_acked, more as more_acked}
 use Rattle.qh_streams.specs.Streams.AreLost.{none as none_lost, more as more_lost}
 use Rattle.qh_streams.specs.Streams.AreWritten.{none as none_written, more as more_written}
@@ -88,13 +88,9 @@ module _ (P : PlainStreams → Type 0) (lost : (old new : PlainStreams) (f : Sen
     all_written room old new fs bytes (none_written _ _) p = p
     all_written room old new fs bytes (more_written _ _ mid _ f rest more first fits back behind) p = all_written _ mid new rest more behind (handed old mid room f first p)
 
-    pub by_left : (mid new : PlainStreams) → (new ≡ mid) ⊎ IsLostAtOnce mid new → P mid → P new
-    by_left mid new (inl same) p = subst P (sym same) p
-    by_left mid new (inr l) p = lost l.mid new l.frame l.lost (handed mid l.mid l.room l.frame l.handed p)
-
     maybe_put : (may : Bool) (room : ℕ) (old new : DataSpace) (before after : List ℕ) (frames : List SentFrame) → MatchBool may (AreElicitingPut room old new before after frames) ((new ≡ old) × (after ≡ before))
         → P old.streams → P new.streams
-    maybe_put true room old new before after frames put p = let w = put.streams in by_left w.mid new.streams w.rest (all_written _ old.streams w.mid w.frames w.bytes w.written p)
+    maybe_put true room old new before after frames put p = let w = put.streams in all_written _ old.streams new.streams w.frames w.bytes w.written p
     maybe_put false room old new before after frames none p = subst P (sym (ap (λ (s : DataSpace). s.streams) none.0)) p
 
     pub by_packet : (now overhead room : ℕ) (old new : DataSpace) (before after : List ℕ) → IsPacketMade now overhead room old new before after → P old.streams → P new.streams

@@ -9,20 +9,20 @@ use Rattle.qh_frame.specs.AckWritten.{ack_frame}
 use Rattle.qh_frame.specs.FrameBytes.{frame_bytes, numbers_bytes}
 use Rattle.qh_frame.specs.Plain.{frame}
 use Rattle.qh_frame.specs.declared.ack.AckRange.{AckRange}
-use Rattle.qh_history.proofs.Carried.{by_left, by_packet, sent_streams}
+use Rattle.qh_history.proofs.Carried.{by_packet, sent_streams}
 use Rattle.qh_history.specs.Standing.{Stands, StandsMade}
 use Rattle.qh_recovery.specs.PendingAcks.{IsAckPut}
-use Rattle.qh_space.specs.Sending.{AreElicitingPut, AreLeft, IsPacketMade, ReadsBack, bytes_if, may_elicit, ping_bytes, response_bytes}
+use Rattle.qh_space.specs.Sending.{AreElicitingPut, IsPacketMade, ReadsBack, bytes_if, may_elicit, ping_bytes, response_bytes}
 use Rattle.qh_space.specs.declared.data_space.DataSpace.{DataSpace}
 use Rattle.qh_spec.specs.FrameViews.{stream_of}
 use Rattle.qh_spec.specs.QuicFrame.{StreamFrame as Run}
 use Rattle.qh_spec.specs.QuicFrames.{QuicFrame, AreQuicFrames, Text}
 use Rattle.qh_spec.specs.Transcript.{Act}
-use Rattle.qh_streams.specs.Streams.{PlainStreams, IsLostAtOnce, IsReadBack}
+use Rattle.qh_streams.specs.Streams.{PlainStreams, IsReadBack}
 use Rattle.qh_streams.specs.declared.frames.SentFrame.{SentFrame}
 use Rattle.qh_transcript.proofs.ReceivingFrames.{kept_stand}
 use Rattle.qh_transcript.proofs.ReceivingKept.{again, handed}
-use Rattle.qh_transcript.proofs.SendingFrames.{all_written, at_once}
+use Rattle.qh_transcript.proofs.SendingFrames.{all_written}
 use Rattle.qh_transcript.specs.Receiving.{StandsIn}
 use Rattle.qh_transcript.specs.Sending.{StandsOut, StandsBehind, some_run, runs_of}
 
@@ -67,17 +67,6 @@ module _ (s : PlainStreams) (sent : List Run) (t : List Act) where
   )
   ack_behind false numbers before mid more same b = (more, ap (λ (z : List ℕ). z ++ more) same, b)
 
--- ---- frames of the streams
-
-rest_behind : (mid new : PlainStreams) (sent : List Run) (t : List Act) (bytes : List ℕ) → (new ≡ mid) ⊎ IsLostAtOnce mid new → StandsBehind mid sent t bytes → StandsBehind new sent t bytes
-rest_behind mid new sent t bytes (inl same) b = subst (λ (s : PlainStreams). StandsBehind s sent t bytes) (sym same) b
-rest_behind mid new sent t bytes (inr lost) b = record {
-  frames = b.frames;
-  bytes_are = b.bytes_are;
-  read_back = b.read_back;
-  stands = at_once mid new (sent ++ runs_of b.frames) t lost b.stands;
-}
-
 -- ---- the packet
 
 -- what is appended behind the ACK, and how the streams stand then
@@ -97,7 +86,7 @@ eliciting room old new before after frames sent t put p =
       appended = w.out_is ∙ append_assoc before (ping ++ response) w.bytes ∙ ap (λ (z : List ℕ). before ++ z) (append_assoc ping response w.bytes);
       behind = ping_behind new.streams sent t old.is_ping_due (response ++ w.bytes)
           (response_behind new.streams sent t old.path_response w.bytes put.reads_back
-          (rest_behind w.mid new.streams sent t w.bytes w.rest (all_written _ old.streams w.mid sent t w.frames w.bytes w.written p)));
+          (all_written _ old.streams new.streams sent t w.frames w.bytes w.written p));
     }
 
 maybe_eliciting : (may : Bool) (room : ℕ) (old new : DataSpace) (before after : List ℕ) (frames : List SentFrame) (sent : List Run) (t : List Act)
@@ -126,14 +115,3 @@ made_stands now overhead room old new before after sent came t made p =
         into = by_packet (λ s. StandsIn s came t) (λ was s f lost. kept_stand was s came t (again was s f lost)) (λ was s room f next. kept_stand was s came t (handed room was s f next)) now overhead room old new before after made p.into;
       };
     }
-
--- where nothing is sent
-pub left_stands : (old new : DataSpace) (sent came : List Run) (t : List Act) → AreLeft old.streams new.streams → Stands old sent came t → Stands new sent came t
-left_stands old new sent came t left p = record {
-  out = left_out left;
-  into = by_left (λ s. StandsIn s came t) (λ was s f lost. kept_stand was s came t (again was s f lost)) (λ was s room f next. kept_stand was s came t (handed room was s f next)) old.streams new.streams left p.into;
-}
-  where
-    left_out : AreLeft old.streams new.streams → StandsOut new.streams sent t
-    left_out (inl same) = subst (λ (s : PlainStreams). StandsOut s sent t) (sym same) p.out
-    left_out (inr lost) = at_once old.streams new.streams sent t lost p.out

@@ -8,7 +8,7 @@ use Rattle.qh_halves.specs.declared.counts.StreamCounts.{StreamCounts}
 use Rattle.qh_history.specs.Standing.{SameEnd}
 use Rattle.qh_history.proofs.Carried.{by_loss, by_probe, by_frame, by_packet}
 use Rattle.qh_space.specs.Receiving.{IsFrameTaken, IsLossTaken}
-use Rattle.qh_space.specs.Sending.{AreLeft, IsPacketMade}
+use Rattle.qh_space.specs.Sending.{IsPacketMade}
 use Rattle.qh_space.specs.Timers.{IsProbeDue}
 use Rattle.qh_space.specs.declared.data_space.DataSpace.{DataSpace}
 use Rattle.qh_spec.specs.declared.sides.Side.{Side}
@@ -53,8 +53,8 @@ acked_end old new f (max_stream_data_acked id limit step rest) = ap end_of rest
 acked_end old new f (max_streams_acked dir n rest) = counts_end new old _ _ rest
 
 handed_end : (old new : PlainStreams) (room : ℕ) (f : SentFrame) → IsHandedOver old new room f → end_of new ≡ end_of old
-handed_end old new room f (stream_handed id piece idle next rest) = ap end_of rest
-handed_end old new room f (reset_handed id reset idle next rest) = ap end_of rest
+handed_end old new room f (stream_handed id piece next rest) = ap end_of rest
+handed_end old new room f (reset_handed id reset next rest) = ap end_of rest
 handed_end old new room f (stop_handed id code step rest) = ap end_of rest
 handed_end old new room f (max_stream_data_handed id limit step rest) = ap end_of rest
 handed_end old new room f (max_data_handed limit is due rest) = ap end_of rest
@@ -99,7 +99,3 @@ probe old new due = both old new (by_probe (λ s. end_of s ≡ end_of old.stream
 pub made : (now overhead room : ℕ) (old new : DataSpace) (before after : List ℕ) → IsPacketMade now overhead room old new before after → SameEnd old new
 made now overhead room old new before after m = both old new
     (by_packet (λ s. end_of s ≡ end_of old.streams) (λ was s g l p. lost_end was s g l ∙ p) (λ was s r g h p. handed_end was s r g h ∙ p) now overhead room old new before after m refl)
-
-pub left : (old new : DataSpace) → AreLeft old.streams new.streams → SameEnd old new
-left old new (inl same) = both old new (ap end_of same)
-left old new (inr l) = both old new (lost_end l.mid new.streams l.frame l.lost ∙ handed_end old.streams l.mid l.room l.frame l.handed)

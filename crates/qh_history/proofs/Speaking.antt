@@ -33,8 +33,8 @@ speaks (kind.Stream x) = inl (
   coming.Stream x.id x.offset x.payload.now x.fin,
   record { is = refl; refusal = λ s. refl; runs = rw (form_carries (x.offset == 0) x.fin x.id.0 x.offset x.payload.now refl) refl; active = refl; stays = λ e is. cc },
 )
-speaks (kind.ResetStream id code size) = inl (coming.ResetStream id code size, record { is = refl; refusal = λ s. refl; runs = refl; active = refl; stays = λ e is. cc })
-speaks (kind.StopSending id code) = inl (coming.StopSending id code, record { is = refl; refusal = λ s. refl; runs = refl; active = refl; stays = λ e is. cc })
+speaks (kind.ResetStream id code size) = inl (coming.Reset id code size, record { is = refl; refusal = λ s. refl; runs = refl; active = refl; stays = λ e is. cc })
+speaks (kind.StopSending id code) = inl (coming.Stop id code, record { is = refl; refusal = λ s. refl; runs = refl; active = refl; stays = λ e is. cc })
 speaks (kind.MaxData limit) = inl (coming.MaxData limit, record { is = refl; refusal = λ s. refl; runs = refl; active = refl; stays = λ e is. cc })
 speaks (kind.MaxStreamData id limit) = inl (coming.MaxStreamData id limit, record { is = refl; refusal = λ s. refl; runs = refl; active = refl; stays = λ e is. cc })
 speaks (kind.MaxStreams Bi count) = inl (coming.MaxStreams Bi count, record { is = refl; refusal = λ s. refl; runs = refl; active = refl; stays = λ e is. cc })

@@ -3,9 +3,9 @@ use Rattle.std.proofs.Common.{◌≡◌, ℕ, List, [], ◌∷◌, ◌++◌, app
 use Rattle.qh_base.specs.declared.connection_error.ConnectionError.{ConnectionError}
 use Rattle.qh_frame.specs.Plain.{plain_of}
 use Rattle.qh_frame.specs.declared.frame.Frame.{Frame}
-use Rattle.qh_history.proofs.Carried.{by_frame, by_left, by_loss, by_packet, by_probe}
+use Rattle.qh_history.proofs.Carried.{by_frame, by_loss, by_packet, by_probe}
 use Rattle.qh_space.specs.Receiving.{IsFrameTaken, IsLossTaken, frame_refusal}
-use Rattle.qh_space.specs.Sending.{AreLeft, IsPacketMade}
+use Rattle.qh_space.specs.Sending.{IsPacketMade}
 use Rattle.qh_space.specs.Timers.{IsProbeDue}
 use Rattle.qh_space.specs.declared.data_space.DataSpace.{DataSpace}
 use Rattle.qh_spec.specs.QuicFrame.{StreamFrame as Run}
@@ -43,6 +43,3 @@ probe old new came due = by_probe (λ s. KeepsWhatCame s came) (by_lost came) ol
 pub made : (now overhead room : ℕ) (old new : DataSpace) (before after : List ℕ) (came : List Run) → IsPacketMade now overhead room old new before after
     → KeepsWhatCame old.streams came → KeepsWhatCame new.streams came
 made now overhead room old new before after came m = by_packet (λ s. KeepsWhatCame s came) (by_lost came) (by_handed came) now overhead room old new before after m
-
-pub left : (old new : DataSpace) (came : List Run) → AreLeft old.streams new.streams → KeepsWhatCame old.streams came → KeepsWhatCame new.streams came
-left old new came l = by_left (λ s. KeepsWhatCame s came) (by_lost came) (by_handed came) old.streams new.streams l

@@ -3,9 +3,9 @@ use Rattle.std.proofs.Common.{◌≡◌, ℕ, ◌≤◌, ◌^◌, min, Bool, tru
 use Rattle.qh_base.specs.declared.connection_error.ConnectionError.{ConnectionError}
 use Rattle.qh_frame.specs.declared.frame.Frame.{Frame}
 use Rattle.qh_history.specs.Standing.{some_coming, comings}
-use Rattle.qh_history.proofs.Carried.{by_loss, by_probe, by_frame, by_left, by_packet}
+use Rattle.qh_history.proofs.Carried.{by_loss, by_probe, by_frame, by_packet}
 use Rattle.qh_space.specs.Receiving.{IsFrameTaken, IsLossTaken, frame_refusal, coming_of}
-use Rattle.qh_space.specs.Sending.{AreLeft, IsPacketMade}
+use Rattle.qh_space.specs.Sending.{IsPacketMade}
 use Rattle.qh_space.specs.Space.{AreUnused}
 use Rattle.qh_space.specs.Timers.{IsProbeDue}
 use Rattle.qh_space.specs.declared.data_space.DataSpace.{DataSpace}
@@ -64,7 +64,3 @@ pub made : (now overhead room : ℕ) (old new : DataSpace) (before after : List 
     → KeepsWithin old.streams given t → KeepsWithin new.streams given t
 made now overhead room old new before after given t m p =
     by_packet (λ s. KeepsWithin s given t) (λ was s f. out.again was s given t f) (λ was s room f. out.handed was s room f given t) now overhead room old new before after m p
-
-pub left : (old new : DataSpace) (given : List StreamFrame) (t : List Act) → AreLeft old.streams new.streams → KeepsWithin old.streams given t → KeepsWithin new.streams given t
-left old new given t l p =
-    by_left (λ s. KeepsWithin s given t) (λ was s f. out.again was s given t f) (λ was s room f. out.handed was s room f given t) old.streams new.streams l p

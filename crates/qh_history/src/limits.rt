@@ -3,7 +3,7 @@ ghost use Rattle.qh_base.specs.declared.connection_error.ConnectionError.{Connec
 ghost use Rattle.qh_frame.specs.declared.frame.Frame.{Frame};
 ghost use Rattle.qh_history.specs.Standing.{SameEnd, comings};
 ghost use Rattle.qh_space.specs.Receiving.{IsFrameTaken, IsLossTaken, frame_refusal};
-ghost use Rattle.qh_space.specs.Sending.{AreLeft, IsPacketMade};
+ghost use Rattle.qh_space.specs.Sending.{IsPacketMade};
 ghost use Rattle.qh_space.specs.Space.{AreUnused};
 ghost use Rattle.qh_space.specs.Timers.{IsProbeDue};
 ghost use Rattle.qh_space.specs.declared.data_space.DataSpace.{DataSpace};
@@ -26,10 +26,8 @@ pub fn space_keeps_within()
     ensures probe { (old new : DataSpace) (given : List StreamFrame) (t : List Act) → IsProbeDue old new → KeepsWithin old.streams given t → KeepsWithin new.streams given t }
     ensures made { (now overhead room : ℕ) (old new : DataSpace) (before after : List ℕ) (given : List StreamFrame) (t : List Act)
         → IsPacketMade now overhead room old new before after → KeepsWithin old.streams given t → KeepsWithin new.streams given t }
-    ensures left { (old new : DataSpace) (given : List StreamFrame) (t : List Act) → AreLeft old.streams new.streams → KeepsWithin old.streams given t → KeepsWithin new.streams given t }
     ensures frame_end { (now : ℕ) (old new : DataSpace) (frame : Frame) (closed : Option ConnectionError) → IsFrameTaken now old new frame closed → SameEnd old new }
     ensures lost_end { (largest_acked now : ℕ) (old new : DataSpace) → IsLossTaken largest_acked now old new → SameEnd old new }
     ensures probe_end { (old new : DataSpace) → IsProbeDue old new → SameEnd old new }
     ensures made_end { (now overhead room : ℕ) (old new : DataSpace) (before after : List ℕ) → IsPacketMade now overhead room old new before after → SameEnd old new }
-    ensures left_end { (old new : DataSpace) → AreLeft old.streams new.streams → SameEnd old new }
 {}

@@ -4,7 +4,7 @@ ghost use Rattle.qh_frame.specs.Plain.{plain_of};
 ghost use Rattle.qh_frame.specs.declared.frame.Frame.{Frame};
 ghost use Rattle.qh_history.specs.Standing.{Stands, StandsMade};
 ghost use Rattle.qh_space.specs.Receiving.{IsFrameTaken, IsLossTaken, frame_refusal};
-ghost use Rattle.qh_space.specs.Sending.{AreLeft, IsPacketMade};
+ghost use Rattle.qh_space.specs.Sending.{IsPacketMade};
 ghost use Rattle.qh_space.specs.Timers.{IsProbeDue};
 ghost use Rattle.qh_space.specs.declared.data_space.DataSpace.{DataSpace};
 ghost use Rattle.qh_spec.specs.QuicFrame.{StreamFrame as Run};
@@ -23,5 +23,4 @@ pub fn space_stands()
     ensures probe { (old new : DataSpace) (sent came : List Run) (t : List Act) → IsProbeDue old new → Stands old sent came t → Stands new sent came t }
     ensures made { (now overhead room : ℕ) (old new : DataSpace) (before after : List ℕ) (sent came : List Run) (t : List Act)
         → IsPacketMade now overhead room old new before after → Stands old sent came t → StandsMade new sent came t before after }
-    ensures left { (old new : DataSpace) (sent came : List Run) (t : List Act) → AreLeft old.streams new.streams → Stands old sent came t → Stands new sent came t }
 {}

@@ -3,7 +3,7 @@ ghost use Rattle.qh_base.specs.declared.connection_error.ConnectionError.{Connec
 ghost use Rattle.qh_frame.specs.Plain.{plain_of};
 ghost use Rattle.qh_frame.specs.declared.frame.Frame.{Frame};
 ghost use Rattle.qh_space.specs.Receiving.{IsFrameTaken, IsLossTaken, frame_refusal};
-ghost use Rattle.qh_space.specs.Sending.{AreLeft, IsPacketMade};
+ghost use Rattle.qh_space.specs.Sending.{IsPacketMade};
 ghost use Rattle.qh_space.specs.Timers.{IsProbeDue};
 ghost use Rattle.qh_space.specs.declared.data_space.DataSpace.{DataSpace};
 ghost use Rattle.qh_spec.specs.QuicFrame.{StreamFrame as Run};
@@ -22,5 +22,4 @@ pub fn space_keeps_what_came()
     ensures probe { (old new : DataSpace) (came : List Run) → IsProbeDue old new → KeepsWhatCame old.streams came → KeepsWhatCame new.streams came }
     ensures made { (now overhead room : ℕ) (old new : DataSpace) (before after : List ℕ) (came : List Run)
         → IsPacketMade now overhead room old new before after → KeepsWhatCame old.streams came → KeepsWhatCame new.streams came }
-    ensures left { (old new : DataSpace) (came : List Run) → AreLeft old.streams new.streams → KeepsWhatCame old.streams came → KeepsWhatCame new.streams came }
 {}

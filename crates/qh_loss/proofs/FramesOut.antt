@@ -125,11 +125,10 @@ sent_owed room old new bytes_old bytes_new number packet es written out keeps ow
     let behind : IsWrittenBy room old new bytes_old bytes_new (frames_out es) (frames_out es ++ packet.frames.items) = record {
       frames = written.frames;
       bytes = written.bytes;
-      mid = written.mid;
       written = written.written;
       out_is = written.out_is;
       sent_is = ap (λ (l : List SentFrame). frames_out es ++ l) written.sent_is;
-      rest = written.rest;
+      shared = written.shared;
     } in
     record {
       tracked = rw (frames_more es number packet) (written_by room old new bytes_old bytes_new (frames_out es) (frames_out es ++ packet.frames.items) behind owed.tracked);

@@ -10,14 +10,14 @@ use Rattle.qh_owing.specs.Owing.{AreInPackets, IsInPacket}
 use Rattle.qh_recovery.specs.SentPackets.{IsNext, packet_at}
 use Rattle.qh_recovery.specs.declared.sent_packets.SentPacket.{SentPacket}
 use Rattle.qh_space.proofs.PacketFrames.{none_written_by}
-use Rattle.qh_space.specs.Sending.{AreElicitingPut, AreLeft, due_bytes}
+use Rattle.qh_space.specs.Sending.{AreElicitingPut, due_bytes}
 use Rattle.qh_space.specs.declared.data_space.DataSpace.{DataSpace}
 use Rattle.qh_spec.proofs.Members.{in_left, in_more, in_right}
 use Rattle.qh_spec.specs.Lists.{In}
 use Rattle.qh_streams.proofs.StreamsTracked.{Has, HasOfHalf, IsSent, Keeps, OfHalf, Owed, byte, end, end_sent, is_end_sent, is_reset_sent, reset, reset_sent, sender}
 use Rattle.qh_streams.proofs.StreamsTrackedSettled.{acked_drops, lost_drops}
 use Rattle.qh_streams.proofs.StreamsTrackedSteps.{written_adds}
-use Rattle.qh_streams.specs.Streams.{PlainStreams, AreAcked, AreLost, AreWritten, IsLostAtOnce}
+use Rattle.qh_streams.specs.Streams.{PlainStreams, AreAcked, AreLost, AreWritten}
 use Rattle.qh_streams.specs.Streams.AreAcked.{none as none_acked, more as more_acked}
 use Rattle.qh_streams.specs.Streams.AreLost.{none as none_lost, more as more_lost}
 use Rattle.qh_streams.specs.Streams.AreWritten.{none as none_written, more as more_written}
@@ -110,16 +110,6 @@ written_sends room old new fs bytes (more_written _ _ mid _ f gs rest first fits
   | inr later ↦ inr (later.0, inr later.1, later.2)
 ]
 
--- one that is lost at once adds nothing
-at_once_sends : (old new : PlainStreams) → IsLostAtOnce old new → Keeps old new
-at_once_sends old new l o w =
-    let d = lost_drops l.mid new l.frame l.lost o w in
-    elim (written_adds old l.mid l.room l.frame l.handed o d.0) [ inl before ↦ before | inr has ↦ absurd (d.1 has) ]
-
-pub left_sends : (old new : PlainStreams) → AreLeft old new → SendsNoMore old new
-left_sends old new (inl same) id o w = subst (λ (s : PlainStreams). IsSent s (sender id o)) same w
-left_sends old new (inr lost) id o w = at_once_sends old new lost (sender id o) w
-
 -- ---- packets that go out
 
 same_number : (n k : ℕ) → is_at (nat_cmp n) k ≡ true → k ≡ n
@@ -170,13 +160,10 @@ pub put_sends : (may : Bool) (room : ℕ) (old mid : DataSpace) (out_mid after :
     → SendsIn old.streams mid.streams fs
 put_sends true room old mid out_mid after fs put o w =
     let p = put.streams in
-    elim (written_sends _ old.streams p.mid p.frames p.bytes p.written o (rest_sends p.rest)) [
+    elim (written_sends _ old.streams mid.streams p.frames p.bytes p.written o w) [
       | inl before ↦ inl before
       | inr in_it ↦ inr (in_it.0, subst (λ (l : List SentFrame). In in_it.0 l) (sym p.sent_is) in_it.1, in_it.2)
-    ] where
-      rest_sends : (mid.streams ≡ put.streams.mid) ⊎ IsLostAtOnce put.streams.mid mid.streams → IsSent put.streams.mid o
-      rest_sends (inl same) = subst (λ (s : PlainStreams). IsSent s o) same w
-      rest_sends (inr lost) = at_once_sends put.streams.mid mid.streams lost o w
+    ]
 put_sends false room old mid out_mid after fs none o w = inl (subst (λ (s : DataSpace). IsSent s.streams o) none.0 w)
 
 -- where nothing was appended it has no frame

@@ -15,7 +15,7 @@ use Rattle.qh_spec.specs.Lists.{In}
 use Rattle.qh_spec.specs.Transcript.{Act, Finished, Reset, Wrote, finished, resets, was_reset, written}
 use Rattle.qh_streams.proofs.StreamsSettled.{counts_alone}
 use Rattle.qh_streams.proofs.StreamsTracked.{step_goes, last_goes}
-use Rattle.qh_streams.specs.Streams.{PlainStreams, AreAcked, IsAckedFrame, IsHandedOver, IsLostFrame, counts_of, finished_events, head_bound, is_live, is_two_way, was_opened, with_counts}
+use Rattle.qh_streams.specs.Streams.{PlainStreams, AreAcked, IsAckedFrame, IsHandedOver, IsLostFrame, counts_of, finished_events, max_frame_header, is_live, is_two_way, was_opened, with_counts}
 use Rattle.qh_streams.specs.Streams.AreAcked.{none as none_acked, more as more_acked}
 use Rattle.qh_streams.specs.Streams.IsHandedOver.{stream as stream_handed, reset as reset_handed, stop as stop_handed, max_stream_data as max_stream_data_handed, max_data as max_data_handed, max_streams as max_streams_handed}
 use Rattle.qh_streams.specs.Streams.IsLostFrame.{stream as stream_lost, reset as reset_lost, stop as stop_lost, max_stream_data as max_stream_data_lost, max_data as max_data_lost, max_streams as max_streams_lost}
@@ -261,8 +261,8 @@ module _ (Byte : ℕ → ℕ → Type 0) (End : ℕ → Type 0) where
 
   -- a frame is handed over
   pub handed : (t : List Act) (old new : PlainStreams) (room : ℕ) (f : SentFrame) → IsHandedOver old new room f → AreKept Byte End t old → AreKept Byte End t new
-  handed t old new room f (stream_handed id piece idle next rest) p = quiet old new t (step_sends next.step) (same_opened old new rest) (gives_piece_quiet (room - head_bound) piece) p
-  handed t old new room f (reset_handed id frame idle next rest) p = quiet old new t (step_sends next.step) (same_opened old new rest) (gives_reset_quiet frame) p
+  handed t old new room f (stream_handed id piece next rest) p = quiet old new t (step_sends next.step) (same_opened old new rest) (gives_piece_quiet (room - max_frame_header) piece) p
+  handed t old new room f (reset_handed id frame next rest) p = quiet old new t (step_sends next.step) (same_opened old new rest) (gives_reset_quiet frame) p
   handed t old new room f (stop_handed id code step rest) p = kept old new t (ap (λ (s : PlainStreams). s.send.halves) rest) (λ k. ap (λ (s : PlainStreams). was_opened s k) rest) p
   handed t old new room f (max_stream_data_handed id limit step rest) p = kept old new t (ap (λ (s : PlainStreams). s.send.halves) rest) (λ k. ap (λ (s : PlainStreams). was_opened s k) rest) p
   handed t old new room f (max_data_handed limit is due rest) p = kept old new t (ap (λ (s : PlainStreams). s.send.halves) rest) (λ k. ap (λ (s : PlainStreams). was_opened s k) rest) p

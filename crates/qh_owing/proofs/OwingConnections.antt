@@ -17,7 +17,6 @@ use Rattle.qh_conn.specs.Receiving.IsDatagramTaken.{dropped as dropped_datagram,
 use Rattle.qh_conn.specs.Receiving.IsPacketHandled.{repeated, empty, faulty, taken as taken_packet}
 use Rattle.qh_conn.specs.Sending.{AreFramesMade, IsDatagramMade, NothingIsSent, datagram_of, overhead}
 use Rattle.qh_conn.specs.Sending.AreFramesMade.{packet as packet_frames, close as close_frames}
-use Rattle.qh_conn.specs.Sending.NothingIsSent.{quiet as quiet_now, exhausted, told, draining as draining_now, drained as drained_now}
 use Rattle.qh_conn.specs.Timers.{AreLostByAge, IsProbed, IsTimedOut, restarted}
 use Rattle.qh_conn.specs.Timers.IsTimedOut.{idle as idle_out, recovery as recovery_out, closed as closed_out, draining as draining_out, waits as waits_out, drained as drained_out}
 use Rattle.qh_conn.specs.declared.event.ConnectionEvent.{ConnectionEvent}
@@ -25,8 +24,7 @@ use Rattle.qh_conn.specs.declared.event.ConnectionEvent.TheVariants.{Datagram, C
 use Rattle.qh_conn.specs.declared.inner.Inner.{Inner}
 use Rattle.qh_conn.specs.declared.state.Close.{Close as CloseReason}
 use Rattle.qh_frame.specs.declared.frame.Frame.{Frame}
-use Rattle.qh_history.proofs.Carried.{by_left}
-use Rattle.qh_owing.proofs.InPackets.{kept_in, left_sends}
+use Rattle.qh_owing.proofs.InPackets.{kept_in}
 use Rattle.qh_owing.proofs.KeptStreams.{Reads, again, handed, reads_nothing}
 use Rattle.qh_owing.proofs.NumbersKept.{HasSameNumbers, aged_same, frames_same, made_same, probed_same}
 use Rattle.qh_owing.proofs.OwingAcks.{aged_owing, frames_owing, probed_owing}
@@ -36,7 +34,6 @@ use Rattle.qh_owing.specs.Owing.{AcceptsTag, AreKept, AreOutCarried, IsByteAckno
 use Rattle.qh_packet.proofs.Packets.{has_packet}
 use Rattle.qh_packet.specs.Packet.{header_bytes, low_bytes, short_of}
 use Rattle.qh_recovery.specs.declared.sent_packets.SentPacket.{SentPacket}
-use Rattle.qh_space.specs.Sending.{AreLeft}
 use Rattle.qh_space.specs.declared.data_space.DataSpace.{DataSpace}
 use Rattle.qh_spec.proofs.Members.{in_last}
 use Rattle.qh_spec.proofs.PacketLaws.{tag_length}
@@ -270,28 +267,8 @@ module _ {S : Type 0} (accepts : AcceptsTag) where
       let behind : drop (length before) after ≡ d = ap (λ (z : List ℕ). drop (length before) z) m.bytes.after_is ∙ drop-append_seam before d in
       rw behind (frames_made sealed now old new (header_bytes old.remote_id old.space.next_number) m.bytes.frames t makes m.bytes.number m.bytes.made o)
 
-  left_owes : (old new : Inner S) (t : List Act) → new ≡ with_space old (record old.space { streams = new.space.streams }) → AreLeft old.space.streams new.space.streams → Owes accepts old t → Owes accepts new t
-  left_owes old new t e left o =
-      let opens = ap (λ (c : Inner S). is_open c.state) e in
-      let sent_is : new.space.sent ≡ old.space.sent = ap (λ (c : Inner S). c.space.sent) e in
-      without_more new t (on old new t [] (record { side = ap (λ (c : Inner S). c.side) e; local = ap (λ (c : Inner S). c.local_id) e; remote = ap (λ (c : Inner S). c.remote_id) e; opens = λ up. sym opens ∙ up; numbers = λ up. ap (λ (c : Inner S). c.space.dedup) e })
-      (λ accepted up p.
-      let q = subst (λ (z : List Act). OwesIn old old accepted z) (sym (append-nil t)) p in
-      let Byte = IsByteAcknowledged (length old.remote_id) (handed_out (t ++ [])) accepted old.side in
-      let End = IsEndAcknowledged (length old.remote_id) (handed_out (t ++ [])) accepted old.side in
-      record {
-        kept = by_left (λ s. AreKept Byte End (t ++ []) s) (λ was s f lost. again Byte End (t ++ []) was s f lost) (λ was s room f next. handed Byte End (t ++ []) was s room f next)
-            old.space.streams new.space.streams left q.kept;
-        in_packets = rw (sent_is, ap (λ (c : Inner S). c.space.next_number) e) (kept_in old.space.streams new.space.streams old.space.sent old.space.next_number (left_sends old.space.streams new.space.streams left) q.in_packets);
-        out = subst (λ (l : List (ℕ × SentPacket SentFrame)). AreOutCarried (length old.remote_id) old.side (t ++ []) l) (sym sent_is) q.out;
-      }) o)
-
   nothing_sent : (old new : Inner S) (t : List Act) → NothingIsSent old new → Owes accepts old t → Owes accepts new t
-  nothing_sent old new t (quiet_now opened is left e) o = left_owes old new t e left o
-  nothing_sent old new t (exhausted is left e) o = left_owes old new t e left o
-  nothing_sent old new t (told reason until is e) o = subst (λ (c : Inner S). Owes accepts c t) (sym e) o
-  nothing_sent old new t (draining_now until is e) o = subst (λ (c : Inner S). Owes accepts c t) (sym e) o
-  nothing_sent old new t (drained_now is e) o = subst (λ (c : Inner S). Owes accepts c t) (sym e) o
+  nothing_sent old new t n o = subst (λ (c : Inner S). Owes accepts c t) (sym n.0) o
 
   pub transmit_owes : (sealed : Side → Space → ℕ → List ℕ) (now : Moment) (before after : List ℕ) (answer : Result (Option Transmit) OutOfMemory) (old new : Inner S) (t : List Act) → MakesTags sealed
       → IfOk answer (λ o. IfSome o (λ transmit. IsDatagramMade sealed now old new before after transmit)) → IfOk answer (λ o. o ≡ None → (after ≡ before) × NothingIsSent old new)

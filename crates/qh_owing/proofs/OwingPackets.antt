@@ -36,7 +36,7 @@ use Rattle.qh_spec.specs.QuicFrames.{QuicFrame, AreQuicFrames, Text}
 use Rattle.qh_spec.specs.Transcript.{Act, HandedOut, finished, handed_out, was_reset, written}
 use Rattle.qh_spec.specs.declared.sides.Side.{Side}
 use Rattle.qh_spec.specs.declared.sides.Space.TheVariants.{Data}
-use Rattle.qh_streams.specs.Streams.{PlainStreams, AreWritten, IsHandedOver, IsReadBack, half_bytes, head_bound, written_frame}
+use Rattle.qh_streams.specs.Streams.{PlainStreams, AreWritten, IsHandedOver, IsReadBack, half_bytes, max_frame_header, written_frame}
 use Rattle.qh_streams.specs.Streams.AreWritten.{none as none_written, more as more_written}
 use Rattle.qh_streams.specs.Streams.IsHandedOver.{stream as stream_handed, reset as reset_handed, stop as stop_handed, max_stream_data as max_stream_data_handed, max_data as max_data_handed, max_streams as max_streams_handed}
 use Rattle.qh_streams.specs.declared.frames.SentFrame.{SentFrame}
@@ -101,10 +101,10 @@ given_length room piece h next (inr p) sent_of =
 
 module _ (Byte : ℕ → ℕ → Type 0) (End : ℕ → Type 0) (t : List Act) where
   handed_run : (old new : PlainStreams) (room : ℕ) (f : SentFrame) → IsHandedOver old new room f → AreKept Byte End t old → HasRunOf t f (written_frame new f)
-  handed_run old new room f (stream_handed id piece idle next rest) p =
+  handed_run old new room f (stream_handed id piece next rest) p =
       let s = next.step in
       let keeps : KeepsStream (Byte id.0) (End id.0) (length (written t id.0)) (finished t id.0) (was_reset t id.0) (Some s.half) = rw (s.was) at (p.streams id.0) in
-      let g = given_length (room - head_bound) piece s.half s.next s.step keeps.half.sent_of in
+      let g = given_length (room - max_frame_header) piece s.half s.next s.step keeps.half.sent_of in
       let within = g.0 in
       let taken = keeps.half.taken in
       let view = form_carries (piece.offsets.start == 0) piece.fin id.0 piece.offsets.start (half_bytes (send_at new.send id.0) piece) refl in
@@ -117,7 +117,7 @@ module _ (Byte : ℕ → ℕ → Type 0) (End : ℕ → Type 0) (t : List Act) w
         to = ap (λ (o : Option PlainSend). piece.offsets.start + length (half_bytes o piece)) (step_next s) ∙ g.1;
         fin = refl;
       }
-  handed_run old new room f (reset_handed id frame idle next rest) p = tt
+  handed_run old new room f (reset_handed id frame next rest) p = tt
   handed_run old new room f (stop_handed id code step rest) p = tt
   handed_run old new room f (max_stream_data_handed id limit step rest) p = tt
   handed_run old new room f (max_data_handed limit is due rest) p = tt
@@ -169,7 +169,7 @@ module _ (Byte : ℕ → ℕ → Type 0) (End : ℕ → Type 0) (t : List Act) w
       let w = put.streams in
       let ping = bytes_if old.is_ping_due ping_bytes in
       let response = response_bytes old.path_response in
-      let all = ping_before old.is_ping_due (response ++ w.bytes) w.frames (response_before old.path_response w.bytes w.frames put.reads_back (written_runs _ old.streams w.mid w.frames w.bytes w.written p)) in
+      let all = ping_before old.is_ping_due (response ++ w.bytes) w.frames (response_before old.path_response w.bytes w.frames put.reads_back (written_runs _ old.streams new.streams w.frames w.bytes w.written p)) in
       record {
         bytes = ping ++ (response ++ w.bytes);
         appended = w.out_is ∙ append_assoc mid (ping ++ response) w.bytes ∙ ap (λ (z : List ℕ). mid ++ z) (append_assoc ping response w.bytes);

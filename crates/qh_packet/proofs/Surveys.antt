@@ -12,7 +12,7 @@ use Rattle.qh_spec.specs.FrameViews.{stream_values}
 use Rattle.qh_spec.specs.QuicFrame.{StreamFrame, has_bit}
 use Rattle.qh_spec.specs.QuicFrames.{Part, Number, Fixed, Counted, ShortCounted, Left, Ranges, Value, Num, Text, Nums, QuicFrame, IsNumber, AreNumbers, IsValue, AreValues, IsQuicFrame, AreQuicFrames}
 use Rattle.qh_spec.specs.Varint.{IsVarint, one, two, four, eight}
-use Rattle.qh_packet.specs.Frames.{is_ack_eliciting, AreSurveyed, BeginWithFrames, none, more, IsFaultyFrame}
+use Rattle.qh_packet.specs.Frames.{is_ack_eliciting, AreValidFrames, BeginWithFrames, none, more, IsFaultyFrame}
 
 -- a frame takes a byte at least
 
@@ -159,7 +159,7 @@ front_some [] bytes rest e some h empty = some (h ∙ e)
 front_some (f ∷ fs) bytes rest e some h empty = cc
 
 -- all frames are read
-pub surveyed_all : (bytes rest : List ℕ) (is_eliciting : Bool) → IsSurveyed bytes rest is_eliciting → rest ≡ [] → (bytes ≡ [] → ⊥) → AreSurveyed bytes is_eliciting
+pub surveyed_all : (bytes rest : List ℕ) (is_eliciting : Bool) → IsSurveyed bytes rest is_eliciting → rest ≡ [] → (bytes ≡ [] → ⊥) → AreValidFrames bytes is_eliciting
 surveyed_all bytes rest is_eliciting h e some = record {
   frames = h.frames;
   are = front_all h.frames bytes rest e h.are;

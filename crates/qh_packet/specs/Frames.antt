@@ -11,7 +11,7 @@ abbrev pub is_ack_eliciting : QuicFrame → Bool
 is_ack_eliciting f = not (f.kind == frame_types.padding || (f.kind == frame_types.ack || (f.kind == frame_types.ack_ecn || (f.kind == frame_types.connection_close || f.kind == frame_types.application_close))))
 
 -- the bytes are these frames, at least one, each with values in range; one of them wants an acknowledgement or none does
-pub record AreSurveyed (bytes : List ℕ) (is_eliciting : Bool) : Type 0 where
+pub record AreValidFrames (bytes : List ℕ) (is_eliciting : Bool) : Type 0 where
   pub frames : List QuicFrame
   pub are : AreQuicFrames bytes frames
   pub some : frames ≡ [] → ⊥

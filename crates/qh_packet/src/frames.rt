@@ -1,14 +1,14 @@
 ghost use Rattle.std.specs.Prelude.{◌≡◌, [], Err, IfOk, IfErr};
 ghost use Rattle.qh_frame.specs.Plain.{plain_of};
 ghost use Rattle.qh_frame.specs.declared.frame.FrameFault.{FrameFault as AFrameFault};
-ghost use Rattle.qh_packet.specs.Frames.{AreSurveyed, IsFaultyFrame, is_ack_eliciting};
+ghost use Rattle.qh_packet.specs.Frames.{AreValidFrames, IsFaultyFrame, is_ack_eliciting};
 ghost use Rattle.qh_packet.specs.declared.frames.PacketFault.TheVariants as fault;
 
 use qh_frame::{Frame, FrameFault, get_frame};
 
 /// What is known of a packet's frames before any is taken.
 #[derive(Clone, Copy)]
-pub struct FrameSurvey {
+pub struct ValidFrames {
     /// Whether the packet wants an acknowledgement: it has a frame beside PADDING, ACK and CONNECTION_CLOSE (RFC 9002, section 2).
     pub is_ack_eliciting: bool,
 }
@@ -23,8 +23,8 @@ pub enum PacketFault {
 }
 
 /// Reads all frames of a packet and takes none. The first that can't be read is answered.
-pub fn survey(bytes: &[u8]) -> Result<FrameSurvey, PacketFault>
-    ensures ok { IfOk result (λ s. AreSurveyed bytes.now s.is_ack_eliciting) }
+pub fn validate_frames(bytes: &[u8]) -> Result<ValidFrames, PacketFault>
+    ensures ok { IfOk result (λ s. AreValidFrames bytes.now s.is_ack_eliciting) }
     ensures empty { result ≡ Err fault.Empty → bytes.now ≡ [] }
     ensures frame { IfErr result (λ e. (f : AFrameFault) → e ≡ fault.Frame f → IsFaultyFrame bytes.now f.frame) }
 {
@@ -42,7 +42,7 @@ pub fn survey(bytes: &[u8]) -> Result<FrameSurvey, PacketFault>
             Err(fault) => return Err(PacketFault::Frame(fault)),
         }
     }
-    Ok(FrameSurvey { is_ack_eliciting })
+    Ok(ValidFrames { is_ack_eliciting })
 }
 
 // Whether a packet with this frame wants an acknowledgement.

@@ -8,7 +8,7 @@ mod frames;
 mod packet;
 mod session;
 
-pub use frames::{FrameSurvey, PacketFault, survey};
+pub use frames::{PacketFault, ValidFrames, validate_frames};
 pub use packet::{OneRttPacket, TAG_LEN, open_packet, put_header, written_packet};
 pub use qh_base::{Side, Space};
 pub use session::{PlainData, PlainSession, Session};

@@ -31,7 +31,7 @@ impl<W: Wait, L: TokenLog> TokenLog for &SharedTokenLog<W, L> {
 
     ghost stands = { λ _ _. ⊥ };
 
-    /// Makes this call on the log behind the lock, and answers as that did.
+    /// Makes this call on the log behind the lock, and answers as that did. The contract speaks of some log of the type.
     fn check_and_insert(
         &mut self,
         alloc: Global,

@@ -1,5 +1,5 @@
 -- The bytes of the frames of a packet.
-use Rattle.std.proofs.Common.{◌≡◌, ◌⊎◌, ℕ, ◌+◌, ◌-◌, ◌<◌, ◌≤◌, ◌^◌, Bool, true, false, List, [], ◌∷◌, ◌++◌, length, Option, Some, None, refl, ap, ◌∙◌, arith, inl, inr, subst}
+use Rattle.std.proofs.Common.{◌≡◌, ◌⊎◌, ℕ, ◌+◌, ◌-◌, ◌<◌, ◌≤◌, ◌^◌, Bool, true, false, List, [], ◌∷◌, ◌++◌, length, Option, Some, None, refl, sym, ap, ◌∙◌, arith, inl, inr, subst}
 use Rattle.std.proofs.lemmas.Bool.{cases_lt, lt-ltb, le-ltb}
 use Rattle.std.proofs.lemmas.List.{length-append}
 use Rattle.qh_frame.specs.FrameBytes.{frame_bytes}
@@ -8,7 +8,7 @@ use Rattle.qh_spec.specs.FrameTypes as frame_types
 use Rattle.qh_spec.specs.QuicFrames.{QuicFrame, Text}
 use Rattle.qh_spec.specs.Varint.{varint}
 use Rattle.qh_space.specs.Sending.{bytes_if, ping_bytes, response_bytes}
-use Rattle.qh_streams.specs.Streams.{PlainStreams, AreWritten, IsIdle, IsLostAtOnce, IsWrittenBy, head_bound, written_frame}
+use Rattle.qh_streams.specs.Streams.{PlainStreams, AreWritten, AreShared, IsIdle, IsWrittenBy, max_frame_header, written_frame}
 use Rattle.qh_streams.specs.Streams.AreWritten.{none as none_written, more as more_written}
 use Rattle.qh_streams.specs.declared.frames.SentFrame.{SentFrame}
 
@@ -53,7 +53,7 @@ pub none_written_by : (room : ℕ) (old new : PlainStreams) (out_old out_new : L
     → length out_new ≤ length out_old → frames ≡ []
 none_written_by room old new out_old out_new frames written short =
     let sum = ap length written.out_is ∙ length-append out_old written.bytes in
-    written.sent_is ∙ none_without_bytes room old written.mid written.frames written.bytes written.written (omega (arith, sum, short))
+    written.sent_is ∙ none_without_bytes room old new written.frames written.bytes written.written (omega (arith, sum, short))
 
 none_handed : (room : ℕ) (old new : PlainStreams) (fs : List SentFrame) (bytes : List ℕ) → AreWritten room old new fs bytes → length bytes ≡ 0 → new ≡ old
 none_handed room old new fs bytes (none_written _ _) e = refl
@@ -63,12 +63,12 @@ none_handed room old new fs bytes (more_written _ _ mid _ f gs rest handed fits 
     let some = frame_some (written_frame mid f) in
     absurd (omega (arith, sum, some, e))
 
--- without a byte the streams are as they were, but for a frame that was lost at once
-pub left_by : (room : ℕ) (old new : PlainStreams) (out_old out_new : List ℕ) (frames : List SentFrame) → IsWrittenBy room old new out_old out_new [] frames
-    → length out_new ≤ length out_old → (new ≡ old) ⊎ IsLostAtOnce old new
-left_by room old new out_old out_new frames written short =
+-- without a byte the streams are as they were
+pub same_by : (room : ℕ) (old new : PlainStreams) (out_old out_new : List ℕ) (frames : List SentFrame) → IsWrittenBy room old new out_old out_new [] frames
+    → length out_new ≤ length out_old → new ≡ old
+same_by room old new out_old out_new frames written short =
     let sum = ap length written.out_is ∙ length-append out_old written.bytes in
-    subst (λ (s : PlainStreams). (new ≡ s) ⊎ IsLostAtOnce s new) (none_handed room old written.mid written.frames written.bytes written.written (omega (arith, sum, short))) written.rest
+    none_handed room old new written.frames written.bytes written.written (omega (arith, sum, short))
 
 module _ (room left : ℕ) (old new : PlainStreams) (out_old out_mid out_new due : List ℕ) (frames : List SentFrame) (wide : 80 ≤ room) (mid_is : out_mid ≡ out_old ++ due)
     (few : length due ≤ 10) (left_is : left ≡ room - (length out_mid - length out_old)) (written : IsWrittenBy left old new out_mid out_new [] frames) where
@@ -77,22 +77,26 @@ module _ (room left : ℕ) (old new : PlainStreams) (out_old out_mid out_new due
   eliciting_fits =
       let first = ap length mid_is ∙ length-append out_old due in
       let second = ap length written.out_is ∙ length-append out_mid written.bytes in
-      let fits = written_fits left old written.mid written.frames written.bytes written.written in
+      let fits = written_fits left old new written.frames written.bytes written.written in
       (omega (arith, first, second), omega (arith, first, second, fits, few, left_is, wide))
 
   -- where nothing was appended nothing waits
-  pub eliciting_idle : IsIdle new ⊎ ((left < length out_new - length out_mid + head_bound + 1) ⊎ (0 < length frames)) → out_new ≡ out_old → (length due ≡ 0) × IsIdle new
+  pub eliciting_idle : IsIdle new ⊎ (left < length out_new - length out_mid + max_frame_header + 1) → out_new ≡ out_old → (length due ≡ 0) × IsIdle new
   eliciting_idle full same =
       let first = ap length mid_is ∙ length-append out_old due in
       let second = ap length written.out_is ∙ length-append out_mid written.bytes in
       let lengths = ap length same in
       let no_due : length due ≡ 0 = omega (arith, first, second, lengths) in
-      let count = ap length (none_written_by left old new out_mid out_new frames written (omega (arith, first, lengths))) in
       elim full [
         | inl idle ↦ (no_due, idle)
-        | inr (inl narrow) ↦ absurd (omega (arith, first, lengths, no_due, narrow, left_is, wide))
-        | inr (inr more) ↦ absurd (omega (arith, count, more))
+        | inr narrow ↦ absurd (omega (arith, first, lengths, no_due, narrow, left_is, wide))
       ]
+
+  -- with room for these and for what is due no kind of frame keeps another from being sent
+  pub eliciting_shared : 610 ≤ room → AreShared old new frames
+  eliciting_shared enough =
+      let first = ap length mid_is ∙ length-append out_old due in
+      subst (AreShared old new) (sym written.sent_is) (written.shared (omega (arith, first, few, left_is, enough)))
 
 -- where no byte is due, no PING and no PATH_RESPONSE is
 pub none_due : (ping : Bool) (response : Option (List ℕ)) → length (bytes_if ping ping_bytes ++ response_bytes response) ≡ 0 → (ping ≡ false) × (response ≡ None)

@@ -9,11 +9,11 @@ use Rattle.qh_loss.proofs.FramesOut.{Packets, frames_more, sent_owed}
 use Rattle.qh_recovery.specs.PendingAcks.{PlainPendingAcks}
 use Rattle.qh_recovery.specs.SentPackets.{packet_at, HasInstead}
 use Rattle.qh_recovery.specs.declared.sent_packets.SentPacket.{SentPacket}
-use Rattle.qh_space.specs.Sending.{may_elicit, due_bytes, with_sent, AreElicitingPut, AreLeft, IsAckFirst, IsPacketMade, IsQuiet}
+use Rattle.qh_space.specs.Sending.{may_elicit, due_bytes, with_sent, AreElicitingPut, IsAckFirst, IsPacketMade, IsQuiet}
 use Rattle.qh_space.specs.Space.{IsSpace}
 use Rattle.qh_space.specs.declared.data_space.DataSpace.{DataSpace}
-use Rattle.qh_space.proofs.PacketFrames.{left_by, none_written_by}
-use Rattle.qh_streams.specs.Streams.{PlainStreams, AreAllOut, IsIdle, KeepsOut}
+use Rattle.qh_space.proofs.PacketFrames.{none_written_by, same_by}
+use Rattle.qh_streams.specs.Streams.{PlainStreams, AreAllOut, AreShared, IsIdle, KeepsOut}
 use Rattle.qh_streams.specs.Tracked.{AreTracked}
 use Rattle.qh_streams.specs.declared.frames.SentFrame.{SentFrame}
 
@@ -126,13 +126,13 @@ module _ (room : ℕ) (old mid : DataSpace) (out_mid out_new : List ℕ) (packet
       let first = length-append out_mid due in
       none_written_by (room - length due) old.streams mid.streams (out_mid ++ due) out_new packet.frames.items (put may).streams (omega (arith, first, short))
 
-  streams_left : length out_new ≤ length out_mid → AreLeft old.streams mid.streams
-  streams_left short = elim (cases_Bool (may_elicit old)) [
+  streams_same : length out_new ≤ length out_mid → mid.streams ≡ old.streams
+  streams_same short = elim (cases_Bool (may_elicit old)) [
     | inl may ↦
         let due = due_bytes old in
         let first = length-append out_mid due in
-        left_by (room - length due) old.streams mid.streams (out_mid ++ due) out_new packet.frames.items (put may).streams (omega (arith, first, short))
-    | inr not ↦ inl (ap (λ (m : DataSpace). m.streams) (none not).0)
+        same_by (room - length due) old.streams mid.streams (out_mid ++ due) out_new packet.frames.items (put may).streams (omega (arith, first, short))
+    | inr not ↦ ap (λ (m : DataSpace). m.streams) (none not).0
   ]
 
   module _ (owed : AreOwed old.streams old.sent) (out : AreAllOut mid.streams packet.frames.items) (keeps : KeepsOut old.streams mid.streams) where
@@ -171,8 +171,8 @@ module _ (room : ℕ) (old mid : DataSpace) (out_mid out_new : List ℕ) (packet
     -- what the packet is
     pub packet_made : (now overhead most : ℕ) (out_old : List ℕ) → IsAckFirst old out_old out_mid → room ≡ most - (length out_mid - length out_old) → packet.time_sent.0 ≡ now
         → packet.size ≡ overhead + (length out_new - length out_old) → length out_old < length out_new → length out_new ≤ length out_old + most
-        → IsPacketMade now overhead most old new out_old out_new
-    packet_made now overhead most out_old ack room_is time_is size_is some fits = record {
+        → (1143 ≤ most → may_elicit old ≡ true → AreShared old.streams mid.streams packet.frames.items) → IsPacketMade now overhead most old new out_old out_new
+    packet_made now overhead most out_old ack room_is time_is size_is some fits shared = record {
       out_mid = out_mid;
       mid = mid;
       packet = packet;
@@ -183,6 +183,7 @@ module _ (room : ℕ) (old mid : DataSpace) (out_mid out_new : List ℕ) (packet
       size_is = size_is;
       some = some;
       fits = fits;
+      shared = shared;
     }
 
   module _ (out_old : List ℕ) (ack : IsAckFirst old out_old out_mid) (some : old.acks.is_due ≡ true → length out_old < length out_mid) (grown : length out_mid ≤ length out_new)
@@ -200,8 +201,8 @@ module _ (room : ℕ) (old mid : DataSpace) (out_mid out_new : List ℕ) (packet
     still = let same = ap length no_ack in none_appended (omega (arith, same, none_out))
 
     -- no packet was made, and the streams are as they were
-    pub none_left : AreLeft old.streams mid.streams
-    none_left = let short = ap length still in streams_left (omega (arith, short))
+    streams_still : mid.streams ≡ old.streams
+    streams_still = let short = ap length still in streams_same (omega (arith, short))
 
     -- no packet was made, and it is a space afterwards
     pub space_kept : IsSpace old → AreAllOut mid.streams packet.frames.items → KeepsOut old.streams mid.streams → IsSpace mid
@@ -218,26 +219,26 @@ module _ (room : ℕ) (old mid : DataSpace) (out_mid out_new : List ℕ) (packet
         })
 
     module _ (idle : out_new ≡ out_mid → may_elicit old ≡ true → (old.is_ping_due ≡ false) × (old.path_response ≡ None) × IsIdle mid.streams) where
-      only_streams : mid ≡ record old { streams = mid.streams }
-      only_streams = elim (cases_Bool (may_elicit old)) [
+      -- nothing changed
+      same : mid ≡ old
+      same = elim (cases_Bool (may_elicit old)) [
         | inl may ↦
             let was = idle still may in
             (put may).rest_is
             ∙ (ap (λ (p : Bool). record old { streams = mid.streams; is_ping_due = p; path_response = None }) (sym was.0)
-            ∙ ap (λ (r : Option (List ℕ)). record old { streams = mid.streams; path_response = r }) (sym was.1))
-        | inr not ↦ rw ((none not).0) refl
+            ∙ (ap (λ (r : Option (List ℕ)). record old { streams = mid.streams; path_response = r }) (sym was.1)
+            ∙ ap (λ (s : PlainStreams). record old { streams = s }) streams_still))
+        | inr not ↦ (none not).0
       ]
 
-      quiet : IsQuiet mid
-      quiet =
-          let same : may_elicit old ≡ may_elicit mid = sym (ap (λ (m : DataSpace). may_elicit m) mid_is) in
-          record {
-            ack = ap (λ (m : DataSpace). m.acks.is_due) mid_is ∙ not_due;
-            ping = λ may. ap (λ (m : DataSpace). m.is_ping_due) ((put (same ∙ may)).rest_is);
-            response = λ may. ap (λ (m : DataSpace). m.path_response) ((put (same ∙ may)).rest_is);
-            streams = λ may. (idle still (same ∙ may)).2;
-          }
+      quiet : IsQuiet old
+      quiet = record {
+        ack = not_due;
+        ping = λ may. (idle still may).0;
+        response = λ may. (idle still may).1;
+        streams = λ may. subst IsIdle streams_still (idle still may).2;
+      }
 
       -- nothing was to be sent
-      pub none_made : (out_new ≡ out_old) × (mid ≡ record old { streams = mid.streams }) × ((old.next_number ≡ 2 ^ 62) ⊎ IsQuiet mid)
-      none_made = (still ∙ no_ack, only_streams, inr quiet)
+      pub none_made : (out_new ≡ out_old) × (mid ≡ old) × ((old.next_number ≡ 2 ^ 62) ⊎ IsQuiet old)
+      none_made = (still ∙ no_ack, same, inr quiet)

@@ -27,8 +27,8 @@ use Rattle.qh_streams.specs.declared.frames.StreamFrame.TheVariants as coming
 -- the frame that speaks of streams (sections 19.4, 19.5 and 19.8 to 19.11)
 abbrev pub coming_of : Frame → Option StreamFrame
 coming_of (kind.Stream s) = Some (coming.Stream s.id s.offset s.payload.now s.fin)
-coming_of (kind.ResetStream id code size) = Some (coming.ResetStream id code size)
-coming_of (kind.StopSending id code) = Some (coming.StopSending id code)
+coming_of (kind.ResetStream id code size) = Some (coming.Reset id code size)
+coming_of (kind.StopSending id code) = Some (coming.Stop id code)
 coming_of (kind.MaxData limit) = Some (coming.MaxData limit)
 coming_of (kind.MaxStreamData id limit) = Some (coming.MaxStreamData id limit)
 coming_of (kind.MaxStreams dir count) = Some (coming.MaxStreams dir count)
@@ -84,7 +84,7 @@ pub record IsAckReceived (now : ℕ) (old new : DataSpace) (a : Ack) : Type 0 wh
     congestion = mid.congestion;
     rtt = measured (packet_at old.sent a.greatest) now old.rtt;
     largest_acked = Some (greatest_of old.largest_acked a.greatest);
-    probes = (if is_any then 0 else old.probes);
+    pto_count = (if is_any then 0 else old.pto_count);
   }
   pub lost : IsLossTaken (greatest_of old.largest_acked a.greatest) now mid new
 

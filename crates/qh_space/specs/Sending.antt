@@ -9,7 +9,7 @@ use Rattle.qh_recovery.specs.declared.sent_packets.SentPacket.{SentPacket}
 use Rattle.qh_space.specs.declared.data_space.DataSpace.{DataSpace}
 use Rattle.qh_spec.specs.FrameTypes as frame_types
 use Rattle.qh_spec.specs.QuicFrames.{Text}
-use Rattle.qh_streams.specs.Streams.{PlainStreams, head_bound, IsIdle, IsLostAtOnce, IsReadBack, IsWrittenBy}
+use Rattle.qh_streams.specs.Streams.{max_frame_header, AreShared, IsIdle, IsReadBack, IsWrittenBy}
 use Rattle.qh_streams.specs.declared.frames.SentFrame.{SentFrame}
 
 -- Ack-eliciting frames may be sent: the window permits a datagram, or a probe is due, which passes it (RFC 9002, sections 7 and
@@ -40,12 +40,12 @@ abbrev pub due_bytes : DataSpace → List ℕ
 due_bytes s = bytes_if s.is_ping_due ping_bytes ++ response_bytes s.path_response
 
 -- What was appended for ack-eliciting frames, in so much room, where they may be sent: the PING and the PATH_RESPONSE that are due,
--- then frames of the streams. Where none of these was put, nothing waits, or there is no room for a frame's head and one byte.
+-- then frames of the streams, until nothing waits or there is no room for a frame's head and one byte.
 pub record AreElicitingPut (room : ℕ) (old new : DataSpace) (out_old out_new : List ℕ) (frames : List SentFrame) : Type 0 where
   pub streams : IsWrittenBy (room - length (due_bytes old)) old.streams new.streams (out_old ++ due_bytes old) out_new [] frames
   pub rest_is : new ≡ record old { streams = new.streams; is_ping_due = false; path_response = None }
   pub reads_back : ReadsBack old.path_response
-  pub full : IsIdle new.streams ⊎ ((room < length out_new - length out_old + (head_bound + 1)) ⊎ (0 < length frames))
+  pub full : IsIdle new.streams ⊎ (room < length out_new - length out_old + (max_frame_header + 1))
 
 -- an ACK is put first, where one is due (RFC 9000, section 13.2.1)
 abbrev pub IsAckFirst : DataSpace → (out_old out_mid : List ℕ) → Type 0
@@ -58,7 +58,7 @@ with_sent s packet true = record s {
   sent = s.sent ++ (s.next_number, packet) ∷ [];
   next_number = s.next_number + 1;
   is_probe_due = false;
-  probes = (if s.is_probe_due then min (2 ^ 32 - 1) (s.probes + 1) else s.probes);
+  pto_count = (if s.is_probe_due then min (2 ^ 32 - 1) (s.pto_count + 1) else s.pto_count);
   probes_sent = (if s.is_probe_due then min (2 ^ 64 - 1) (s.probes_sent + 1) else s.probes_sent);
 }
 with_sent s packet false = record s { next_number = s.next_number + 1 }
@@ -76,11 +76,8 @@ pub record IsPacketMade (now overhead room : ℕ) (old new : DataSpace) (out_old
   pub size_is : packet.size ≡ overhead + (length out_new - length out_old)
   pub some : length out_old < length out_new
   pub fits : length out_new ≤ length out_old + room
-
--- Where nothing is sent the streams are as they were, but for a frame that was handed over and lost at once, where the allocator
--- had no memory.
-abbrev pub AreLeft : (old new : PlainStreams) → Type 0
-AreLeft old new = (new ≡ old) ⊎ IsLostAtOnce old new
+  -- in a datagram of 1,200 bytes no kind of frame keeps another from being sent
+  pub shared : 1143 ≤ room → may_elicit old ≡ true → AreShared old.streams mid.streams packet.frames.items
 
 -- Nothing is to be sent: no ACK is due, and nothing that is ack-eliciting waits that may be sent.
 pub record IsQuiet (s : DataSpace) : Type 0 where

@@ -12,7 +12,7 @@ use Rattle.qh_space.specs.declared.data_space.DataSpace.{DataSpace}
 pub record IsProbeTime (s : DataSpace) (moment : ℕ) : Type 0 where
   pub last : Moment
   pub is_last : IsLastSent s.sent last
-  pub moment_is : moment ≡ min (2 ^ 64 - 1) (last.0 + probe_time s.rtt s.probes)
+  pub moment_is : moment ≡ min (2 ^ 64 - 1) (last.0 + probe_time s.rtt s.pto_count)
 
 abbrev pub pings_after : Probe → DataSpace → DataSpace
 pings_after Ping s = record s { is_ping_due = true }

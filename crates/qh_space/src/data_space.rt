@@ -49,7 +49,7 @@ pub struct DataSpace {
     /// The window.
     pub congestion: WindowController,
     /// How many probe packets were sent since an ACK last acknowledged a packet that was out.
-    pub probes: u32,
+    pub pto_count: u32,
     /// Whether the next ack-eliciting packet is a probe packet: it passes the window.
     pub is_probe_due: bool,
     /// How many packets were lost so far.
@@ -68,7 +68,7 @@ impl DataSpace {
         ensures streams { result.streams ≡ first_streams side config.limits config.peer }
         ensures received { Remembers [] result.dedup }
         ensures parts { (result.sent ≡ []) × (result.next_number ≡ 0) × (result.largest_acked ≡ None) × (result.acks ≡ record { ranges = []; is_due = false }) }
-        ensures recovery { (result.rtt ≡ new_estimator config.initial_rtt.0) × (result.congestion ≡ new_controller config.initial_window) × (result.probes ≡ 0) × (result.is_probe_due ≡ false) }
+        ensures recovery { (result.rtt ≡ new_estimator config.initial_rtt.0) × (result.congestion ≡ new_controller config.initial_window) × (result.pto_count ≡ 0) × (result.is_probe_due ≡ false) }
         ensures nothing_due { (result.is_ping_due ≡ false) × (result.path_response ≡ None) }
     {
         let mut streams = Streams::new(alloc, side, config.limits);
@@ -84,7 +84,7 @@ impl DataSpace {
             path_response: None,
             rtt: RttEstimator::new(config.initial_rtt),
             congestion: WindowController::new(config.initial_window),
-            probes: 0,
+            pto_count: 0,
             is_probe_due: false,
             packets_lost: 0,
             probes_sent: 0,

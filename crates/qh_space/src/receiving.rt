@@ -139,12 +139,12 @@ impl DataSpace {
         ensures taken { IsAckTaken (ack_of ack.now) self.old.sent self.new.sent self.old.streams self.new.streams self.old.congestion self.new.congestion }
         ensures none { result ≡ false → self.new.sent ≡ self.old.sent }
         ensures some { result ≡ true → self.new.sent ≡ self.old.sent → ⊥ }
-        ensures rest { self.new ≡ record self.old { streams = self.new.streams; sent = self.new.sent; congestion = self.new.congestion; probes = (if result then 0 else self.old.probes) } }
+        ensures rest { self.new ≡ record self.old { streams = self.new.streams; sent = self.new.sent; congestion = self.new.congestion; pto_count = (if result then 0 else self.old.pto_count) } }
         ensures owed { AreOwed self.new.streams self.new.sent }
     {
         let is_any = on_ack_received(&mut self.streams, &mut self.sent, &mut self.congestion, ack);
         if is_any {
-            self.probes = 0;
+            self.pto_count = 0;
         }
         is_any
     }
@@ -216,20 +216,20 @@ fn coming_frame(alloc: Global, frame: &Frame<'_>) -> Result<Option<StreamFrame>,
         Frame::ResetStream {
             id,
             error_code,
-            final_offset,
-        } => StreamFrame::ResetStream {
+            final_size,
+        } => StreamFrame::Reset {
             id: *id,
             code: *error_code,
-            final_size: *final_offset,
+            size: *final_size,
         },
-        Frame::StopSending { id, error_code } => StreamFrame::StopSending {
+        Frame::StopSending { id, error_code } => StreamFrame::Stop {
             id: *id,
             code: *error_code,
         },
         Frame::MaxData(limit) => StreamFrame::MaxData(*limit),
         Frame::MaxStreamData { id, offset } => StreamFrame::MaxStreamData {
             id: *id,
-            limit: *offset,
+            max: *offset,
         },
         Frame::MaxStreams { dir, count } => StreamFrame::MaxStreams {
             dir: *dir,

@@ -1,8 +1,8 @@
 ghost use Rattle.std.specs.Prelude.{◌≡◌, ◌⊎◌, ◌+◌, ◌-◌, ◌<◌, ◌≤◌, ◌^◌, ◌++◌, length, None, Some, true, false, IfOk, IfSome, OnOk, OnErr};
 ghost use Rattle.qh_recovery.specs.SentPackets.{HasInstead, IsNext};
-ghost use Rattle.qh_space.specs.Sending.{ReadsBack, may_elicit, bytes_if, due_bytes, ping_bytes, response_bytes, with_sent, AreElicitingPut, AreLeft, IsAckFirst, IsPacketMade, IsQuiet};
+ghost use Rattle.qh_space.specs.Sending.{ReadsBack, may_elicit, bytes_if, due_bytes, ping_bytes, response_bytes, with_sent, AreElicitingPut, IsAckFirst, IsPacketMade, IsQuiet};
 ghost use Rattle.qh_space.specs.Space.{IsSpace};
-ghost use Rattle.qh_streams.specs.Streams.{AreAllOut, IsIdle, KeepsOut};
+ghost use Rattle.qh_streams.specs.Streams.{AreAllOut, AreShared, IsIdle, KeepsOut};
 
 use crate::DataSpace;
 use qh_base::{Memory, Moment};
@@ -31,8 +31,7 @@ impl DataSpace {
         requires room { 600 ≤ room }
         requires size { room + overhead < 2 ^ 32 }
         ensures some { IfOk result (λ o. IfSome o (λ n. (n ≡ self.old.next_number) × (n < 2 ^ 62) × IsPacketMade now.0 overhead room self.old self.new out.old.items out.new.items)) }
-        ensures none { IfOk result (λ o. o ≡ None → (out.new.items ≡ out.old.items) × (self.new ≡ record self.old { streams = self.new.streams }) × ((self.old.next_number ≡ 2 ^ 62) ⊎ IsQuiet self.new)) }
-        ensures left { IfOk result (λ o. o ≡ None → AreLeft self.old.streams self.new.streams) }
+        ensures none { IfOk result (λ o. o ≡ None → (out.new.items ≡ out.old.items) × (self.new ≡ self.old) × ((self.old.next_number ≡ 2 ^ 62) ⊎ IsQuiet self.old)) }
         ensures space { OnOk result (IsSpace self.new) }
     {
         if self.next_number == PACKET_NUMBERS {
@@ -87,6 +86,7 @@ impl DataSpace {
         ensures none { IfOk result (λ frames. may_elicit self.old ≡ false → (self.new ≡ self.old) × (out.new.items ≡ out.old.items)) }
         ensures idle { OnOk result (out.new.items ≡ out.old.items → may_elicit self.old ≡ true → (self.old.is_ping_due ≡ false) × (self.old.path_response ≡ None) × IsIdle self.new.streams) }
         ensures fits { OnOk result ((length out.old.items ≤ length out.new.items) × (length out.new.items ≤ length out.old.items + room)) }
+        ensures shared { IfOk result (λ frames. 610 ≤ room → may_elicit self.old ≡ true → AreShared self.old.streams self.new.streams frames.items) }
         ensures out { IfOk result (λ frames. AreAllOut self.new.streams frames.items) }
         ensures keeps_out { OnOk result (KeepsOut self.old.streams self.new.streams) }
     {
@@ -172,7 +172,7 @@ impl DataSpace {
         self.next_number = number + 1;
         if self.is_probe_due {
             self.is_probe_due = false;
-            self.probes = self.probes.saturating_add(1);
+            self.pto_count = self.pto_count.saturating_add(1);
             self.probes_sent = self.probes_sent.saturating_add(1);
         }
         Ok(())

@@ -16,7 +16,7 @@ impl DataSpace {
         ensures { MatchOption result (self.now.sent ≡ []) (λ t. IsProbeTime self.now t.0) }
     {
         let last = self.sent.last_sent()?;
-        Some(last.plus(self.rtt.probe_time(self.probes)))
+        Some(last.plus(self.rtt.probe_time(self.pto_count)))
     }
 
     /// When a packet that is out becomes lost by its age (RFC 9002, section 6.1.2). None exactly where none was sent before one

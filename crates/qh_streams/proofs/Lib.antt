@@ -1,4 +1,8 @@
+pub mod AllPhases
 pub mod ChunksRead
+pub mod LimitsTold
+pub mod LimitsWritten
+pub mod PhasesWritten
 pub mod StreamsArrived
 pub mod StreamsInTurn
 pub mod StreamsKept
@@ -13,3 +17,4 @@ pub mod StreamsTrackedLists
 pub mod StreamsTrackedSettled
 pub mod StreamsTrackedSteps
 pub mod StreamsWritten
+pub mod TakenBack

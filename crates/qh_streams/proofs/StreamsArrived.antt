@@ -11,7 +11,7 @@ use Rattle.qh_streams.specs.declared.frames.StreamEvent.{StreamEvent}
 use Rattle.qh_halves.specs.declared.counts.StreamCounts.{StreamCounts}
 use Rattle.qh_halves.specs.Counts.{AreCounts, is_own, is_bi, index_of, is_in_range}
 use Rattle.qh_half.specs.Send.{new_send}
-use Rattle.qh_halves.specs.SendHalves.{PlainSendHalves, send_at, AreAdded}
+use Rattle.qh_halves.specs.SendHalves.{PlainSendHalves, send_at, unacked, AreAdded}
 use Rattle.qh_half.specs.Recv.{new_recv}
 use Rattle.qh_halves.specs.RecvHalves.{PlainRecvHalves, recv_at, AreRecvAdded}
 use Rattle.qh_streams.specs.Streams.{PlainStreams, AreStreams, AreOpened, IsWithinCount, counts_of, was_opened, is_two_way, first_limit, new_send_half, new_recv_half, arrives_with}
@@ -137,6 +137,10 @@ module _ (s : PlainStreams) (id : ℕ) (two_way : Bool) (own_is : is_own s.side 
     send_rest_in t first count true added same = (added refl).rest_is
     send_rest_in t first count false added same = same refl ∙ ap (λ (h : PlainSendHalves). record s.send { halves = h.halves }) (sym (same refl))
 
+    held_in : (t : PlainStreams) (first count : ℕ) (b : Bool) → (b ≡ true → AreAdded s.send t.send first count limit) → (b ≡ false → t.send ≡ s.send) → unacked t.send.halves ≡ unacked s.send.halves
+    held_in t first count true added same = (added refl).held_is
+    held_in t first count false added same = ap (λ (h : PlainSendHalves). unacked h.halves) (same refl)
+
     pub are_arrived : (t : PlainStreams) (first count : ℕ) → ((k : ℕ) → is_in_range first count k ≡ arrives_with s id k) → (two_way ≡ true → AreAdded s.send t.send first count limit) → (two_way ≡ false → t.send ≡ s.send)
         → AreRecvAdded s.recv t.recv first count → ((k : ℕ) → is_in_range first count k ≡ true → send_at s.send k ≡ None) → AreOpened s t (arrives_with s id)
     are_arrived t first count range added same read fresh = record {
@@ -146,6 +150,7 @@ module _ (s : PlainStreams) (id : ℕ) (two_way : Bool) (own_is : is_own s.side 
           ∙ at_range (is_in_range first count k) (arrives_with s id k) (Some (new_recv (min s.recv.stream_window (2 ^ 62 - 1)))) (new_recv_half s k) (recv_at s.recv k) (range k) (λ there. reads k (arriving k there));
       send_rest = send_rest_in t first count two_way added same;
       recv_rest = read.rest_is;
+      held_is = held_in t first count two_way added same;
     }
 
 -- ---- an arrival is taken back

@@ -63,19 +63,19 @@ counts_send s true c = refl
 counts_send s false c = refl
 
 -- it comes of a half, or the sending halves are as they were
-data Comes (old new : PlainStreams) (f : SentFrame) : Type 0 where
+pub data Comes (old new : PlainStreams) (f : SentFrame) : Type 0 where
   of_half : (room id : ℕ) (t : Transmission) → sender_of f ≡ Some id → IsSentNext old.send new.send room id t → Comes old new f
   of_none : sender_of f ≡ None → new.send ≡ old.send → Comes old new f
 
-comes : (old new : PlainStreams) (room : ℕ) (f : SentFrame) → IsHandedOver old new room f → Comes old new f
-comes old new room f (stream_handed id piece idle next rest) = of_half _ id.0 (Stream piece) refl next
-comes old new room f (reset_handed id reset idle next rest) = of_half _ id.0 (Reset reset) refl next
+pub comes : (old new : PlainStreams) (room : ℕ) (f : SentFrame) → IsHandedOver old new room f → Comes old new f
+comes old new room f (stream_handed id piece next rest) = of_half _ id.0 (Stream piece) refl next
+comes old new room f (reset_handed id reset next rest) = of_half _ id.0 (Reset reset) refl next
 comes old new room f (stop_handed id code step rest) = of_none refl (ap (λ (s : PlainStreams). s.send) rest)
 comes old new room f (max_stream_data_handed id limit step rest) = of_none refl (ap (λ (s : PlainStreams). s.send) rest)
 comes old new room f (max_data_handed limit is due rest) = of_none refl (ap (λ (s : PlainStreams). s.send) rest)
 comes old new room f (max_streams_handed dir count is due rest) = of_none refl (ap (λ (s : PlainStreams). s.send) rest ∙ counts_send old _ _)
 
-come_waits : (old new : PlainStreams) (f : SentFrame) → Comes old new f → (k : ℕ) → WaitsAt new.send k → WaitsAt old.send k
+pub come_waits : (old new : PlainStreams) (f : SentFrame) → Comes old new f → (k : ℕ) → WaitsAt new.send k → WaitsAt old.send k
 come_waits old new f (of_half room id t is next) k w = sent_waits old.send new.send room id t next k w
 come_waits old new f (of_none is same) k w = rw same at w
 

@@ -13,7 +13,7 @@ use Rattle.qh_half.specs.declared.send.Outgoing.{Outgoing}
 use Rattle.qh_halves.specs.declared.counts.StreamCounts.{StreamCounts}
 use Rattle.qh_halves.specs.Counts.{AreCounts, AreNoFewer, is_own, is_bi, index_of, has_send, has_recv}
 use Rattle.qh_half.specs.Send.{PlainSend, new_send}
-use Rattle.qh_halves.specs.SendHalves.{PlainSendHalves, send_at, half_is_span, IsHalf}
+use Rattle.qh_halves.specs.SendHalves.{PlainSendHalves, send_at, half_is_span, unacked, IsHalf}
 use Rattle.qh_half.specs.Recv.{PlainRecv, new_recv}
 use Rattle.qh_halves.specs.RecvHalves.{PlainRecvHalves, recv_at, IsRecvHalf}
 use Rattle.qh_streams.specs.Streams.{PlainStreams, AreStreams, AreOpened, KeepsOut, counts_of, was_opened, is_two_way, first_limit, new_send_half, new_recv_half}
@@ -124,7 +124,7 @@ module _ (s : PlainStreams) (send : PlainSendHalves) (recv : PlainRecvHalves) (e
 
 -- ---- this end opens a stream
 
-module _ (s t : PlainStreams) (id limit : ℕ) (own : is_own s.side id ≡ true) (limit_is : limit ≡ first_limit s id) (none : recv_at s.recv id ≡ None) where
+module _ (s t : PlainStreams) (id limit : ℕ) (own : is_own s.side id ≡ true) (limit_is : limit ≡ first_limit s id) (no_send : send_at s.send id ≡ None) (none : recv_at s.recv id ≡ None) where
   sends : new_send_half s id ≡ Some (new_send limit)
   sends = ap (λ (b : Bool). if b || is_bi id then Some (new_send (first_limit s id)) else None) own ∙ ap (λ (n : ℕ). Some (new_send n)) (sym limit_is)
 
@@ -144,6 +144,10 @@ module _ (s t : PlainStreams) (id limit : ℕ) (own : is_own s.side id ≡ true)
     | inr apart ↦ rw apart.0 refl
   ]
 
+  -- the new half holds no bytes
+  held_same : IsHalf s.send t.send id (Some (new_send limit)) 0 → unacked t.send.halves ≡ unacked s.send.halves
+  held_same send = let held = rw no_send at send.held_is in omega (arith, held)
+
   pub are_opened : (two_way : Bool) → is_bi id ≡ two_way → IsHalf s.send t.send id (Some (new_send limit)) 0 → (two_way ≡ true → IsRecvHalf s.recv t.recv id (Some (new_recv (min s.recv.stream_window (2 ^ 62 - 1)))))
       → (two_way ≡ false → t.recv ≡ s.recv) → AreOpened s t (λ k. k == id)
   are_opened true is send recv same = let read = recv refl in record {
@@ -151,10 +155,12 @@ module _ (s t : PlainStreams) (id limit : ℕ) (own : is_own s.side id ≡ true)
     recv_is = λ k. read.halves_are k ∙ at_id (new_recv_half s) (recv_at s.recv) (Some (new_recv (min s.recv.stream_window (2 ^ 62 - 1)))) k (reads true is);
     send_rest = send.rest_is ∙ ap (λ (n : ℕ). record s.send { halves = t.send.halves; data_sent = n }) (omega arith);
     recv_rest = read.rest_is;
+    held_is = held_same send;
   }
   are_opened false is send recv same = record {
     send_is = λ k. send.halves_are k ∙ at_id (new_send_half s) (send_at s.send) (Some (new_send limit)) k sends;
     recv_is = λ k. ap (λ (r : PlainRecvHalves). recv_at r k) (same refl) ∙ none_at k ∙ at_id (new_recv_half s) (recv_at s.recv) None k (reads false is);
     send_rest = send.rest_is ∙ ap (λ (n : ℕ). record s.send { halves = t.send.halves; data_sent = n }) (omega arith);
     recv_rest = same refl ∙ ap (λ (r : PlainRecvHalves). record s.recv { halves = r.halves }) (sym (same refl));
+    held_is = held_same send;
   }

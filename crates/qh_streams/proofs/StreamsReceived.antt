@@ -15,7 +15,7 @@ use Rattle.qh_half.specs.Recv.{PlainRecv, new_recv, is_done, ingest_fault, passe
 use Rattle.qh_halves.specs.RecvHalves.{PlainRecvHalves, recv_at, unless_done, half_ingest_fault, ingest_fault_at, half_is_wanted, IsRecvStep, IsRecvAbsent, IsPieceTaken, IsResetTaken}
 use Rattle.qh_streams.specs.Streams.{PlainStreams, was_opened, is_live, counted_closed, arrives_with, counts_of, new_recv_half, recv_or_new, readable_events, HasArrived, IsWithinCount, IsRefusal, IsRefusedBy, ingest_refusal, size_refusal, IsPieceReceived, IsResetReceived, IsReceived, HasUnblocked, KeepsOut}
 use Rattle.qh_halves.specs.SendHalves.{PlainSendHalves, IsStep, IsAbsent, HasLimit, KeepsSpans}
-use Rattle.qh_streams.specs.declared.frames.StreamFrame.TheVariants.{Stream, ResetStream, MaxStreamData}
+use Rattle.qh_streams.specs.declared.frames.StreamFrame.TheVariants.{Stream, Reset, MaxStreamData}
 use Rattle.qh_streams.specs.Streams.IsReceived.{stream, reset, max_stream_data}
 use Rattle.qh_streams.proofs.StreamsKept.{out_kept, later_same, AreRecvKept, recv_same, recv_step}
 use Rattle.qh_streams.proofs.StreamsSettled.{closed_alone}
@@ -213,6 +213,6 @@ stream_received (Ok x) old new id at offset payload fin e received = stream id o
 stream_received (Err d) old new id at offset payload fin e received = tt
 
 pub reset_received : {T E : Type 0} (result : Result T E) (old new : PlainStreams) (id : StreamId) (code size : ℕ)
-    → OnOk result (IsResetReceived old new id code size) → OnOk result (IsReceived old new (ResetStream id code size))
+    → OnOk result (IsResetReceived old new id code size) → OnOk result (IsReceived old new (Reset id code size))
 reset_received (Ok x) old new id code size received = reset id code size received
 reset_received (Err d) old new id code size received = tt

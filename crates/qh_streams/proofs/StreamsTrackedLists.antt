@@ -1,10 +1,11 @@
 -- Frames that are written, lost or acknowledged one after another.
-use Rattle.std.proofs.Common.{◌≡◌, ◌⊎◌, ℕ, List, [], ◌∷◌, ◌++◌, refl, sym, ap, ◌∙◌, inl, inr, append_assoc, subst}
-use Rattle.std.proofs.lemmas.List.{append-nil}
+use Rattle.std.proofs.Common.{◌≡◌, ◌⊎◌, ℕ, List, [], ◌∷◌, ◌++◌, reverse, refl, sym, ap, ◌∙◌, inl, inr, append_assoc, subst}
+use Rattle.std.proofs.lemmas.List.{append-nil, reverse-append}
 use Rattle.qh_spec.specs.Lists.{In}
 use Rattle.qh_streams.specs.declared.frames.SentFrame.{SentFrame}
-use Rattle.qh_streams.specs.Streams.{PlainStreams, AreWritten, IsWrittenBy, IsLostAtOnce, AreLost, AreAcked}
+use Rattle.qh_streams.specs.Streams.{PlainStreams, AreWritten, IsWrittenBy, AreHanded, AreTakenBack, AreLost, AreAcked}
 use Rattle.qh_streams.specs.Streams.AreWritten.{none as none_written, more as more_written}
+use Rattle.qh_streams.specs.Streams.AreHanded.{none as none_handed, more as more_handed}
 use Rattle.qh_streams.specs.Streams.AreLost.{none as none_lost, more as more_lost}
 use Rattle.qh_streams.specs.Streams.AreAcked.{none as none_acked, more as more_acked}
 use Rattle.qh_streams.specs.Tracked.{AreTracked}
@@ -32,17 +33,9 @@ all_written room old new fs bytes out (more_written _ _ mid _ f rest more handed
     let here : AreTracked mid (out ++ f ∷ []) = any_order (front_to_end f out) (adds_tracked (written_adds old mid room f handed) t) in
     rw (append_assoc out (f ∷ []) rest) at (all_written _ mid new rest more (out ++ f ∷ []) others here)
 
-at_once : (old new : PlainStreams) (out : List SentFrame) → IsLostAtOnce old new → AreTracked old out → AreTracked new out
-at_once old new out p t = drops_tracked {old = p.mid} (lost_drops p.mid new p.frame p.lost) (adds_tracked (written_adds old p.mid p.room p.frame p.handed) t)
-
-end_of_writing : (mid new : PlainStreams) (out : List SentFrame) → (new ≡ mid) ⊎ IsLostAtOnce mid new → AreTracked mid out → AreTracked new out
-end_of_writing mid new out (inl same) t = rw same t
-end_of_writing mid new out (inr once) t = at_once mid new out once t
-
 pub written_by : (room : ℕ) (old new : PlainStreams) (bytes_old bytes_new : List ℕ) (sent_old sent_new : List SentFrame)
     → IsWrittenBy room old new bytes_old bytes_new sent_old sent_new → AreTracked old sent_old → AreTracked new sent_new
-written_by room old new bytes_old bytes_new sent_old sent_new p t =
-    rw p.sent_is (end_of_writing p.mid new (sent_old ++ p.frames) p.rest (all_written room old p.mid p.frames p.bytes sent_old p.written t))
+written_by room old new bytes_old bytes_new sent_old sent_new p t = rw p.sent_is (all_written room old new p.frames p.bytes sent_old p.written t)
 
 pub lost_all : (old new : PlainStreams) (fs others : List SentFrame) → AreLost old new fs → AreTracked old (fs ++ others) → AreTracked new others
 lost_all old new fs others (none_lost _) t = t
@@ -53,3 +46,13 @@ pub acked_all : (old new : PlainStreams) (fs others : List SentFrame) → AreAck
 acked_all old new fs others (none_acked _) t = t
 acked_all old new fs others (more_acked _ mid _ front f before acked) t =
     drops_tracked (acked_drops mid new f acked) (acked_all old mid front (f ∷ others) before (rw (append_assoc front (f ∷ []) others) at t))
+
+all_handed : (old new : PlainStreams) (fs others : List SentFrame) → AreHanded old new fs → AreTracked old others → AreTracked new (reverse fs ++ others)
+all_handed old new fs others (none_handed _) t = t
+all_handed old new fs others (more_handed room _ mid _ f rest handed behind) t =
+    let turned = ap (λ (l : List SentFrame). l ++ others) (reverse-append (f ∷ []) rest) ∙ append_assoc (reverse rest) (f ∷ []) others in
+    subst (λ (l : List SentFrame). AreTracked new l) (sym turned) (all_handed mid new rest (f ∷ others) behind (adds_tracked (written_adds old mid room f handed) t))
+
+-- what was handed over and lost waits again
+pub taken_back : (old new : PlainStreams) (others : List SentFrame) → AreTakenBack old new → AreTracked old others → AreTracked new others
+taken_back old new others p t = lost_all p.mid new (reverse p.frames) others p.lost (all_handed old p.mid p.frames others p.handed t)

@@ -159,11 +159,11 @@ abbrev AddedOr : PlainStreams → SentFrame → Owed → Type 0
 AddedOr old f o = IsSent old o ⊎ Has o f
 
 pub written_adds : (old new : PlainStreams) (room : ℕ) (f : SentFrame) → IsHandedOver old new room f → Adds old new f
-written_adds old new room f (stream_handed id piece idle next rest) =
+written_adds old new room f (stream_handed id piece next rest) =
     by_sender old new (AddedOr old f) (step_goes next.step) (ap (λ (s : PlainStreams). s.recv) rest) (λ dir. ap (λ (s : PlainStreams). (counts_of s (is_two_way dir)).announced) rest)
     (λ h g o is p w. half_or half_sent (send_at old.send) id.0 _ h o is (gives_piece _ id piece h g o p w))
     (λ o apart w. inl w)
-written_adds old new room f (reset_handed id frame idle next rest) =
+written_adds old new room f (reset_handed id frame next rest) =
     by_sender old new (AddedOr old f) (step_goes next.step) (ap (λ (s : PlainStreams). s.recv) rest) (λ dir. ap (λ (s : PlainStreams). (counts_of s (is_two_way dir)).announced) rest)
     (λ h g o is p w. half_or half_sent (send_at old.send) id.0 _ h o is (gives_reset id frame h g o p w))
     (λ o apart w. inl w)

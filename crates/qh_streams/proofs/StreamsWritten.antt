@@ -21,13 +21,16 @@ use Rattle.qh_halves.specs.declared.send_halves.Transmission.{Transmission}
 use Rattle.qh_halves.specs.declared.send_halves.Transmission.TheVariants.{Stream, Reset}
 use Rattle.qh_streams.specs.declared.frames.SentFrame.{SentFrame}
 use Rattle.qh_streams.proofs.StreamsKept.{are_counts}
-use Rattle.qh_halves.specs.RecvHalves.{PlainRecvHalves, NoneIsDue, data_limit}
+use Rattle.qh_half.specs.Recv.{PlainRecv}
+use Rattle.qh_halves.specs.RecvHalves.{PlainRecvHalves, data_limit, recv_at}
 use Rattle.qh_streams.specs.declared.frames.SentFrame.TheVariants as sent
 use Rattle.qh_halves.specs.declared.counts.StreamCounts.{StreamCounts}
 use Rattle.qh_buffers.specs.declared.send_buffer.Mark.TheVariants.{Sent}
 use Rattle.qh_spec.specs.declared.sides.Dir.{Dir}
-use Rattle.qh_streams.specs.Streams.{PlainStreams, AreStreams, counts_of, with_counts, is_two_way, was_opened, half_bytes, head_bound, payload_length, IsHandedOver, IsControlIdle, IsIdle, IsReadBack, IsOut, IsOutHeld, KeepsOut, AreAllOut, AreWritten, IsOneWritten, written_frame}
+use Rattle.qh_streams.specs.Streams.{PlainStreams, AreStreams, counts_of, with_counts, is_two_way, was_opened, half_bytes, max_frame_header, payload_length, IsHandedOver, IsOf, IsReadBack, IsOut, IsOutHeld, KeepsOut, AreAllOut, AreWritten, written_frame}
 use Rattle.qh_streams.specs.Streams.AreWritten.{none as none_written, more as more_written}
+use Rattle.qh_streams.specs.Streams.IsOf.{stream as of_stream, reset as of_reset}
+use Rattle.qh_streams.specs.declared.streams.writing.Phase.TheVariants as phase
 use Rattle.qh_streams.specs.Streams.IsHandedOver.{stream as stream_handed, reset as reset_handed, stop as stop_handed, max_stream_data as max_stream_data_handed, max_data as max_data_handed, max_streams as max_streams_handed}
 
 -- ---- a STREAM frame
@@ -100,33 +103,23 @@ count_handed s new dir c limit count c_is limit_is count_is due new_is room =
 pub limit_small : (c : StreamCounts) (limit : ℕ) → AreCounts c → limit ≡ count_limit c → limit < 4611686018427387904
 limit_small c limit are e = omega (arith, are.announced, e)
 
--- no frame of the receiving side is due
-pub control_idle : (s after last : PlainStreams) (mid new : PlainRecvHalves) → (mid ≡ s.recv) × NoneIsDue s.recv
-    → (is_due mid.announced (data_limit mid) ≡ false) × (new ≡ mid)
-    → (after ≡ record s { recv = new }) × (is_due s.bi.announced (count_limit s.bi) ≡ false)
-    → (last ≡ after) × (is_due after.uni.announced (count_limit after.uni) ≡ false)
-    → (last ≡ s) × IsControlIdle s
-control_idle s after last mid new none limit bidi uni =
-    let same : after ≡ s = bidi.0 ∙ ap (λ (r : PlainRecvHalves). record s { recv = r }) (limit.1 ∙ none.0) in (
-      uni.0 ∙ same,
-      record {
-        none_is_due = none.1;
-        max_data = rw none.0 at limit.0;
-        max_bidi = bidi.1;
-        max_uni = rw same at uni.1;
-      },
-    )
-
 -- ---- STREAM and RESET_STREAM frames
 
 abbrev pub frame_of : (id : ℕ) → Transmission → SentFrame
 frame_of id (Stream piece) = sent.Stream (record { 0 = id }) piece
 frame_of id (Reset reset) = sent.ResetStream (record { 0 = id }) reset
 
-pub sent_handed : (s : PlainStreams) (new : PlainSendHalves) (room id : ℕ) (t : Transmission) → IsControlIdle s → IsSentNext s.send new (room - head_bound) id t
+pub of_sending : (id : ℕ) (t : Transmission) → IsOf phase.Sending (frame_of id t)
+of_sending id (Stream piece) = of_stream _ piece
+of_sending id (Reset reset) = of_reset _ reset
+
+pub streams_same : (s : PlainStreams) (new : PlainSendHalves) → new ≡ s.send → record s { send = new } ≡ s
+streams_same s new same = ap (λ (h : PlainSendHalves). record s { send = h }) same
+
+pub sent_handed : (s : PlainStreams) (new : PlainSendHalves) (room id : ℕ) (t : Transmission) → IsSentNext s.send new (room - max_frame_header) id t
     → IsHandedOver s (record s { send = new }) room (frame_of id t)
-sent_handed s new room id (Stream piece) idle next = stream_handed _ piece idle next refl
-sent_handed s new room id (Reset reset) idle next = reset_handed _ reset idle next refl
+sent_handed s new room id (Stream piece) next = stream_handed _ piece next refl
+sent_handed s new room id (Reset reset) next = reset_handed _ reset next refl
 
 index_small : (own : Bool) (c : StreamCounts) (k : ℕ) → AreCounts c → nat_lt (index_of k) (if own then c.opened else c.arrived) ≡ true → k < 4611686018427387904
 index_small true c k are h = let less = ltb-true _ _ h in omega (arith, less, are.opened, are.max_opened)
@@ -136,17 +129,16 @@ index_small false c k are h = let less = ltb-true _ _ h in omega (arith, less, a
 pub id_small : {s : PlainStreams} {capacity : ℕ} → AreStreams s capacity → (k : ℕ) → was_opened s k ≡ true → k < 4611686018427387904
 id_small {s = s} ok k was = index_small (is_own s.side k) (counts_of s (is_bi k)) k (are_counts ok (is_bi k)) was
 
+-- the same of one with a receiving half
+pub recv_id_small : {s : PlainStreams} {capacity : ℕ} → AreStreams s capacity → (k : ℕ) (half : PlainRecv) → recv_at s.recv k ≡ Some half → k < 4611686018427387904
+recv_id_small ok k half was = id_small ok k (ok.recv_live k (rw was refl)).0
+
 pub sent_out : {s : PlainStreams} {capacity : ℕ} (new : PlainSendHalves) (room id : ℕ) (t : Transmission) → AreStreams s capacity → IsSentNext s.send new room id t
     → IsOutNow new id t → HasForm t → IsOutHeld (record s { send = new }) (frame_of id t)
 sent_out new room id (Stream piece) ok next out form =
     let was = (ok.send_live id (rw next.step.was refl)).0 in
     ((was, out.0), id_small ok id was, out.1, form)
 sent_out new room id (Reset reset) ok next out form = id_small ok id (ok.send_live id (rw next.step.was refl)).0
-
--- nothing is left to be sent
-pub all_idle : (s mid : PlainStreams) (new : PlainSendHalves) → mid ≡ s → IsControlIdle s → (new ≡ mid.send) × NoneWaits mid.send
-    → (record mid { send = new } ≡ s) × IsIdle s
-all_idle s mid new same control none = (ap (λ (h : PlainSendHalves). record mid { send = h }) none.0 ∙ same, (control, rw same at none.1))
 
 -- ---- one frame
 
@@ -155,9 +147,9 @@ piece_fits h next room piece (inl out) = let fits = out.bytes_are.fits in omega 
 piece_fits h next room piece (inr out) = let at_end = out.at_end.1 in omega (arith, at_end)
 
 -- the frame that is handed over has room
-pub frame_fits : (old new : PlainStreams) (room : ℕ) (f : SentFrame) → IsHandedOver old new room f → head_bound < room → head_bound + payload_length f ≤ room
-frame_fits old new room f (stream_handed id piece idle next rest) h = let fits = piece_fits next.step.half next.step.next (room - head_bound) piece next.step.step in omega (arith, fits, h)
-frame_fits old new room f (reset_handed id reset idle next rest) h = omega (arith, h)
+pub frame_fits : (old new : PlainStreams) (room : ℕ) (f : SentFrame) → IsHandedOver old new room f → max_frame_header < room → max_frame_header + payload_length f ≤ room
+frame_fits old new room f (stream_handed id piece next rest) h = let fits = piece_fits next.step.half next.step.next (room - max_frame_header) piece next.step.step in omega (arith, fits, h)
+frame_fits old new room f (reset_handed id reset next rest) h = omega (arith, h)
 frame_fits old new room f (stop_handed id code step rest) h = omega (arith, h)
 frame_fits old new room f (max_stream_data_handed id limit step rest) h = omega (arith, h)
 frame_fits old new room f (max_data_handed limit is due rest) h = omega (arith, h)
@@ -188,35 +180,12 @@ varint_some n =
     ]
 
 -- a frame has a byte, that of its type
-frame_some : (f : QuicFrame) → 0 < length (frame_bytes f)
+pub frame_some : (f : QuicFrame) → 0 < length (frame_bytes f)
 unfolding frame_bytes
 frame_some f = let some = varint_some f.kind in rw length-append (omega (arith, some))
 
--- what was written up to here
-pub record AreSoFar (room : ℕ) (old now : PlainStreams) (out_old out_now : List ℕ) (sent_old sent_now : List SentFrame) : Type 0 where
-  pub frames : List SentFrame
-  pub bytes : List ℕ
-  pub written : AreWritten room old now frames bytes
-  pub out_is : out_now ≡ out_old ++ bytes
-  pub sent_is : sent_now ≡ sent_old ++ frames
-  pub fits : length bytes ≤ room
-  pub is_out : AreAllOut old sent_old → AreAllOut now sent_now
-  pub keeps_out : KeepsOut old now
-
-pub none_so_far : (room : ℕ) (s : PlainStreams) (out : List ℕ) (sent : List SentFrame) → AreSoFar room s s out out sent sent
-none_so_far room s out sent = record {
-  frames = [];
-  bytes = [];
-  written = none_written room s;
-  out_is = sym (append-nil out);
-  sent_is = sym (append-nil sent);
-  fits = omega arith;
-  is_out = λ h. h;
-  keeps_out = λ _ h. h;
-}
-
 -- one frame more
-written_more : (room left : ℕ) (old mid new : PlainStreams) (fs : List SentFrame) (bytes : List ℕ) (f : SentFrame) → AreWritten room old mid fs bytes
+pub written_more : (room left : ℕ) (old mid new : PlainStreams) (fs : List SentFrame) (bytes : List ℕ) (f : SentFrame) → AreWritten room old mid fs bytes
     → left ≡ room - length bytes → IsHandedOver mid new left f → length (frame_bytes (written_frame new f)) ≤ left → IsReadBack (written_frame new f)
     → AreWritten room old new (fs ++ (f ∷ [])) (bytes ++ frame_bytes (written_frame new f))
 written_more room left old mid new fs bytes f (none_written _ _) e handed fits back =
@@ -234,44 +203,6 @@ pub kept_all_out : (old new : PlainStreams) → KeepsOut old new → (fs : List 
 kept_all_out old new keeps [] h = tt
 kept_all_out old new keeps (f ∷ fs) h = (keeps f h.0, kept_all_out old new keeps fs h.1)
 
-all_out_more : (s : PlainStreams) (fs : List SentFrame) (f : SentFrame) → AreAllOut s fs → IsOut s f → AreAllOut s (fs ++ (f ∷ []))
+pub all_out_more : (s : PlainStreams) (fs : List SentFrame) (f : SentFrame) → AreAllOut s fs → IsOut s f → AreAllOut s (fs ++ (f ∷ []))
 all_out_more s [] f h out = (out, tt)
 all_out_more s (g ∷ gs) f h out = (h.0, all_out_more s gs f h.1 out)
-
-pub one_more : (room left : ℕ) (old mid new : PlainStreams) (out_old out_mid out_new : List ℕ) (sent_old sent_mid sent_new : List SentFrame)
-    → AreSoFar room old mid out_old out_mid sent_old sent_mid → left ≡ room - (length out_mid - length out_old)
-    → IsOneWritten left mid new out_mid out_new sent_mid sent_new → KeepsOut mid new
-    → AreSoFar room old new out_old out_new sent_old sent_new
-one_more room left old mid new out_old out_mid out_new sent_old sent_mid sent_new so left_is one keeps =
-    let f = one.frame in
-    let more = frame_bytes (written_frame new f) in
-    let sum = ap length so.out_is ∙ length-append out_old so.bytes in
-    let left_of : left ≡ room - length so.bytes = omega (arith, sum, left_is) in
-    record {
-      frames = so.frames ++ (f ∷ []);
-      bytes = so.bytes ++ more;
-      written = written_more room left old mid new so.frames so.bytes f so.written left_of one.handed one.fits one.reads_back;
-      out_is = one.out_is ∙ ap (λ (l : List ℕ). l ++ more) so.out_is ∙ append_assoc out_old so.bytes more;
-      sent_is = one.sent_is ∙ ap (λ (l : List SentFrame). l ++ (f ∷ [])) so.sent_is ∙ append_assoc sent_old so.frames (f ∷ []);
-      fits = let fits = one.fits in let so_fits = so.fits in rw (length-append so.bytes more) (omega (arith, fits, so_fits, left_of));
-      is_out = λ h. rw one.sent_is (all_out_more new sent_mid f (kept_all_out mid new keeps sent_mid (so.is_out h)) one.is_out);
-      keeps_out = λ g h. keeps g (so.keeps_out g h);
-    }
-
--- the room falls
-pub room_falls : (room left : ℕ) (mid new : PlainStreams) (out_old out_mid out_new : List ℕ) (sent_mid sent_new : List SentFrame)
-    → left ≡ room - (length out_mid - length out_old) → length out_old ≤ length out_mid → IsOneWritten left mid new out_mid out_new sent_mid sent_new
-    → room - (length out_new - length out_old) < room - (length out_mid - length out_old)
-room_falls room left mid new out_old out_mid out_new sent_mid sent_new left_is grown one =
-    let sum = ap length one.out_is ∙ length-append out_mid (frame_bytes (written_frame new one.frame)) in
-    let some = frame_some (written_frame new one.frame) in
-    let fits = one.fits in
-    omega (arith, sum, some, fits, left_is, grown)
-
--- what stood there stands in front
-pub so_far_grown : {room : ℕ} {old now : PlainStreams} {out_old out_now : List ℕ} {sent_old sent_now : List SentFrame} → AreSoFar room old now out_old out_now sent_old sent_now
-    → (length out_old ≤ length out_now) × (length out_now - length out_old ≤ room)
-so_far_grown {room = room} {out_old = out_old} so =
-    let sum = ap length so.out_is ∙ length-append out_old so.bytes in
-    let fits = so.fits in
-    (omega (arith, sum), omega (arith, sum, fits))

@@ -1,5 +1,5 @@
 -- The streams of a connection by their ids (RFC 9000, sections 2 to 4).
-use Rattle.std.specs.Prelude.{◌≡◌, ◌⊎◌, ℕ, ◌+◌, ◌-◌, ◌*◌, ◌/◌, ◌%◌, ◌<◌, ◌≤◌, ◌^◌, ◌==◌, nat_lt, nat_le, min, max, Bool, true, false, ◌&&◌, ◌||◌, not, List, [], ◌∷◌, ◌++◌, length, Option, Some, None, is_some, IfSome, MatchBool, if◌then◌else◌}
+use Rattle.std.specs.Prelude.{◌≡◌, ◌⊎◌, ℕ, ◌+◌, ◌-◌, ◌*◌, ◌/◌, ◌%◌, ◌<◌, ◌≤◌, ◌^◌, ◌==◌, nat_lt, nat_le, min, max, Bool, true, false, ◌&&◌, ◌||◌, not, List, [], ◌∷◌, ◌++◌, length, reverse, Option, Some, None, is_some, IfSome, MatchBool, if◌then◌else◌}
 use Rattle.std.specs.List.{list_any}
 use Rattle.std.specs.Ordering.{nat_cmp}
 use Rattle.std.specs.BTreeSet.{insert_key}
@@ -11,6 +11,7 @@ use Rattle.qh_spec.specs.declared.sides.Dir.{Dir}
 use Rattle.qh_spec.specs.declared.sides.Dir.TheVariants.{Bi, Uni}
 use Rattle.qh_spec.specs.Codes as codes
 use Rattle.qh_spec.specs.FrameTypes as frame_types
+use Rattle.qh_spec.specs.Lists.{In}
 use Rattle.qh_spec.specs.QuicFrame.{StreamFrame as CarriedStream}
 use Rattle.qh_spec.specs.QuicFrames.{QuicFrame, Num, IsQuicFrame}
 use Rattle.qh_frame.specs.FrameBytes.{frame_bytes}
@@ -19,6 +20,8 @@ use Rattle.qh_frame.specs.WrittenForm.{stream_form}
 use Rattle.qh_buffers.specs.SendBuffer.{taken_to, bytes_between}
 use Rattle.qh_buffers.specs.declared.send_buffer.Mark.TheVariants.{Sent}
 use Rattle.qh_buffers.specs.declared.assembler.Chunk.{Chunk}
+use Rattle.qh_streams.specs.declared.streams.writing.Phase.{Phase}
+use Rattle.qh_streams.specs.declared.streams.writing.Phase.TheVariants as phase
 use Rattle.qh_streams.specs.declared.fault.StreamFault.{StreamFault}
 use Rattle.qh_streams.specs.declared.fault.StreamFault.TheVariants.{Transport, Memory}
 use Rattle.qh_half.specs.declared.fault.WriteFault.{WriteFault}
@@ -40,7 +43,7 @@ use Rattle.qh_halves.specs.declared.recv_halves.StreamControl.TheVariants.{StopS
 use Rattle.qh_halves.specs.Counts.{AreCounts, is_own, is_bi, index_of, has_send, has_recv, count_limit, with_max_opened}
 use Rattle.qh_halves.specs.Limit.{is_due, acked_at, lost_at, owes_value}
 use Rattle.qh_half.specs.Send.{PlainSend, new_send}
-use Rattle.qh_halves.specs.SendHalves.{PlainSendHalves, send_at, write_limit, IsStep, IsAbsent, IsSettledBy, IsStoppedWith, HasLimit, IsUnblocked, IsSpanAt, IsSentNext, IsLost, IsAcked, IsResetLost, IsResetAcked, IsSettledAt, half_owes_reset, half_is_writable, half_holds, NoneWaits}
+use Rattle.qh_halves.specs.SendHalves.{PlainSendHalves, send_at, unacked, write_limit, IsStep, IsAbsent, IsSettledBy, IsStoppedWith, HasLimit, IsUnblocked, IsSpanAt, IsSentNext, IsLost, IsAcked, IsResetLost, IsResetAcked, IsSettledAt, half_owes_reset, half_is_writable, half_holds, NoneWaits}
 use Rattle.qh_half.specs.Recv.{PlainRecv, new_recv}
 use Rattle.qh_halves.specs.RecvHalves.{PlainRecvHalves, recv_at, half_ingest_fault, half_is_wanted, data_limit, IsRecvStep, IsPieceTaken, IsResetTaken, IsRecvAbsent, GivesControl, NoneIsDue, IsStopLost, IsStopAcked, IsLimitLost, IsLimitAcked, half_owes_limit, half_owes_stop}
 
@@ -117,6 +120,8 @@ pub record AreOpened (old new : PlainStreams) (are_new : ℕ → Bool) : Type 0 
   pub recv_is : (k : ℕ) → recv_at new.recv k ≡ (if are_new k then new_recv_half old k else recv_at old.recv k)
   pub send_rest : new.send ≡ record old.send { halves = new.send.halves }
   pub recv_rest : new.recv ≡ record old.recv { halves = new.recv.halves }
+  -- all halves together hold as many bytes as before
+  pub held_is : unacked new.send.halves ≡ unacked old.send.halves
 
 abbrev pub with_opened : StreamCounts → StreamCounts
 with_opened c = record c { opened = c.opened + 1 }
@@ -196,8 +201,8 @@ size_refusal s id to is_end frame = ingest_refusal (half_ingest_fault (recv_or_n
 -- why a frame is refused, by the first that fits
 abbrev pub refusal_of : PlainStreams → StreamFrame → Option Refusal
 refusal_of s (coming.Stream id offset payload fin) = or_refusal (id_refusal s id.0 (has_recv s.side id.0) frame_types.stream) (size_refusal s id.0 (offset + length payload) fin frame_types.stream)
-refusal_of s (coming.ResetStream id code size) = or_refusal (id_refusal s id.0 (has_recv s.side id.0) frame_types.reset_stream) (size_refusal s id.0 size true frame_types.reset_stream)
-refusal_of s (coming.StopSending id code) = id_refusal s id.0 (has_send s.side id.0) frame_types.stop_sending
+refusal_of s (coming.Reset id code size) = or_refusal (id_refusal s id.0 (has_recv s.side id.0) frame_types.reset_stream) (size_refusal s id.0 size true frame_types.reset_stream)
+refusal_of s (coming.Stop id code) = id_refusal s id.0 (has_send s.side id.0) frame_types.stop_sending
 refusal_of s (coming.MaxData limit) = None
 refusal_of s (coming.MaxStreamData id limit) = id_refusal s id.0 (has_send s.side id.0) frame_types.max_stream_data
 refusal_of s (coming.MaxStreams Bi count) = if nat_lt (2 ^ 60) count then refused codes.frame_encoding_error frame_types.max_streams_bidi else None
@@ -242,11 +247,11 @@ pub record IsResetReceived (old new : PlainStreams) (id : StreamId) (code size :
 pub data IsReceived (old new : PlainStreams) : StreamFrame → Type 0 where
   stream : (id : StreamId) (offset : ℕ) (payload : List ℕ) (fin : Bool) → IsPieceReceived old new id (record { offset = offset; bytes = payload }) fin
       → IsReceived old new (coming.Stream id offset payload fin)
-  reset : (id : StreamId) (code size : ℕ) → IsResetReceived old new id code size → IsReceived old new (coming.ResetStream id code size)
+  reset : (id : StreamId) (code size : ℕ) → IsResetReceived old new id code size → IsReceived old new (coming.Reset id code size)
   stop : (mid : PlainStreams) (id : StreamId) (code : ℕ) → HasArrived old mid id.0 → IsStep (IsStoppedWith code) mid.send new.send id.0 0
-      → new ≡ record mid { send = new.send; events = mid.events ++ Stopped id code ∷ [] } → IsReceived old new (coming.StopSending id code)
+      → new ≡ record mid { send = new.send; events = mid.events ++ Stopped id code ∷ [] } → IsReceived old new (coming.Stop id code)
   stopped_before : (id : StreamId) (code : ℕ) → HasArrived old new id.0
-      → IfSome (send_at new.send id.0) (λ h. (h.stop_reason ≡ None) → ⊥) → IsReceived old new (coming.StopSending id code)
+      → IfSome (send_at new.send id.0) (λ h. (h.stop_reason ≡ None) → ⊥) → IsReceived old new (coming.Stop id code)
   max_data : (limit : ℕ) → new ≡ record old { send = record old.send { max_data = max old.send.max_data limit } } → IsReceived old new (coming.MaxData limit)
   max_stream_data : (mid : PlainStreams) (id : StreamId) (limit : ℕ) → HasArrived old mid id.0
       → IsStep (HasLimit limit) mid.send new.send id.0 0 ⊎ IsAbsent mid.send new.send id.0
@@ -313,8 +318,8 @@ written_frame s (sent.MaxStreamData id limit) = frame frame_types.max_stream_dat
 written_frame s (sent.MaxStreams dir count) = frame (by_dir dir frame_types.max_streams_bidi frame_types.max_streams_uni) (Num count ∷ [])
 
 -- a frame's head is at most so long (RFC 9000, section 19.8)
-abbrev pub head_bound : ℕ
-head_bound = 25
+abbrev pub max_frame_header : ℕ
+max_frame_header = 25
 
 -- no STOP_SENDING and no MAX frame is due
 pub record IsControlIdle (s : PlainStreams) : Type 0 where
@@ -323,11 +328,11 @@ pub record IsControlIdle (s : PlainStreams) : Type 0 where
   pub max_bidi : is_due s.bi.announced (count_limit s.bi) ≡ false
   pub max_uni : is_due s.uni.announced (count_limit s.uni) ≡ false
 
--- What is handed out to be sent in one frame, in so much room. STOP_SENDING and the MAX frames go first.
+-- what is handed out to be sent in one frame, in so much room
 pub data IsHandedOver (old new : PlainStreams) (room : ℕ) : SentFrame → Type 0 where
-  stream : (id : StreamId) (piece : Outgoing) → IsControlIdle old → IsSentNext old.send new.send (room - head_bound) id.0 (Stream piece) → new ≡ record old { send = new.send }
+  stream : (id : StreamId) (piece : Outgoing) → IsSentNext old.send new.send (room - max_frame_header) id.0 (Stream piece) → new ≡ record old { send = new.send }
       → IsHandedOver old new room (sent.Stream id piece)
-  reset : (id : StreamId) (reset : ResetFrame) → IsControlIdle old → IsSentNext old.send new.send (room - head_bound) id.0 (Reset reset) → new ≡ record old { send = new.send }
+  reset : (id : StreamId) (reset : ResetFrame) → IsSentNext old.send new.send (room - max_frame_header) id.0 (Reset reset) → new ≡ record old { send = new.send }
       → IsHandedOver old new room (sent.ResetStream id reset)
   stop : (id : StreamId) (code : ℕ) → IsRecvStep (GivesControl old.recv.stream_window (StopSending code)) old.recv new.recv id.0 0 → new ≡ record old { recv = new.recv }
       → IsHandedOver old new room (sent.StopSending id code)
@@ -386,29 +391,79 @@ pub data IsLostFrame (old new : PlainStreams) : SentFrame → Type 0 where
   max_streams : (dir : Dir) (count : ℕ) → new ≡ with_counts old (is_two_way dir) (record (counts_of old (is_two_way dir)) { announced = lost_at count (counts_of old (is_two_way dir)).announced })
       → IsLostFrame old new (sent.MaxStreams dir count)
 
--- a frame was handed over and is lost at once: what it had waits again
-pub record IsLostAtOnce (old new : PlainStreams) : Type 0 where
-  pub room : ℕ
-  pub mid : PlainStreams
-  pub frame : SentFrame
-  pub handed : IsHandedOver old mid room frame
-  pub lost : IsLostFrame mid new frame
+-- a frame speaks of a single stream, and bears none of its bytes
+abbrev pub is_single : SentFrame → Bool
+is_single (sent.StopSending id code) = true
+is_single (sent.MaxStreamData id limit) = true
+is_single other = false
 
--- What a call wrote: these frames one after another, with their bytes behind those that stood there. A last one may have been
--- lost at once, where the allocator had no memory.
+-- how many of these do
+abbrev pub single_count : List SentFrame → ℕ
+single_count [] = 0
+single_count (f ∷ fs) = (if is_single f then 1 else 0) + single_count fs
+
+-- a STREAM or RESET_STREAM frame
+abbrev pub is_sending : SentFrame → Bool
+is_sending (sent.Stream id piece) = true
+is_sending (sent.ResetStream id reset_frame) = true
+is_sending other = false
+
+-- how many frames of single streams stand in front of the first STREAM or RESET_STREAM frame
+abbrev pub singles_before : List SentFrame → ℕ
+singles_before [] = 0
+singles_before (f ∷ fs) = if is_sending f then 0 else (if is_single f then 1 else 0) + singles_before fs
+
+-- No kind of frame keeps another from being sent: the limits of all streams that were due are among these frames, sixteen frames
+-- of single streams or all that were due, and a STREAM or RESET_STREAM frame if one waited, with 32 frames of single streams in
+-- front of it at most.
+pub record AreShared (old new : PlainStreams) (frames : List SentFrame) : Type 0 where
+  pub max_data : is_due old.recv.announced (data_limit old.recv) ≡ true → In (sent.MaxData (data_limit old.recv)) frames
+  pub max_streams : (dir : Dir) → is_due (counts_of old (is_two_way dir)).announced (count_limit (counts_of old (is_two_way dir))) ≡ true
+      → In (sent.MaxStreams dir (count_limit (counts_of old (is_two_way dir)))) frames
+  pub single : (16 ≤ single_count frames) ⊎ NoneIsDue new.recv
+  pub sending : NoneWaits old.send ⊎ (list_any is_sending frames ≡ true)
+  pub few_before : list_any is_sending frames ≡ true → singles_before frames ≤ 32
+
+-- What a call wrote: these frames one after another, with their bytes behind those that stood there.
 pub record IsWrittenBy (room : ℕ) (old new : PlainStreams) (out_old out_new : List ℕ) (sent_old sent_new : List SentFrame) : Type 0 where
   pub frames : List SentFrame
   pub bytes : List ℕ
-  pub mid : PlainStreams
-  pub written : AreWritten room old mid frames bytes
+  pub written : AreWritten room old new frames bytes
   pub out_is : out_new ≡ out_old ++ bytes
   pub sent_is : sent_new ≡ sent_old ++ frames
-  pub rest : (new ≡ mid) ⊎ IsLostAtOnce mid new
+  pub shared : 600 ≤ room → AreShared old new frames
 
--- one frame was written, or none, where nothing is left to be sent; where the allocator had no memory nothing was written, and
--- a frame may have been lost at once
-pub record IsOneWritten (room : ℕ) (old new : PlainStreams) (out_old out_new : List ℕ) (sent_old sent_new : List SentFrame) : Type 0 where
+-- these frames were handed over one after another
+pub data AreHanded : (old new : PlainStreams) → List SentFrame → Type 0 where
+  none : (s : PlainStreams) → AreHanded s s []
+  more : (room : ℕ) (old mid new : PlainStreams) (f : SentFrame) (fs : List SentFrame) → IsHandedOver old mid room f → AreHanded mid new fs → AreHanded old new (f ∷ fs)
+
+-- ---- the phases in which a call writes
+
+-- the frames of a phase
+pub data IsOf : Phase → SentFrame → Type 0 where
+  max_data : (limit : ℕ) → IsOf phase.MaxData (sent.MaxData limit)
+  max_streams : (dir : Dir) (count : ℕ) → IsOf (phase.MaxStreams dir) (sent.MaxStreams dir count)
+  stop : (id : StreamId) (code : ℕ) → IsOf phase.SingleStreams (sent.StopSending id code)
+  max_stream_data : (id : StreamId) (limit : ℕ) → IsOf phase.SingleStreams (sent.MaxStreamData id limit)
+  stream : (id : StreamId) (piece : Outgoing) → IsOf phase.Sending (sent.Stream id piece)
+  reset : (id : StreamId) (reset_frame : ResetFrame) → IsOf phase.Sending (sent.ResetStream id reset_frame)
+
+abbrev pub AreOf : Phase → List SentFrame → Type 0
+AreOf p [] = Unit {0}
+AreOf p (f ∷ fs) = IsOf p f × AreOf p fs
+
+-- none of them is due
+abbrev pub IsPhaseIdle : Phase → PlainStreams → Type 0
+IsPhaseIdle phase.MaxData s = is_due s.recv.announced (data_limit s.recv) ≡ false
+IsPhaseIdle (phase.MaxStreams dir) s = is_due (counts_of s (is_two_way dir)).announced (count_limit (counts_of s (is_two_way dir))) ≡ false
+IsPhaseIdle phase.SingleStreams s = NoneIsDue s.recv
+IsPhaseIdle phase.Sending s = NoneWaits s.send
+
+-- one frame of a phase was written
+pub record IsOneWritten (p : Phase) (room : ℕ) (old new : PlainStreams) (out_old out_new : List ℕ) (sent_old sent_new : List SentFrame) : Type 0 where
   pub frame : SentFrame
+  pub is_of : IsOf p frame
   pub handed : IsHandedOver old new room frame
   pub fits : length (frame_bytes (written_frame new frame)) ≤ room
   pub reads_back : IsReadBack (written_frame new frame)
@@ -419,6 +474,45 @@ pub record IsOneWritten (room : ℕ) (old new : PlainStreams) (out_old out_new :
 abbrev pub AreAllOut : PlainStreams → List SentFrame → Type 0
 AreAllOut s [] = Unit {0}
 AreAllOut s (f ∷ fs) = IsOut s f × AreAllOut s fs
+
+-- frames were written one after another, behind what stood there
+pub record IsPartWritten (room : ℕ) (old new : PlainStreams) (out_old out_new : List ℕ) (sent_old sent_new : List SentFrame) : Type 0 where
+  pub frames : List SentFrame
+  pub bytes : List ℕ
+  pub written : AreWritten room old new frames bytes
+  pub out_is : out_new ≡ out_old ++ bytes
+  pub sent_is : sent_new ≡ sent_old ++ frames
+  pub are_out : AreAllOut new frames
+
+-- What a phase wrote, at most so many frames: it ended where none was due, or there was no room for a head and a byte, or it had
+-- written so many.
+pub record IsPhaseWritten (p : Phase) (most room : ℕ) (old new : PlainStreams) (out_old out_new : List ℕ) (sent_old sent_new : List SentFrame) : Type 0 where
+  pub part : IsPartWritten room old new out_old out_new sent_old sent_new
+  pub are_of : AreOf p part.frames
+  pub few : length part.frames ≤ most
+  pub done : IsPhaseIdle p new ⊎ ((room < length part.bytes + max_frame_header + 1) ⊎ (length part.frames ≡ most))
+
+-- no limit of all streams is due
+abbrev pub AreLimitsIdle : PlainStreams → Type 0
+AreLimitsIdle s = IsPhaseIdle phase.MaxData s × IsPhaseIdle (phase.MaxStreams Bi) s × IsPhaseIdle (phase.MaxStreams Uni) s
+
+-- the limits of all streams were written, one frame of each at most
+pub record AreLimitsWritten (room : ℕ) (old new : PlainStreams) (out_old out_new : List ℕ) (sent_old sent_new : List SentFrame) : Type 0 where
+  pub part : IsPartWritten room old new out_old out_new sent_old sent_new
+  pub short : length part.bytes ≤ 27
+  pub no_single : single_count part.frames ≡ 0
+  pub no_sending : list_any is_sending part.frames ≡ false
+  pub send_is : new.send ≡ old.send
+  pub done : AreLimitsIdle new ⊎ (room < length part.bytes + max_frame_header + 1)
+
+-- the allocator had no memory: frames were handed over, and some bytes of them may be written
+pub record IsCutShort (old new : PlainStreams) (out_old out_new : List ℕ) (sent_old sent_new : List SentFrame) : Type 0 where
+  pub frames : List SentFrame
+  pub bytes : List ℕ
+  pub handed : AreHanded old new frames
+  pub out_is : out_new ≡ out_old ++ bytes
+  pub sent_is : sent_new ≡ sent_old ++ frames
+  pub are_out : AreAllOut new frames
 
 abbrev pub finished_events : Bool → StreamId → List StreamEvent
 finished_events finished id = if finished then Finished id ∷ [] else []
@@ -446,6 +540,13 @@ pub data AreAcked : (old new : PlainStreams) → List SentFrame → Type 0 where
 pub data AreLost : (old new : PlainStreams) → List SentFrame → Type 0 where
   none : (s : PlainStreams) → AreLost s s []
   more : (old mid new : PlainStreams) (fs : List SentFrame) (f : SentFrame) → AreLost old mid fs → IsLostFrame mid new f → AreLost old new (fs ++ f ∷ [])
+
+-- frames were handed over, and then lost, the last one first: what they had waits again
+pub record AreTakenBack (old new : PlainStreams) : Type 0 where
+  pub frames : List SentFrame
+  pub mid : PlainStreams
+  pub handed : AreHanded old mid frames
+  pub lost : AreLost mid new (reverse frames)
 
 -- nothing of a frame is to be acknowledged any more
 abbrev pub IsSettledFrame : PlainStreams → SentFrame → Type 0

@@ -63,19 +63,19 @@ pub enum StreamFrame {
         payload: Bytes,
         fin: bool,
     },
-    ResetStream {
+    Reset {
         id: StreamId,
         code: VarInt,
-        final_size: VarInt,
+        size: VarInt,
     },
-    StopSending {
+    Stop {
         id: StreamId,
         code: VarInt,
     },
     MaxData(VarInt),
     MaxStreamData {
         id: StreamId,
-        limit: VarInt,
+        max: VarInt,
     },
     MaxStreams {
         dir: Dir,

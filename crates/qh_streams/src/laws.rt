@@ -1,7 +1,7 @@
 ghost use Rattle.std.specs.Prelude.{◌≡◌, ℕ, Bool, List, [], ◌∷◌, ◌++◌};
 ghost use Rattle.qh_streams.specs.declared.frames.SentFrame.{SentFrame};
 ghost use Rattle.qh_streams.specs.declared.frames.StreamFrame.{StreamFrame};
-ghost use Rattle.qh_streams.specs.Streams.{PlainStreams, AreWritten, IsWrittenBy, IsHandedOver, AreLost, AreAcked, IsLostFrame, IsAckedFrame, IsOpened, HasArrived, IsReceived, counted_closed};
+ghost use Rattle.qh_streams.specs.Streams.{PlainStreams, AreWritten, IsWrittenBy, IsHandedOver, AreLost, AreAcked, AreTakenBack, IsLostFrame, IsAckedFrame, IsOpened, HasArrived, IsReceived, counted_closed};
 ghost use Rattle.qh_streams.specs.Tracked.{AreTracked, AreAmong, IsFresh, SameCounts, IsSendingStep, IsReceivingStep};
 ghost use Rattle.qh_streams.specs.Turns.{AreInTurn, NoneIsPassed};
 
@@ -30,6 +30,7 @@ pub fn tracked()
         → IsAckedFrame old new frame → AreTracked old (frame ∷ frames) → AreTracked new frames }
     ensures written_by { (room : ℕ) (old new : PlainStreams) (bytes_old bytes_new : List ℕ) (sent_old sent_new : List SentFrame)
         → IsWrittenBy room old new bytes_old bytes_new sent_old sent_new → AreTracked old sent_old → AreTracked new sent_new }
+    ensures taken_back { (old new : PlainStreams) (frames : List SentFrame) → AreTakenBack old new → AreTracked old frames → AreTracked new frames }
     ensures lost_all { (old new : PlainStreams) (frames others : List SentFrame)
         → AreLost old new frames → AreTracked old (frames ++ others) → AreTracked new others }
     ensures acked_all { (old new : PlainStreams) (frames others : List SentFrame)

@@ -1,14 +1,15 @@
 -- Frames that are handed over, lost or acknowledged leave of the receiving halves what came and what was given.
-use Rattle.std.proofs.Common.{◌≡◌, ◌⊎◌, ℕ, List, ◌++◌, Some, refl, sym, ap, ◌∙◌, inl, inr, Bool}
+use Rattle.std.proofs.Common.{◌≡◌, ◌⊎◌, ℕ, List, ◌++◌, Some, refl, sym, ap, ◌∙◌, inl, inr, Bool, reverse}
 use Rattle.std.proofs.lemmas.Bool.Decides.{eqb_tells}
 use Rattle.qh_half.specs.Recv.{PlainRecv}
 use Rattle.qh_halves.specs.declared.counts.StreamCounts.{StreamCounts}
 use Rattle.qh_halves.specs.RecvHalves.{PlainRecvHalves, recv_at, recv_half_in, IsRecvStep, IsRecvAbsent}
 use Rattle.qh_streams.specs.declared.frames.SentFrame.{SentFrame}
-use Rattle.qh_streams.specs.Streams.{PlainStreams, counts_of, with_counts, is_two_way, is_live, counted_closed, was_opened, finished_events, IsHandedOver, IsLostFrame, IsLostAtOnce, IsAckedFrame, AreWritten, AreLost, AreAcked}
+use Rattle.qh_streams.specs.Streams.{PlainStreams, counts_of, with_counts, is_two_way, is_live, counted_closed, was_opened, finished_events, IsHandedOver, IsLostFrame, IsAckedFrame, AreHanded, AreTakenBack, AreWritten, AreLost, AreAcked}
 use Rattle.qh_streams.specs.Streams.IsHandedOver.{stream as stream_handed, reset as reset_handed, stop as stop_handed, max_stream_data as max_stream_data_handed, max_data as max_data_handed, max_streams as max_streams_handed}
 use Rattle.qh_streams.specs.Streams.IsLostFrame.{stream as stream_lost, reset as reset_lost, stop as stop_lost, max_stream_data as max_stream_data_lost, max_data as max_data_lost, max_streams as max_streams_lost}
 use Rattle.qh_streams.specs.Streams.IsAckedFrame.{stream as stream_acked, reset as reset_acked, stop as stop_acked, max_stream_data as max_stream_data_acked, max_data as max_data_acked, max_streams as max_streams_acked}
+use Rattle.qh_streams.specs.Streams.AreHanded.{none as none_handed, more as more_handed}
 use Rattle.qh_streams.specs.Streams.AreWritten.{none as none_written, more as more_written}
 use Rattle.qh_streams.specs.Streams.AreLost.{none as none_lost, more as more_lost}
 use Rattle.qh_streams.specs.Streams.AreAcked.{none as none_acked, more as more_acked}
@@ -84,8 +85,8 @@ closed_kept old new s id live e halves_are opened =
 -- ---- frames that are handed over
 
 pub handed : (room : ℕ) (old new : PlainStreams) (f : SentFrame) → IsHandedOver old new room f → KeepsHalves old new
-handed room old new f (stream_handed id piece idle next e) = apart_kept old new _ e refl (λ k. refl)
-handed room old new f (reset_handed id frame idle next e) = apart_kept old new _ e refl (λ k. refl)
+handed room old new f (stream_handed id piece next e) = apart_kept old new _ e refl (λ k. refl)
+handed room old new f (reset_handed id frame next e) = apart_kept old new _ e refl (λ k. refl)
 handed room old new f (stop_handed id code step e) = half_kept old new (inl step) (λ r next p. rw p.2 (record { bytes = refl; state = refl; order = refl; stopped = refl; given = refl })) e
 handed room old new f (max_stream_data_handed id limit step e) = half_kept old new (inl step) (λ r next p. rw p.2 (record { bytes = refl; state = refl; order = refl; stopped = refl; given = refl })) e
 handed room old new f (max_data_handed limit is due e) = apart_kept old new _ e refl (λ k. refl)
@@ -105,12 +106,16 @@ again old new f (max_data_lost limit e) = apart_kept old new _ e refl (λ k. ref
 again old new f (max_stream_data_lost id limit step e) = half_kept old new step (λ r next p. rw p (record { bytes = refl; state = refl; order = refl; stopped = refl; given = refl })) e
 again old new f (max_streams_lost dir n e) = counts_kept old new old (is_two_way dir) _ e refl (λ k. refl) refl refl
 
-pub at_once : (old new : PlainStreams) → IsLostAtOnce old new → KeepsHalves old new
-at_once old new p = kept_then old p.mid new (handed p.room old p.mid p.frame p.handed) (again p.mid new p.frame p.lost)
-
 pub all_lost : (old new : PlainStreams) (fs : List SentFrame) → AreLost old new fs → KeepsHalves old new
 all_lost old new fs (none_lost _) = halves_kept old old refl (λ k. refl)
 all_lost old new fs (more_lost _ mid _ front f before last) = kept_then old mid new (all_lost old mid front before) (again mid new f last)
+
+all_handed : (old new : PlainStreams) (fs : List SentFrame) → AreHanded old new fs → KeepsHalves old new
+all_handed old new fs (none_handed _) = halves_kept old old refl (λ k. refl)
+all_handed old new fs (more_handed room _ mid _ f rest first behind) = kept_then old mid new (handed room old mid f first) (all_handed mid new rest behind)
+
+pub taken_back : (old new : PlainStreams) → AreTakenBack old new → KeepsHalves old new
+taken_back old new b = kept_then old b.mid new (all_handed old b.mid b.frames b.handed) (all_lost b.mid new (reverse b.frames) b.lost)
 
 pub acked : (old new : PlainStreams) (f : SentFrame) → IsAckedFrame old new f → KeepsHalves old new
 acked old new f (stream_acked id piece finished settled e) = closed_kept old new (record old { send = new.send; events = old.events ++ finished_events finished id }) id.0 (is_live old id.0) e refl (λ k. refl)

@@ -1,6 +1,6 @@
 -- Frames that are handed over, lost or acknowledged: the streams stand to what was written as before, and what a STREAM frame
 -- carries was written.
-use Rattle.std.proofs.Common.{◌≡◌, ℕ, ◌-◌, ◌==◌, nat_lt, Bool, true, false, ◌&&◌, not, List, [], ◌∷◌, ◌++◌, Option, Some, None, if◌then◌else◌, refl, sym, ap, subst, ◌∙◌, inl, inr, append_assoc}
+use Rattle.std.proofs.Common.{◌≡◌, ℕ, ◌-◌, ◌==◌, nat_lt, Bool, true, false, ◌&&◌, not, List, [], ◌∷◌, ◌++◌, Option, Some, None, if◌then◌else◌, refl, sym, ap, subst, ◌∙◌, inl, inr, append_assoc, reverse}
 use Rattle.std.proofs.lemmas.Bool.{cases_Bool, eqb-true, eq-eqb}
 use Rattle.std.proofs.lemmas.List.{append-nil}
 use Rattle.qh_spec.specs.declared.sides.Dir.{Dir}
@@ -19,10 +19,11 @@ use Rattle.qh_halves.specs.Counts.{is_own, is_bi, index_of}
 use Rattle.qh_halves.specs.SendHalves.{PlainSendHalves, send_at, IsStep}
 use Rattle.qh_streams.specs.declared.frames.SentFrame.{SentFrame}
 use Rattle.qh_streams.specs.declared.frames.SentFrame.TheVariants as sent
-use Rattle.qh_streams.specs.Streams.{PlainStreams, counts_of, with_counts, was_opened, is_two_way, is_live, counted_closed, finished_events, head_bound, half_bytes, written_frame, IsHandedOver, IsLostFrame, IsLostAtOnce, IsAckedFrame, AreWritten, AreLost, AreAcked}
+use Rattle.qh_streams.specs.Streams.{PlainStreams, counts_of, with_counts, was_opened, is_two_way, is_live, counted_closed, finished_events, max_frame_header, half_bytes, written_frame, IsHandedOver, IsLostFrame, IsAckedFrame, AreHanded, AreTakenBack, AreWritten, AreLost, AreAcked}
 use Rattle.qh_streams.specs.Streams.IsHandedOver.{stream as stream_handed, reset as reset_handed, stop as stop_handed, max_stream_data as max_stream_data_handed, max_data as max_data_handed, max_streams as max_streams_handed}
 use Rattle.qh_streams.specs.Streams.IsLostFrame.{stream as stream_lost, reset as reset_lost, stop as stop_lost, max_stream_data as max_stream_data_lost, max_data as max_data_lost, max_streams as max_streams_lost}
 use Rattle.qh_streams.specs.Streams.IsAckedFrame.{stream as stream_acked, reset as reset_acked, stop as stop_acked, max_stream_data as max_stream_data_acked, max_data as max_data_acked, max_streams as max_streams_acked}
+use Rattle.qh_streams.specs.Streams.AreHanded.{none as none_handed, more as more_handed}
 use Rattle.qh_streams.specs.Streams.AreWritten.{none as none_written, more as more_written}
 use Rattle.qh_streams.specs.Streams.AreLost.{none as none_lost, more as more_lost}
 use Rattle.qh_streams.specs.Streams.AreAcked.{none as none_acked, more as more_acked}
@@ -132,14 +133,14 @@ step_next {old = old} {id = id} s = s.is.halves_are id ∙ ap (λ (b : Bool). if
 
 pub handed : (old new : PlainStreams) (room : ℕ) (f : SentFrame) (out : List Run) (t : List Act) → IsHandedOver old new room f → StandsOut old out t
     → StandsOut new (out ++ some_run (stream_of (written_frame new f))) t
-handed old new room f out t (stream_handed id piece idle next rest) p =
+handed old new room f out t (stream_handed id piece next rest) p =
     let s = next.step in
-    let live = piece_live (room - head_bound) piece s.half s.next s.step in
-    let run = piece_run id.0 (written t id.0) (finished t id.0) s.half s.next (p.halves id.0 s.half s.was live) (room - head_bound) piece s.step in
+    let live = piece_live (room - max_frame_header) piece s.half s.next s.step in
+    let run = piece_run id.0 (written t id.0) (finished t id.0) s.half s.next (p.halves id.0 s.half s.was live) (room - max_frame_header) piece s.step in
     let view = form_carries (piece.offsets.start == 0) piece.fin id.0 piece.offsets.start (half_bytes (send_at new.send id.0) piece) refl
     ∙ ap (λ (o : Option PlainSend). Some (record { id = id.0; offset = piece.offsets.start; payload = half_bytes o piece; fin = piece.fin })) (step_next s) in
-    seen_as new out t (written_frame new (sent.Stream id piece)) _ view (more_run new out t _ (changed old new out t (step_goes s) (same_opened old new rest) (gives_piece_keeps (room - head_bound) piece) p) run)
-handed old new room f out t (reset_handed id frame idle next rest) p =
+    seen_as new out t (written_frame new (sent.Stream id piece)) _ view (more_run new out t _ (changed old new out t (step_goes s) (same_opened old new rest) (gives_piece_keeps (room - max_frame_header) piece) p) run)
+handed old new room f out t (reset_handed id frame next rest) p =
     no_run new out t (written_frame new (sent.ResetStream id frame)) refl (changed old new out t (step_goes next.step) (same_opened old new rest) (gives_reset_keeps frame) p)
 handed old new room f out t (stop_handed id code step rest) p =
     no_run new out t (written_frame new (sent.StopSending id code)) refl (kept old new out t (ap (λ (s : PlainStreams). s.send.halves) rest) (λ k. ap (λ (s : PlainStreams). was_opened s k) rest) p)
@@ -150,10 +151,14 @@ handed old new room f out t (max_data_handed limit is due rest) p =
 handed old new room f out t (max_streams_handed dir n is due rest) p =
     no_run new out t (written_frame new (sent.MaxStreams dir n)) (no_stream dir n) (counts_kept old new out t old (is_two_way dir) _ rest refl (λ k. refl) refl refl p)
 
-pub at_once : (old new : PlainStreams) (out : List Run) (t : List Act) → IsLostAtOnce old new → StandsOut old out t → StandsOut new out t
-at_once old new out t l p =
-    let more = some_run (stream_of (written_frame l.mid l.frame)) in
-    again l.mid new out t l.frame l.lost (fewer l.mid (out ++ more) out t (λ run is. in_left run out more is) (handed old l.mid l.room l.frame out t l.handed p))
+all_handed : (old new : PlainStreams) (fs : List SentFrame) (out : List Run) (t : List Act) → AreHanded old new fs → StandsOut old out t → StandsOut new out t
+all_handed old new fs out t (none_handed _) p = p
+all_handed old new fs out t (more_handed room _ mid _ f rest first behind) p =
+    let more = some_run (stream_of (written_frame mid f)) in
+    all_handed mid new rest out t behind (fewer mid (out ++ more) out t (λ run is. in_left run out more is) (handed old mid room f out t first p))
+
+pub taken_back : (old new : PlainStreams) (out : List Run) (t : List Act) → AreTakenBack old new → StandsOut old out t → StandsOut new out t
+taken_back old new out t b p = lost_all b.mid new out t (reverse b.frames) b.lost (all_handed old b.mid b.frames out t b.handed p)
 
 pub all_written : (room : ℕ) (old new : PlainStreams) (out : List Run) (t : List Act) (fs : List SentFrame) (bytes : List ℕ) → AreWritten room old new fs bytes → StandsOut old out t → StandsBehind new out t bytes
 all_written room old new out t fs bytes (none_written _ _) p = record { frames = []; bytes_are = refl; read_back = tt; stands = rw (append-nil out) p }

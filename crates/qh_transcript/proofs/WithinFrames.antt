@@ -1,5 +1,5 @@
 -- Frames that are handed over, lost or acknowledged: an end keeps within the peer's limits as before.
-use Rattle.std.proofs.Common.{◌≡◌, ℕ, ◌-◌, Bool, ◌&&◌, not, List, ◌++◌, refl, sym, ap, subst, ◌∙◌, inl, inr}
+use Rattle.std.proofs.Common.{◌≡◌, ℕ, ◌-◌, Bool, ◌&&◌, not, List, ◌++◌, refl, sym, ap, subst, ◌∙◌, inl, inr, reverse}
 use Rattle.std.proofs.lemmas.Bool.{cases_Bool}
 use Rattle.qh_spec.specs.Transcript.{Act}
 use Rattle.qh_half.specs.declared.send.Outgoing.{Outgoing}
@@ -10,10 +10,11 @@ use Rattle.qh_halves.specs.Counts.{is_own, is_bi}
 use Rattle.qh_halves.specs.SendHalves.{GivesPiece, GivesReset, IsAcked, IsLost, IsResetAcked, IsResetLost}
 use Rattle.qh_streams.specs.declared.frames.StreamFrame.{StreamFrame}
 use Rattle.qh_streams.specs.declared.frames.SentFrame.{SentFrame}
-use Rattle.qh_streams.specs.Streams.{PlainStreams, counts_of, with_counts, is_two_way, is_live, counted_closed, finished_events, head_bound, IsHandedOver, IsLostFrame, IsLostAtOnce, IsAckedFrame, AreWritten, AreLost, AreAcked}
+use Rattle.qh_streams.specs.Streams.{PlainStreams, counts_of, with_counts, is_two_way, is_live, counted_closed, finished_events, max_frame_header, IsHandedOver, IsLostFrame, IsAckedFrame, AreHanded, AreTakenBack, AreWritten, AreLost, AreAcked}
 use Rattle.qh_streams.specs.Streams.IsHandedOver.{stream as stream_handed, reset as reset_handed, stop as stop_handed, max_stream_data as max_stream_data_handed, max_data as max_data_handed, max_streams as max_streams_handed}
 use Rattle.qh_streams.specs.Streams.IsLostFrame.{stream as stream_lost, reset as reset_lost, stop as stop_lost, max_stream_data as max_stream_data_lost, max_data as max_data_lost, max_streams as max_streams_lost}
 use Rattle.qh_streams.specs.Streams.IsAckedFrame.{stream as stream_acked, reset as reset_acked, stop as stop_acked, max_stream_data as max_stream_data_acked, max_data as max_data_acked, max_streams as max_streams_acked}
+use Rattle.qh_streams.specs.Streams.AreHanded.{none as none_handed, more as more_handed}
 use Rattle.qh_streams.specs.Streams.AreWritten.{none as none_written, more as more_written}
 use Rattle.qh_streams.specs.Streams.AreLost.{none as none_lost, more as more_lost}
 use Rattle.qh_streams.specs.Streams.AreAcked.{none as none_acked, more as more_acked}
@@ -123,15 +124,19 @@ acked_all old new frames t fs (none_acked _) p = p
 acked_all old new frames t fs (more_acked _ mid _ front f before last) p = acked mid new frames t f last (acked_all old mid frames t front before p)
 
 pub handed : (old new : PlainStreams) (room : ℕ) (f : SentFrame) (frames : List StreamFrame) (t : List Act) → IsHandedOver old new room f → KeepsWithin old frames t → KeepsWithin new frames t
-handed old new room f frames t (stream_handed id piece idle next rest) p = changed old new frames t (step_goes next.step) (send_alone old new rest) (step_shared next.step) (gives_piece_keeps (room - head_bound) piece) p
-handed old new room f frames t (reset_handed id frame idle next rest) p = changed old new frames t (step_goes next.step) (send_alone old new rest) (step_shared next.step) (gives_reset_keeps frame) p
+handed old new room f frames t (stream_handed id piece next rest) p = changed old new frames t (step_goes next.step) (send_alone old new rest) (step_shared next.step) (gives_piece_keeps (room - max_frame_header) piece) p
+handed old new room f frames t (reset_handed id frame next rest) p = changed old new frames t (step_goes next.step) (send_alone old new rest) (step_shared next.step) (gives_reset_keeps frame) p
 handed old new room f frames t (stop_handed id code step rest) p = recv_alone old new frames t rest p
 handed old new room f frames t (max_stream_data_handed id limit step rest) p = recv_alone old new frames t rest p
 handed old new room f frames t (max_data_handed limit is due rest) p = recv_alone old new frames t (rest ∙ ap (λ r. record old { recv = r }) (sym (ap (λ (s : PlainStreams). s.recv) rest))) p
 handed old new room f frames t (max_streams_handed dir n is due rest) p = announced_alone old new frames t (is_two_way dir) _ rest refl refl p
 
-pub at_once : (old new : PlainStreams) (frames : List StreamFrame) (t : List Act) → IsLostAtOnce old new → KeepsWithin old frames t → KeepsWithin new frames t
-at_once old new frames t l p = again l.mid new frames t l.frame l.lost (handed old l.mid l.room l.frame frames t l.handed p)
+all_handed : (old new : PlainStreams) (fs : List SentFrame) (frames : List StreamFrame) (t : List Act) → AreHanded old new fs → KeepsWithin old frames t → KeepsWithin new frames t
+all_handed old new fs frames t (none_handed _) p = p
+all_handed old new fs frames t (more_handed room _ mid _ f rest first behind) p = all_handed mid new rest frames t behind (handed old mid room f frames t first p)
+
+pub taken_back : (old new : PlainStreams) (frames : List StreamFrame) (t : List Act) → AreTakenBack old new → KeepsWithin old frames t → KeepsWithin new frames t
+taken_back old new frames t b p = lost_all b.mid new frames t (reverse b.frames) b.lost (all_handed old b.mid b.frames frames t b.handed p)
 
 pub all_written : (room : ℕ) (old new : PlainStreams) (frames : List StreamFrame) (t : List Act) (fs : List SentFrame) (bytes : List ℕ) → AreWritten room old new fs bytes → KeepsWithin old frames t → KeepsWithin new frames t
 all_written room old new frames t fs bytes (none_written _ _) p = p

@@ -8,7 +8,7 @@ ghost use Rattle.qh_spec.specs.QuicFrame.{StreamFrame as Run};
 ghost use Rattle.qh_spec.specs.StreamId.{stream_id};
 ghost use Rattle.qh_spec.specs.Transcript.{Act, Stopped, read};
 ghost use Rattle.qh_spec.specs.declared.sides.Dir.{Dir};
-ghost use Rattle.qh_streams.specs.Streams.{PlainStreams, AreWritten, AreLost, AreAcked, IsLostFrame, IsLostAtOnce, IsOpened, IsReceived, counts_of, is_two_way, refusal_of, was_opened, counted_closed, is_live};
+ghost use Rattle.qh_streams.specs.Streams.{PlainStreams, AreWritten, AreLost, AreAcked, IsLostFrame, AreTakenBack, IsOpened, IsReceived, counts_of, is_two_way, refusal_of, was_opened, counted_closed, is_live};
 ghost use Rattle.qh_streams.specs.Tracked.{IsFresh};
 ghost use Rattle.qh_streams.specs.declared.frames.SentFrame.{SentFrame};
 ghost use Rattle.qh_streams.specs.declared.frames.StreamFrame.{StreamFrame};
@@ -40,7 +40,7 @@ pub fn gives_what_came()
         → IsOpened old new id → StandsIn old came t → StandsIn new came t }
     ensures written { (room : ℕ) (old new : PlainStreams) (came : List Run) (t : List Act) (frames : List SentFrame) (bytes : List ℕ)
         → AreWritten room old new frames bytes → StandsIn old came t → StandsIn new came t }
-    ensures lost_at_once { (old new : PlainStreams) (came : List Run) (t : List Act) → IsLostAtOnce old new → StandsIn old came t → StandsIn new came t }
+    ensures taken_back { (old new : PlainStreams) (came : List Run) (t : List Act) → AreTakenBack old new → StandsIn old came t → StandsIn new came t }
     ensures again { (old new : PlainStreams) (came : List Run) (t : List Act) (frame : SentFrame) → IsLostFrame old new frame → StandsIn old came t → StandsIn new came t }
     ensures lost { (old new : PlainStreams) (came : List Run) (t : List Act) (frames : List SentFrame) → AreLost old new frames → StandsIn old came t → StandsIn new came t }
     ensures acked { (old new : PlainStreams) (came : List Run) (t : List Act) (frames : List SentFrame) → AreAcked old new frames → StandsIn old came t → StandsIn new came t }

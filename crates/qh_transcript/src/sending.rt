@@ -5,7 +5,7 @@ ghost use Rattle.qh_spec.specs.QuicFrame.{StreamFrame as Run};
 ghost use Rattle.qh_spec.specs.StreamId.{stream_id};
 ghost use Rattle.qh_spec.specs.Transcript.{Act, Wrote, Finished, Reset};
 ghost use Rattle.qh_spec.specs.declared.sides.Dir.{Dir};
-ghost use Rattle.qh_streams.specs.Streams.{PlainStreams, AreWritten, AreLost, AreAcked, IsLostFrame, IsLostAtOnce, IsOpened, IsReceived, counts_of, is_two_way, refusal_of, was_opened};
+ghost use Rattle.qh_streams.specs.Streams.{PlainStreams, AreWritten, AreLost, AreAcked, IsLostFrame, AreTakenBack, IsOpened, IsReceived, counts_of, is_two_way, refusal_of, was_opened};
 ghost use Rattle.qh_streams.specs.Tracked.{IsFresh};
 ghost use Rattle.qh_streams.specs.declared.frames.SentFrame.{SentFrame};
 ghost use Rattle.qh_streams.specs.declared.frames.StreamFrame.{StreamFrame};
@@ -31,7 +31,7 @@ pub fn sends_what_was_written()
         → IsReceived old new frame → StandsOut old sent t → StandsOut new sent t }
     ensures written { (room : ℕ) (old new : PlainStreams) (sent : List Run) (t : List Act) (frames : List SentFrame) (bytes : List ℕ)
         → AreWritten room old new frames bytes → StandsOut old sent t → StandsBehind new sent t bytes }
-    ensures lost_at_once { (old new : PlainStreams) (sent : List Run) (t : List Act) → IsLostAtOnce old new → StandsOut old sent t → StandsOut new sent t }
+    ensures taken_back { (old new : PlainStreams) (sent : List Run) (t : List Act) → AreTakenBack old new → StandsOut old sent t → StandsOut new sent t }
     ensures again { (old new : PlainStreams) (sent : List Run) (t : List Act) (frame : SentFrame) → IsLostFrame old new frame → StandsOut old sent t → StandsOut new sent t }
     ensures lost { (old new : PlainStreams) (sent : List Run) (t : List Act) (frames : List SentFrame) → AreLost old new frames → StandsOut old sent t → StandsOut new sent t }
     ensures acked { (old new : PlainStreams) (sent : List Run) (t : List Act) (frames : List SentFrame) → AreAcked old new frames → StandsOut old sent t → StandsOut new sent t }

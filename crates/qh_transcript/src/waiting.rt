@@ -5,7 +5,7 @@ ghost use Rattle.qh_halves.specs.RecvHalves.{IsRecvStep, Reads, Begins, Stops, T
 ghost use Rattle.qh_spec.specs.QuicFrame.{StreamFrame as Run};
 ghost use Rattle.qh_spec.specs.StreamId.{stream_id};
 ghost use Rattle.qh_spec.specs.declared.sides.Dir.{Dir};
-ghost use Rattle.qh_streams.specs.Streams.{PlainStreams, AreWritten, AreLost, AreAcked, IsLostFrame, IsLostAtOnce, IsOpened, IsReceived, counts_of, is_two_way, refusal_of, was_opened, counted_closed, is_live};
+ghost use Rattle.qh_streams.specs.Streams.{PlainStreams, AreWritten, AreLost, AreAcked, IsLostFrame, AreTakenBack, IsOpened, IsReceived, counts_of, is_two_way, refusal_of, was_opened, counted_closed, is_live};
 ghost use Rattle.qh_streams.specs.Tracked.{IsFresh};
 ghost use Rattle.qh_streams.specs.declared.frames.SentFrame.{SentFrame};
 ghost use Rattle.qh_streams.specs.declared.frames.StreamFrame.{StreamFrame};
@@ -32,7 +32,7 @@ pub fn keeps_what_came()
         → IsOpened old new id → KeepsWhatCame old came → KeepsWhatCame new came }
     ensures written { (room : ℕ) (old new : PlainStreams) (came : List Run) (frames : List SentFrame) (bytes : List ℕ)
         → AreWritten room old new frames bytes → KeepsWhatCame old came → KeepsWhatCame new came }
-    ensures lost_at_once { (old new : PlainStreams) (came : List Run) → IsLostAtOnce old new → KeepsWhatCame old came → KeepsWhatCame new came }
+    ensures taken_back { (old new : PlainStreams) (came : List Run) → AreTakenBack old new → KeepsWhatCame old came → KeepsWhatCame new came }
     ensures again { (old new : PlainStreams) (came : List Run) (frame : SentFrame) → IsLostFrame old new frame → KeepsWhatCame old came → KeepsWhatCame new came }
     ensures lost { (old new : PlainStreams) (came : List Run) (frames : List SentFrame) → AreLost old new frames → KeepsWhatCame old came → KeepsWhatCame new came }
     ensures acked { (old new : PlainStreams) (came : List Run) (frames : List SentFrame) → AreAcked old new frames → KeepsWhatCame old came → KeepsWhatCame new came }

@@ -4,7 +4,7 @@ ghost use Rattle.qh_halves.specs.SendHalves.{IsStep, Takes, Finishes, IsResetWit
 ghost use Rattle.qh_spec.specs.StreamId.{stream_id};
 ghost use Rattle.qh_spec.specs.Transcript.{Act, Wrote, Finished, Reset, written};
 ghost use Rattle.qh_spec.specs.declared.sides.Dir.{Dir};
-ghost use Rattle.qh_streams.specs.Streams.{PlainStreams, AreWritten, AreLost, AreAcked, IsLostFrame, IsLostAtOnce, IsOpened, IsReceived, counts_of, is_two_way, refusal_of, was_opened, with_peer};
+ghost use Rattle.qh_streams.specs.Streams.{PlainStreams, AreWritten, AreLost, AreAcked, IsLostFrame, AreTakenBack, IsOpened, IsReceived, counts_of, is_two_way, refusal_of, was_opened, with_peer};
 ghost use Rattle.qh_streams.specs.declared.frames.PeerLimits.{PeerLimits};
 ghost use Rattle.qh_streams.specs.declared.frames.SentFrame.{SentFrame};
 ghost use Rattle.qh_streams.specs.declared.frames.StreamFrame.{StreamFrame};
@@ -36,7 +36,7 @@ pub fn keeps_within_limits()
         → IsReceived old new frame → KeepsWithin old frames t → KeepsWithin new (frame ∷ frames) t }
     ensures written { (room : ℕ) (old new : PlainStreams) (frames : List StreamFrame) (t : List Act) (sent : List SentFrame) (bytes : List ℕ)
         → AreWritten room old new sent bytes → KeepsWithin old frames t → KeepsWithin new frames t }
-    ensures lost_at_once { (old new : PlainStreams) (frames : List StreamFrame) (t : List Act) → IsLostAtOnce old new → KeepsWithin old frames t → KeepsWithin new frames t }
+    ensures taken_back { (old new : PlainStreams) (frames : List StreamFrame) (t : List Act) → AreTakenBack old new → KeepsWithin old frames t → KeepsWithin new frames t }
     ensures again { (old new : PlainStreams) (frames : List StreamFrame) (t : List Act) (frame : SentFrame) → IsLostFrame old new frame → KeepsWithin old frames t → KeepsWithin new frames t }
     ensures lost { (old new : PlainStreams) (frames : List StreamFrame) (t : List Act) (sent : List SentFrame) → AreLost old new sent → KeepsWithin old frames t → KeepsWithin new frames t }
     ensures acked { (old new : PlainStreams) (frames : List StreamFrame) (t : List Act) (sent : List SentFrame) → AreAcked old new sent → KeepsWithin old frames t → KeepsWithin new frames t }

@@ -22,20 +22,20 @@ pub(crate) fn coming(alloc: Global, frame: &Frame<'_>) -> Result<Option<StreamFr
         Frame::ResetStream {
             id,
             error_code,
-            final_offset,
-        } => StreamFrame::ResetStream {
+            final_size,
+        } => StreamFrame::Reset {
             id: *id,
             code: *error_code,
-            final_size: *final_offset,
+            size: *final_size,
         },
-        Frame::StopSending { id, error_code } => StreamFrame::StopSending {
+        Frame::StopSending { id, error_code } => StreamFrame::Stop {
             id: *id,
             code: *error_code,
         },
         Frame::MaxData(limit) => StreamFrame::MaxData(*limit),
         Frame::MaxStreamData { id, offset } => StreamFrame::MaxStreamData {
             id: *id,
-            limit: *offset,
+            max: *offset,
         },
         Frame::MaxStreams { dir, count } => StreamFrame::MaxStreams {
             dir: *dir,
@@ -50,12 +50,12 @@ pub(crate) fn frame_of(alloc: Global, words: &mut Words<'_>) -> Result<StreamFra
     match words.next() {
         "stream" => stream_frame_of(alloc, words, false),
         "stream-end" => stream_frame_of(alloc, words, true),
-        "reset" => Ok(StreamFrame::ResetStream {
+        "reset" => Ok(StreamFrame::Reset {
             id: stream_of(words)?,
             code: varint_of(words)?,
-            final_size: varint_of(words)?,
+            size: varint_of(words)?,
         }),
-        "stop" => Ok(StreamFrame::StopSending {
+        "stop" => Ok(StreamFrame::Stop {
             id: stream_of(words)?,
             code: varint_of(words)?,
         }),
@@ -97,7 +97,7 @@ fn limit_frame_of(kind: &str, words: &mut Words<'_>) -> Result<StreamFrame, RowF
         "max-data" => Ok(StreamFrame::MaxData(varint_of(words)?)),
         "max-stream-data" => Ok(StreamFrame::MaxStreamData {
             id: stream_of(words)?,
-            limit: varint_of(words)?,
+            max: varint_of(words)?,
         }),
         "max-streams" => Ok(StreamFrame::MaxStreams {
             dir: dir_of(words)?,

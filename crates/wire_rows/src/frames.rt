@@ -3,7 +3,7 @@ use crate::frames_written::write;
 use crate::say::{Answer, dir_name, put, put_content, put_hex, put_named};
 use qh_base::{ConnectionId, Dir, ResetToken, StreamId, VarInt};
 use qh_frame::{Ack, AckRange, EcnCounts, Frame, FrameFault, Stream, get_frame};
-use qh_packet::{FrameSurvey, PacketFault, survey};
+use qh_packet::{PacketFault, ValidFrames, validate_frames};
 use row_text::{RowFault, Words, put_hex_number, put_number};
 use std::alloc::Global;
 
@@ -74,8 +74,8 @@ fn tell_survey(out: &mut Vec<u8>, bytes: &[u8]) -> Answer {
     }
 }
 
-fn surveyed(bytes: &[u8]) -> Result<FrameSurvey, PacketFault> {
-    survey(bytes)
+fn surveyed(bytes: &[u8]) -> Result<ValidFrames, PacketFault> {
+    validate_frames(bytes)
 }
 
 // Appends a frame.
@@ -123,8 +123,8 @@ fn put_plain(out: &mut Vec<u8>, frame: &Frame<'_>) -> Answer {
         Frame::ResetStream {
             id,
             error_code,
-            final_offset,
-        } => put_reset(out, *id, *error_code, *final_offset),
+            final_size,
+        } => put_reset(out, *id, *error_code, *final_size),
         Frame::StopSending { id, error_code } => put_two(
             out,
             "STOP_SENDING",

@@ -1,56 +1,54 @@
-ghost use Rattle.std.specs.Prelude.{◌≡◌, ℕ, ◌+◌, ◌<◌, ◌≤◌, ◌^◌, ◌++◌, [], ◌∷◌, length, take, drop, min, max, true, false, OnOk, OnErr, IfOk, IsOk};
-ghost use Rattle.std.specs.VecDeque.{deque_len, deque_capacity};
-ghost use Rattle.qh_buffers.specs.Assembler.{waits_in, end_of, end_behind, chunk_at, part, all_bytes, run_of, after_front, AreInOrder, IsCountTo, AreMissing, AreExclusive, AreMerged, IsAmong};
-ghost use Rattle.qh_buffers.specs.Ranges.{has, IsNextGap};
+ghost use Rattle.std.specs.Prelude.{◌≡◌, ℕ, ◌+◌, ◌<◌, ◌≤◌, ◌^◌, ◌==◌, ◌++◌, List, [], ◌∷◌, length, slice_range, take, true, false, None, OnOk, OnErr, IfOk, if◌then◌else◌};
+ghost use Rattle.std.specs.Ordering.{nat_cmp};
+ghost use Rattle.std.specs.BTreeMap.{get, IsOrdered};
+ghost use Rattle.qh_buffers.specs.Assembler.{pieces, waits_in, end_of, end_behind, chunk_at, part, parts_of, all_bytes, run_of, after_front, is_end, AreStored, AreGaps, AreMissing, AreExclusive, AreMerged, IsAmong};
+ghost use Rattle.qh_buffers.specs.Ranges.{has, kept, IsNextGap};
 
 use super::Chunk;
 use crate::RangeSet;
 use bytes::Bytes;
 use qh_base::Memory;
 use std::alloc::Global;
-use std::collections::VecDeque;
+use std::collections::BTreeMap;
 use std::ops::Range;
 
-/// How many pieces begin at an offset or before it.
-fn count_to(chunks: &VecDeque<Chunk>, offset: u64) -> usize
-    requires { AreInOrder 0 chunks.now.items }
-    ensures { IsCountTo chunks.now.items offset result }
-{
-    chunks.partition_point(|chunk: &Chunk| chunk.offset <= offset)
-}
-
 /// The first offsets within a range at which no byte waits.
-fn next_gap(chunks: &VecDeque<Chunk>, within: Range<u64>) -> Range<u64>
-    requires in_order { AreInOrder 0 chunks.now.items }
+fn next_gap(chunks: &BTreeMap<u64, Bytes>, within: Range<u64>) -> Range<u64>
+    requires stored { AreStored 0 chunks.now.entries }
     requires order { within.start ≤ within.end }
-    ensures { IsNextGap (waits_in chunks.now.items) within.start within.end result.start result.end }
+    requires fits { within.end < 2 ^ 62 }
+    ensures { IsNextGap (waits_in (pieces chunks.now.entries)) within.start within.end result.start result.end }
 {
-    let count = count_to(chunks, within.start);
-    let start = end_before(chunks, count, within.start);
-    let end = start_of(chunks, count, within.end);
-    start.min(end)..end
-}
-
-/// The offset behind the pieces in front of an index, at least a limit.
-fn end_before(chunks: &VecDeque<Chunk>, index: usize, limit: u64) -> u64
-    requires in_order { AreInOrder 0 chunks.now.items }
-    requires bound { index ≤ length chunks.now.items }
-    ensures { result ≡ max limit (end_behind 0 (take index chunks.now.items)) }
-{
-    if index == 0 {
-        return limit;
+    let Some((end, bytes)) = chunks.range(within.start + 1..).next() else {
+        return within;
+    };
+    let offset = *end - bytes.len() as u64;
+    if within.start < offset {
+        return within.start..offset.min(within.end);
     }
-    limit.max(chunks[index - 1].end())
+    let start = within.end.min(*end);
+    start..start
 }
 
-/// The offset of the piece at an index, at most a limit.
-fn start_of(chunks: &VecDeque<Chunk>, index: usize, limit: u64) -> u64
-    ensures some { index < length chunks.now.items → result ≡ min limit (chunk_at chunks.now.items index).offset }
-    ensures none { length chunks.now.items ≤ index → result ≡ limit }
+/// The offset behind all pieces.
+fn end_of_all(chunks: &BTreeMap<u64, Bytes>) -> u64
+    requires { AreStored 0 chunks.now.entries }
+    ensures { result ≡ end_behind 0 (pieces chunks.now.entries) }
 {
-    match chunks.get(index) {
-        Some(chunk) => limit.min(chunk.offset),
-        None => limit,
+    match chunks.last_key_value() {
+        Some((end, _)) => *end,
+        None => 0,
+    }
+}
+
+/// The offset of the first piece, 0 where there is none.
+pub(super) fn front_offset(chunks: &BTreeMap<u64, Bytes>) -> u64
+    requires { AreStored 0 chunks.now.entries }
+    ensures { result ≡ (chunk_at (pieces chunks.now.entries) 0).offset }
+{
+    match chunks.first_key_value() {
+        Some((end, bytes)) => *end - bytes.len() as u64,
+        None => 0,
     }
 }
 
@@ -58,33 +56,33 @@ fn start_of(chunks: &VecDeque<Chunk>, index: usize, limit: u64) -> u64
 pub(super) fn insert(
     alloc: Global,
     given: &RangeSet,
-    chunks: &mut VecDeque<Chunk>,
+    chunks: &mut BTreeMap<u64, Bytes>,
     new: Chunk,
 ) -> Result<(), Memory>
-    requires in_order { AreInOrder 0 chunks.old.items }
+    requires stored { AreStored 0 chunks.old.entries }
     requires fits { end_of new < 2 ^ 62 }
-    ensures ok { OnOk result (IsAmong given.now chunks.old.items new chunks.new.items) }
-    ensures err { OnErr result (chunks.new.items ≡ chunks.old.items) }
+    ensures stored { OnOk result (AreStored 0 chunks.new.entries) }
+    ensures ok { OnOk result (IsAmong given.now (pieces chunks.old.entries) new (pieces chunks.new.entries)) }
+    ensures err { OnErr result (chunks.new.entries ≡ chunks.old.entries) }
 {
     if is_behind(given, chunks, &new) {
-        chunks.push_back(new)?;
-        return Ok(());
+        return put(chunks, new);
     }
-    let parts = missing(alloc, given, chunks, &new)?;
-    merge(chunks, parts)
+    let gaps = missing(alloc, given, chunks, &new)?;
+    fill(alloc, chunks, &new, &gaps)
 }
 
 /// Whether a piece has bytes and begins behind all that was given and all that waits.
-fn is_behind(given: &RangeSet, chunks: &VecDeque<Chunk>, new: &Chunk) -> bool
-    requires { AreInOrder 0 chunks.now.items }
+fn is_behind(given: &RangeSet, chunks: &BTreeMap<u64, Bytes>, new: &Chunk) -> bool
+    requires { AreStored 0 chunks.now.entries }
     ensures some { result ≡ true → 0 < length new.now.bytes }
     ensures given { result ≡ true → (k : ℕ) → new.now.offset ≤ k → has given.now k ≡ false }
-    ensures chunks { result ≡ true → end_behind 0 chunks.now.items ≤ new.now.offset }
+    ensures chunks { result ≡ true → end_behind 0 (pieces chunks.now.entries) ≤ new.now.offset }
 {
     if new.bytes.is_empty() {
         return false;
     }
-    if new.offset < end_before(chunks, chunks.len(), 0) {
+    if new.offset < end_of_all(chunks) {
         return false;
     }
     match given.max() {
@@ -93,94 +91,153 @@ fn is_behind(given: &RangeSet, chunks: &VecDeque<Chunk>, new: &Chunk) -> bool
     }
 }
 
-/// The parts of a new piece at offsets that weren't given and at which no byte waits.
+/// The offsets of a new piece that weren't given and at which no byte waits.
 fn missing(
     alloc: Global,
     given: &RangeSet,
-    chunks: &VecDeque<Chunk>,
+    chunks: &BTreeMap<u64, Bytes>,
     new: &Chunk,
-) -> Result<Vec<Chunk>, Memory>
-    requires in_order { AreInOrder 0 chunks.now.items }
+) -> Result<Vec<Range<u64>>, Memory>
+    requires stored { AreStored 0 chunks.now.entries }
     requires fits { end_of new.now < 2 ^ 62 }
-    ensures { IfOk result (λ parts. AreMissing given.now chunks.now.items new.now parts.items) }
+    ensures gaps { IfOk result (λ gaps. AreGaps new.now.offset (end_of new.now) gaps.items) }
+    ensures parts { IfOk result (λ gaps. AreMissing given.now (pieces chunks.now.entries) new.now (parts_of new.now gaps.items)) }
 {
     let end = new.end();
     let mut at = new.offset;
-    let mut parts = Vec::new(alloc);
+    let mut gaps = Vec::new(alloc);
     while at < end {
         let gap = next_gap(chunks, given.next_gap(at..end));
-        push_part(&mut parts, new, gap.start, gap.end)?;
         at = gap.end;
+        push_gap(&mut gaps, gap)?;
     }
-    Ok(parts)
+    Ok(gaps)
 }
 
-/// Appends the part of a piece between two offsets, where there is one.
-fn push_part(parts: &mut Vec<Chunk>, new: &Chunk, from: u64, to: u64) -> Result<(), Memory>
-    requires low { new.now.offset ≤ from }
-    requires high { to ≤ end_of new.now }
-    ensures { OnOk result (parts.new.items ≡ parts.old.items ++ part from to new.now) }
+/// Appends a range that isn't empty.
+fn push_gap(gaps: &mut Vec<Range<u64>>, gap: Range<u64>) -> Result<(), Memory>
+    ensures { OnOk result (gaps.new.items ≡ gaps.old.items ++ kept gap) }
 {
-    if from < to {
-        let start = (from - new.offset) as usize;
-        let end = (to - new.offset) as usize;
-        let bytes = new.bytes.slice(start..end)?;
-        parts.push(Chunk {
+    if gap.start < gap.end {
+        gaps.push(gap)?;
+    }
+    Ok(())
+}
+
+/// Puts the parts of a new piece between some offsets among the pieces.
+fn fill(
+    alloc: Global,
+    chunks: &mut BTreeMap<u64, Bytes>,
+    new: &Chunk,
+    gaps: &[Range<u64>],
+) -> Result<(), Memory>
+    requires stored { AreStored 0 chunks.old.entries }
+    requires fits { end_of new.now < 2 ^ 62 }
+    requires gaps { AreGaps new.now.offset (end_of new.now) gaps.now }
+    requires exclusive { AreExclusive (pieces chunks.old.entries) (parts_of new.now gaps.now) }
+    ensures stored { OnOk result (AreStored 0 chunks.new.entries) }
+    ensures ok { OnOk result (AreMerged (pieces chunks.old.entries) (pieces chunks.new.entries) (parts_of new.now gaps.now)) }
+    ensures err { OnErr result (chunks.new.entries ≡ chunks.old.entries) }
+{
+    for index in 0..gaps.len() {
+        let gap = &gaps[index];
+        if put_part(alloc, chunks, new, gap.start, gap.end).is_err() {
+            withdraw(chunks, &gaps[..index]);
+            return Err(Memory);
+        }
+    }
+    Ok(())
+}
+
+/// Puts the part of a piece between two offsets among the pieces.
+fn put_part(
+    alloc: Global,
+    chunks: &mut BTreeMap<u64, Bytes>,
+    new: &Chunk,
+    from: u64,
+    to: u64,
+) -> Result<(), Memory>
+    requires stored { AreStored 0 chunks.old.entries }
+    requires fits { end_of new.now < 2 ^ 62 }
+    requires low { new.now.offset ≤ from }
+    requires some { from < to }
+    requires high { to ≤ end_of new.now }
+    requires exclusive { AreExclusive (pieces chunks.old.entries) (part from to new.now) }
+    ensures stored { OnOk result (AreStored 0 chunks.new.entries) }
+    ensures ok { OnOk result (AreMerged (pieces chunks.old.entries) (pieces chunks.new.entries) (part from to new.now)) }
+    ensures others { OnOk result ((k : ℕ) → (to == k) ≡ false → get nat_cmp chunks.new k ≡ get nat_cmp chunks.old k) }
+    ensures err { OnErr result (chunks.new.entries ≡ chunks.old.entries) }
+    ensures ordered { IsOrdered nat_cmp chunks.new }
+{
+    let start = (from - new.offset) as usize;
+    let end = (to - new.offset) as usize;
+    let bytes = bytes_between(alloc, &new.bytes, start, end)?;
+    put(
+        chunks,
+        Chunk {
             offset: from,
             bytes,
-        })?;
+        },
+    )
+}
+
+/// The bytes between two indexes: a slice of the same buffer if they are at least half of it, else a copy. So what waits of a
+/// piece keeps at most twice its bytes.
+fn bytes_between(alloc: Global, bytes: &Bytes, start: usize, end: usize) -> Result<Bytes, Memory>
+    requires order { start ≤ end }
+    requires within { end ≤ length bytes.now }
+    ensures { IfOk result (λ between. between ≡ slice_range bytes.now start end) }
+{
+    if bytes.len() / 2 <= end - start {
+        return Ok(bytes.slice(start..end)?);
     }
+    let between = &bytes.as_slice()[start..end];
+    Ok(Bytes::copy_from_slice(alloc, between)?)
+}
+
+/// Puts one piece among the others.
+fn put(chunks: &mut BTreeMap<u64, Bytes>, piece: Chunk) -> Result<(), Memory>
+    requires stored { AreStored 0 chunks.old.entries }
+    requires some { 0 < length piece.bytes }
+    requires fits { end_of piece < 2 ^ 62 }
+    requires exclusive { AreExclusive (pieces chunks.old.entries) (piece ∷ []) }
+    ensures stored { OnOk result (AreStored 0 chunks.new.entries) }
+    ensures ok { OnOk result (AreMerged (pieces chunks.old.entries) (pieces chunks.new.entries) (piece ∷ [])) }
+    ensures others { OnOk result ((k : ℕ) → (end_of piece == k) ≡ false → get nat_cmp chunks.new k ≡ get nat_cmp chunks.old k) }
+    ensures err { OnErr result (chunks.new.entries ≡ chunks.old.entries) }
+    ensures ordered { IsOrdered nat_cmp chunks.new }
+{
+    chunks.insert(piece.end(), piece.bytes)?;
     Ok(())
 }
 
-/// Puts parts among the pieces.
-fn merge(chunks: &mut VecDeque<Chunk>, mut parts: Vec<Chunk>) -> Result<(), Memory>
-    requires in_order { AreInOrder 0 chunks.old.items }
-    requires parts_in_order { AreInOrder 0 parts.items }
-    requires exclusive { AreExclusive chunks.old.items parts.items }
-    ensures ok { OnOk result (AreMerged chunks.old.items chunks.new.items parts.items) }
-    ensures err { OnErr result (chunks.new.items ≡ chunks.old.items) }
+/// Takes the pieces out that end where some ranges do.
+fn withdraw(chunks: &mut BTreeMap<u64, Bytes>, gaps: &[Range<u64>])
+    requires { IsOrdered nat_cmp chunks.old }
+    ensures pieces { (k : ℕ) → get nat_cmp chunks.new k ≡ (if is_end gaps.now k then None else get nat_cmp chunks.old k) }
+    ensures ordered { IsOrdered nat_cmp chunks.new }
 {
-    chunks.try_reserve(parts.len())?;
-    while let Some(part) = parts.pop() {
-        put(chunks, part)?;
+    for gap in gaps {
+        let _ = chunks.remove(&gap.end);
     }
-    Ok(())
-}
-
-/// Puts one piece among the others. It doesn't fail where there is room.
-fn put(chunks: &mut VecDeque<Chunk>, part: Chunk) -> Result<(), Memory>
-    requires in_order { AreInOrder 0 chunks.old.items }
-    requires part_in_order { AreInOrder 0 (part ∷ []) }
-    requires exclusive { AreExclusive chunks.old.items (part ∷ []) }
-    ensures ok { OnOk result (AreMerged chunks.old.items chunks.new.items (part ∷ [])) }
-    ensures err { OnErr result (chunks.new.items ≡ chunks.old.items) }
-    ensures room { deque_len chunks.old < deque_capacity chunks.old → IsOk result }
-    ensures len { OnOk result (deque_len chunks.new ≡ deque_len chunks.old + 1) }
-    ensures capacity { deque_capacity chunks.old ≤ deque_capacity chunks.new }
-{
-    let index = count_to(chunks, part.offset);
-    chunks.insert(index, part)?;
-    Ok(())
 }
 
 /// How many bytes stand in front without a gap from an offset on, at most so many.
-pub(super) fn run(chunks: &VecDeque<Chunk>, offset: u64, max_length: usize) -> usize
-    requires { AreInOrder 0 chunks.now.items }
-    ensures { result ≡ run_of offset max_length chunks.now.items }
+pub(super) fn run(chunks: &BTreeMap<u64, Bytes>, offset: u64, max_length: usize) -> usize
+    requires { AreStored 0 chunks.now.entries }
+    ensures { result ≡ run_of offset max_length (pieces chunks.now.entries) }
 {
     let mut at = offset;
     let mut left = max_length;
-    for index in 0..chunks.len() {
-        let chunk = &chunks[index];
-        if chunk.offset != at {
+    for (end, bytes) in chunks {
+        if *end - bytes.len() as u64 != at {
             return max_length - left;
         }
-        if left <= chunk.bytes.len() {
+        if left <= bytes.len() {
             return max_length;
         }
-        at = chunk.end();
-        left -= chunk.bytes.len();
+        at = *end;
+        left -= bytes.len();
     }
     max_length - left
 }
@@ -188,14 +245,14 @@ pub(super) fn run(chunks: &VecDeque<Chunk>, offset: u64, max_length: usize) -> u
 /// So many bytes of the first pieces: a part of the first one, or a copy of parts of several.
 pub(super) fn front_bytes(
     alloc: Global,
-    chunks: &VecDeque<Chunk>,
+    chunks: &BTreeMap<u64, Bytes>,
     length: usize,
 ) -> Result<Bytes, Memory>
-    ensures { IfOk result (λ bytes. bytes ≡ take length (all_bytes chunks.now.items)) }
+    ensures { IfOk result (λ bytes. bytes ≡ take length (all_bytes (pieces chunks.now.entries))) }
 {
-    if let Some(first) = chunks.front() {
-        if length <= first.bytes.len() {
-            return Ok(first.bytes.slice(..length)?);
+    if let Some((_, first)) = chunks.first_key_value() {
+        if length <= first.len() {
+            return Ok(first.slice(..length)?);
         }
     }
     let bytes = copied(alloc, chunks, length)?;
@@ -203,45 +260,49 @@ pub(super) fn front_bytes(
 }
 
 /// A copy of so many bytes of the first pieces.
-fn copied(alloc: Global, chunks: &VecDeque<Chunk>, length: usize) -> Result<Vec<u8>, Memory>
-    ensures { IfOk result (λ bytes. bytes.items ≡ take length (all_bytes chunks.now.items)) }
+fn copied(alloc: Global, chunks: &BTreeMap<u64, Bytes>, length: usize) -> Result<Vec<u8>, Memory>
+    ensures { IfOk result (λ bytes. bytes.items ≡ take length (all_bytes (pieces chunks.now.entries))) }
 {
     let mut bytes = Vec::with_capacity(alloc, length)?;
-    for index in 0..chunks.len() {
-        let chunk = chunks[index].bytes.as_slice();
+    for (_, piece) in chunks {
+        let piece = piece.as_slice();
         let left = length - bytes.len();
-        if left <= chunk.len() {
-            bytes.extend_from_slice(&chunk[..left])?;
+        if left <= piece.len() {
+            bytes.extend_from_slice(&piece[..left])?;
             return Ok(bytes);
         }
-        bytes.extend_from_slice(chunk)?;
+        bytes.extend_from_slice(piece)?;
     }
     Ok(bytes)
 }
 
 /// Drops so many bytes of the first pieces.
-pub(super) fn drop_front(chunks: &mut VecDeque<Chunk>, length: usize)
-    requires { AreInOrder 0 chunks.old.items }
-    ensures { chunks.new.items ≡ after_front length chunks.old.items }
+pub(super) fn drop_front(chunks: &mut BTreeMap<u64, Bytes>, length: usize)
+    requires { AreStored 0 chunks.old.entries }
+    ensures pieces { pieces chunks.new.entries ≡ after_front length (pieces chunks.old.entries) }
+    ensures stored { AreStored 0 chunks.new.entries }
 {
     let mut left = length;
-    while let Some(first) = chunks.front() {
-        let count = first.bytes.len();
+    while let Some((end, first)) = chunks.first_key_value() {
+        let end = *end;
+        let count = first.len();
         if left < count {
-            cut_front(&mut chunks[0], left);
+            cut_front(chunks, end, left);
             return;
         }
-        drop(chunks.pop_front());
+        drop(chunks.pop_first());
         left -= count;
     }
 }
 
-/// Drops the first bytes of a piece.
-fn cut_front(chunk: &mut Chunk, count: usize)
-    requires inside { count < length chunk.old.bytes }
-    requires fits { end_of chunk.old < 2 ^ 62 }
-    ensures { chunk.new ≡ record { offset = chunk.old.offset + count; bytes = drop count chunk.old.bytes } }
+/// Drops the first bytes of the first piece.
+fn cut_front(chunks: &mut BTreeMap<u64, Bytes>, end: u64, count: usize)
+    requires stored { AreStored 0 chunks.old.entries }
+    requires front { (bytes : List ℕ) × (rest : List (ℕ × List ℕ)) × (chunks.old.entries ≡ (end, bytes) ∷ rest) × (count < length bytes) }
+    ensures pieces { pieces chunks.new.entries ≡ after_front count (pieces chunks.old.entries) }
+    ensures stored { AreStored 0 chunks.new.entries }
 {
-    chunk.bytes.advance(count);
-    chunk.offset += count as u64;
+    if let Some(first) = chunks.get_mut(&end) {
+        first.advance(count);
+    }
 }

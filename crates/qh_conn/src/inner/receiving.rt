@@ -10,7 +10,7 @@ ghost use Rattle.qh_frame.specs.Range.{IsInRange};
 ghost use Rattle.qh_frame.specs.TypeOf.{named};
 ghost use Rattle.qh_frame.specs.declared.frame.Frame.{Frame as AFrame};
 ghost use Rattle.qh_frame.specs.declared.frame.FrameFault.{FrameFault as AFrameFault};
-ghost use Rattle.qh_packet.specs.Frames.{AreSurveyed, IsFaultyFrame};
+ghost use Rattle.qh_packet.specs.Frames.{AreValidFrames, IsFaultyFrame};
 ghost use Rattle.qh_packet.specs.declared.frames.PacketFault.TheVariants as packet_fault;
 ghost use Rattle.qh_space.specs.Space.{IsSpace};
 ghost use Rattle.qh_spec.specs.Codes as codes;
@@ -22,7 +22,7 @@ ghost use Rattle.std.specs.List.{AllByRecursion, list_any};
 use crate::{Inner, Session, State};
 use qh_base::{ConnectionError, Memory, Moment, Reason, Side, TransportError, TransportErrorCode};
 use qh_frame::{Frame, get_frame};
-use qh_packet::{OneRttPacket, PacketFault, open_packet, survey};
+use qh_packet::{OneRttPacket, PacketFault, open_packet, validate_frames};
 use qh_space::DataSpace;
 use qh_streams::StreamFault;
 use std::alloc::Global;
@@ -131,7 +131,7 @@ impl<S> Inner<S> {
         if !self.space.dedup.is_new(number) {
             return Ok(());
         }
-        let surveyed = match survey(frames) {
+        let surveyed = match validate_frames(frames) {
             Ok(surveyed) => surveyed,
             Err(fault) => {
                 self.close_by_fault(now, error_of(fault));
@@ -165,7 +165,7 @@ fn take_frames(
     frames: &[u8],
 ) -> Result<Option<ConnectionError>, Memory>
     requires space { IsSpace space.old }
-    requires surveyed { (is_eliciting : Bool) × AreSurveyed frames.now is_eliciting }
+    requires surveyed { (is_eliciting : Bool) × AreValidFrames frames.now is_eliciting }
     ensures ok { IfOk result (λ end. (taken : List AFrame) × AreFramesTaken now.0 frames.now space.old space.new taken end) }
     ensures space { OnOk result (IsSpace space.new) }
 {

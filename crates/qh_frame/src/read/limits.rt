@@ -22,14 +22,14 @@ pub(super) fn reset_stream(bytes: &[u8]) -> Option<(Frame<'_>, &[u8])>
     let Some((error_code, rest)) = number_of(rest) else {
         return None;
     };
-    let Some((final_offset, rest)) = number_of(rest) else {
+    let Some((final_size, rest)) = number_of(rest) else {
         return None;
     };
     Some((
         Frame::ResetStream {
             id: StreamId(id.into_inner()),
             error_code,
-            final_offset,
+            final_size,
         },
         rest,
     ))

@@ -3,7 +3,7 @@ ghost use Rattle.qh_buffers.specs.Ranges.{has};
 ghost use Rattle.qh_recovery.specs.Accepted.{IsNew, IsGreatestOf, IsNextOf, IsNextIn, Remembers, without_below};
 
 use qh_base::Memory;
-use qh_buffers::RangeSet;
+use qh_buffers::ArrayRangeSet;
 use std::alloc::Global;
 use std::marker::Model;
 
@@ -14,7 +14,7 @@ const WINDOW_SIZE: u64 = 129;
 /// most 128 below the greatest number.
 #[derive(Drop)]
 pub struct Dedup {
-    received: RangeSet,
+    received: ArrayRangeSet,
 }
 
 impl Model for Dedup {
@@ -35,7 +35,7 @@ impl Dedup {
         ensures { Remembers [] result }
     {
         Dedup {
-            received: RangeSet::new(alloc),
+            received: ArrayRangeSet::new(alloc),
         }
     }
 
@@ -78,7 +78,7 @@ impl Dedup {
 }
 
 /// The greatest number plus 1, 0 where there is none.
-fn next_of(received: &RangeSet) -> u64
+fn next_of(received: &ArrayRangeSet) -> u64
     requires { (k : ℕ) → has received.now k ≡ true → k < 2 ^ 62 }
     ensures next { IsNextIn received.now result }
     ensures bound { result ≤ 2 ^ 62 }
@@ -97,7 +97,7 @@ fn window_start(next: u64) -> u64
 }
 
 /// Drops the ranges that lie wholly below a number.
-fn forget_below(ranges: &mut RangeSet, floor: u64)
+fn forget_below(ranges: &mut ArrayRangeSet, floor: u64)
     ensures { ranges.new ≡ without_below floor ranges.old }
 {
     while let Some(range) = ranges.get(0) {

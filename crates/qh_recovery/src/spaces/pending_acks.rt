@@ -3,7 +3,7 @@ ghost use Rattle.qh_buffers.specs.Ranges.{range_at};
 ghost use Rattle.qh_recovery.specs.PendingAcks.{IsJoined, IsAckPut, last_ranges, ack_range, ack_ranges};
 
 use qh_base::{Memory, VarInt};
-use qh_buffers::RangeSet;
+use qh_buffers::ArrayRangeSet;
 use qh_frame::{AckRange, put_ack};
 use std::alloc::Global;
 use std::marker::Model;
@@ -14,7 +14,7 @@ const MAX_ACK_BLOCKS: usize = 32;
 /// The packet numbers that wait to be acknowledged, at most 32 ranges, and whether an ACK is due (RFC 9000, section 13.2).
 #[derive(Drop)]
 pub struct PendingAcks {
-    ranges: RangeSet,
+    ranges: ArrayRangeSet,
     is_due: bool,
 }
 
@@ -34,7 +34,7 @@ impl PendingAcks {
         ensures { result ≡ record { ranges = []; is_due = false } }
     {
         PendingAcks {
-            ranges: RangeSet::new(alloc),
+            ranges: ArrayRangeSet::new(alloc),
             is_due: false,
         }
     }
@@ -93,7 +93,7 @@ impl PendingAcks {
 }
 
 /// Drops the least ranges where there are more than 32.
-fn forget_least(ranges: &mut RangeSet)
+fn forget_least(ranges: &mut ArrayRangeSet)
     ensures { ranges.new ≡ last_ranges ranges.old }
 {
     while MAX_ACK_BLOCKS < ranges.len() {
@@ -102,7 +102,7 @@ fn forget_least(ranges: &mut RangeSet)
 }
 
 /// Writes the ranges for an ACK frame, the greatest first, and says how many there are.
-fn fill(blocks: &mut [AckRange; MAX_ACK_BLOCKS], ranges: &RangeSet) -> usize
+fn fill(blocks: &mut [AckRange; MAX_ACK_BLOCKS], ranges: &ArrayRangeSet) -> usize
     requires { length ranges.now ≤ 32 }
     ensures count { result ≡ length ranges.now }
     ensures blocks { take result blocks.new ≡ ack_ranges ranges.now }
@@ -115,7 +115,7 @@ fn fill(blocks: &mut [AckRange; MAX_ACK_BLOCKS], ranges: &RangeSet) -> usize
 }
 
 /// The range at an index, as an ACK frame has it.
-fn block_at(ranges: &RangeSet, index: usize) -> AckRange
+fn block_at(ranges: &ArrayRangeSet, index: usize) -> AckRange
     requires { index < length ranges.now }
     ensures { result ≡ ack_range (range_at ranges.now index) }
 {

@@ -1,5 +1,5 @@
 ghost use Rattle.std.specs.Prelude.{◌≡◌, ◌+◌, ◌<◌, ◌^◌, length, OnErr, OnOk, IfErr, MatchOption, None, true, false};
-ghost use Rattle.qh_streams.specs.declared.frames.StreamFrame.TheVariants.{Stream, ResetStream, StopSending, MaxStreamData, MaxStreams};
+ghost use Rattle.qh_streams.specs.declared.frames.StreamFrame.TheVariants.{Stream, Reset, Stop, MaxStreamData, MaxStreams};
 ghost use Rattle.qh_halves.specs.Counts.{has_send, has_recv};
 ghost use Rattle.qh_spec.specs.FrameTypes as frame_types;
 ghost use Rattle.qh_streams.specs.Streams.{refusal_of, id_refusal, ingest_refusal, size_refusal, was_opened, IsPieceReceived, IsResetReceived, IsRefusal, IsRefusedBy, IsReceived, IsWithinCount, HasUnblocked, KeepsOut};
@@ -43,19 +43,15 @@ impl Streams {
                 payload,
                 fin,
             } => self.received_stream(alloc, id, offset, payload, fin),
-            StreamFrame::ResetStream {
-                id,
-                code,
-                final_size,
-            } => self.received_reset_stream(alloc, id, code, final_size),
-            StreamFrame::StopSending { id, code } => self.received_stop_sending(alloc, id, code),
+            StreamFrame::Reset { id, code, size } => {
+                self.received_reset_stream(alloc, id, code, size)
+            }
+            StreamFrame::Stop { id, code } => self.received_stop_sending(alloc, id, code),
             StreamFrame::MaxData(limit) => {
                 let _ = self.send.received_max_data(limit);
                 Ok(())
             }
-            StreamFrame::MaxStreamData { id, limit } => {
-                self.received_max_stream_data(alloc, id, limit)
-            }
+            StreamFrame::MaxStreamData { id, max } => self.received_max_stream_data(alloc, id, max),
             StreamFrame::MaxStreams { dir, count } => self.received_max_streams(dir, count),
         }
     }
@@ -166,9 +162,9 @@ impl Streams {
         code: VarInt,
         final_size: VarInt,
     ) -> Result<(), StreamFault>
-        ensures ok { OnOk result (IsReceived self.old self.new (ResetStream id code final_size)) }
-        ensures taken { OnOk result (refusal_of self.old (ResetStream id code final_size) ≡ None) }
-        ensures fault { IfErr result (λ e. IsRefusedBy e (refusal_of self.old (ResetStream id code final_size))) }
+        ensures ok { OnOk result (IsReceived self.old self.new (Reset id code final_size)) }
+        ensures taken { OnOk result (refusal_of self.old (Reset id code final_size) ≡ None) }
+        ensures fault { IfErr result (λ e. IsRefusedBy e (refusal_of self.old (Reset id code final_size))) }
         ensures err { OnErr result (self.new ≡ self.old) }
         ensures keeps_out { KeepsOut self.old self.new }
     {
@@ -245,9 +241,9 @@ impl Streams {
         id: StreamId,
         code: VarInt,
     ) -> Result<(), StreamFault>
-        ensures ok { OnOk result (IsReceived self.old self.new (StopSending id code)) }
-        ensures taken { OnOk result (refusal_of self.old (StopSending id code) ≡ None) }
-        ensures fault { IfErr result (λ e. IsRefusedBy e (refusal_of self.old (StopSending id code))) }
+        ensures ok { OnOk result (IsReceived self.old self.new (Stop id code)) }
+        ensures taken { OnOk result (refusal_of self.old (Stop id code) ≡ None) }
+        ensures fault { IfErr result (λ e. IsRefusedBy e (refusal_of self.old (Stop id code))) }
         ensures err { OnErr result (self.new ≡ self.old) }
         ensures keeps_out { KeepsOut self.old self.new }
     {

@@ -1,9 +1,10 @@
-ghost use Rattle.std.specs.Prelude.{◌≡◌, ◌⊎◌, ◌+◌, ◌-◌, ◌<◌, ◌≤◌, ℕ, length, OnErr, OnOk, IfOk, IfSome, None, true, false};
+ghost use Rattle.std.specs.Prelude.{◌≡◌, ◌⊎◌, ◌+◌, ◌-◌, ◌<◌, ◌≤◌, ℕ, drop, length, reverse, take, OnErr, OnOk, IfOk, IfSome, None, true, false};
 ghost use Rattle.qh_frame.specs.FrameBytes.{IsPut};
 ghost use Rattle.qh_streams.specs.declared.frames.SentFrame.TheVariants.{Stream, MaxStreams};
+ghost use Rattle.qh_streams.specs.declared.streams.writing.Phase.TheVariants as phases;
 ghost use Rattle.qh_halves.specs.Counts.{count_limit};
 ghost use Rattle.qh_halves.specs.Limit.{is_due};
-ghost use Rattle.qh_streams.specs.Streams.{counts_of, is_two_way, IsOutHeld, IsHandedOver, IsIdle, IsControlIdle, IsWrittenBy, IsOneWritten, IsLostAtOnce, AreAllOut, KeepsOut, written_frame, head_bound, payload_length};
+ghost use Rattle.qh_streams.specs.Streams.{counts_of, is_two_way, IsOutHeld, IsHandedOver, IsIdle, IsOf, IsPhaseIdle, IsPhaseWritten, IsWrittenBy, IsOneWritten, IsCutShort, AreAllOut, AreLimitsWritten, AreLost, AreTakenBack, KeepsOut, written_frame, max_frame_header, payload_length};
 
 use crate::{Outgoing, SentFrame, Streams};
 use qh_base::{Dir, Memory, StreamId, VarInt};
@@ -14,76 +15,208 @@ use qh_frame::{
 use qh_halves::{AnnouncedLimit, StreamControl, StreamCounts, Transmission};
 
 /// A frame's head is at most so long: type, stream, offset and length (RFC 9000, section 19.8).
-const HEAD_BOUND: usize = 25;
+const MAX_FRAME_HEADER: usize = 25;
+
+/// At most so many frames of single streams go before STREAM frames.
+const MOST_BEFORE: usize = 32;
+
+/// Which frames are written.
+#[derive(Clone, Copy)]
+enum Phase {
+    /// MAX_DATA.
+    MaxData,
+    /// MAX_STREAMS of a direction.
+    MaxStreams(Dir),
+    /// STOP_SENDING and MAX_STREAM_DATA: each speaks of a single stream.
+    SingleStreams,
+    /// STREAM and RESET_STREAM, by priority and then by id.
+    Sending,
+}
 
 impl Streams {
-    /// Appends frames that are due, as many as the room permits, and what was written in each. STOP_SENDING and the MAX frames
-    /// go first, then streams by their priority, the greater first, then by their id. While there is room for a frame's head and
-    /// one byte, it ends only where nothing is left to be sent. Where the allocator has no memory it ends with what was written
-    /// so far, and answers Memory where that is nothing; a frame that couldn't be written counts as lost.
+    /// Appends frames that are due, as many as the room permits, and what was written in each: MAX_DATA and MAX_STREAMS, then at
+    /// most 32 frames of single streams (STOP_SENDING, MAX_STREAM_DATA), then STREAM and RESET_STREAM frames by their stream's
+    /// priority, the greater first, then by its id, then the frames of single streams that are left. It ends where nothing is
+    /// left to be sent, or there is no room for a frame's head and one byte. With 600 bytes of room no kind of frame keeps
+    /// another from being sent. `Memory` leaves both lists as they were; what was handed over waits again.
     pub fn write_frames(
         &mut self,
         room: usize,
         out: &mut Vec<u8>,
         sent: &mut Vec<SentFrame>,
     ) -> Result<(), Memory>
-        ensures written { IsWrittenBy room self.old self.new out.old.items out.new.items sent.old.items sent.new.items }
-        ensures full { OnOk result (IsIdle self.new ⊎ ((room < length out.new.items - length out.old.items + head_bound + 1) ⊎ (length sent.old.items < length sent.new.items))) }
-        ensures err { OnErr result ((out.new.items ≡ out.old.items) × (sent.new.items ≡ sent.old.items)) }
+        ensures written { OnOk result (IsWrittenBy room self.old self.new out.old.items out.new.items sent.old.items sent.new.items) }
+        ensures full { OnOk result (IsIdle self.new ⊎ (room < length out.new.items - length out.old.items + max_frame_header + 1)) }
+        ensures err { OnErr result ((out.new.items ≡ out.old.items) × (sent.new.items ≡ sent.old.items) × AreTakenBack self.old self.new) }
         ensures out { AreAllOut self.old sent.old.items → AreAllOut self.new sent.new.items }
         ensures keeps_out { KeepsOut self.old self.new }
     {
         let start = out.len();
         let before = sent.len();
-        while room - (out.len() - start) > HEAD_BOUND {
-            match self.write_frame(room - (out.len() - start), out, sent) {
-                Ok(true) => {}
-                Ok(false) => return Ok(()),
-                Err(Memory) if sent.len() == before => return Err(Memory),
-                Err(Memory) => return Ok(()),
+        let written = self.write_phases(room, out, sent);
+        if written.is_err() {
+            out.truncate(start);
+            self.take_back(before, sent);
+        }
+        written
+    }
+
+    // The same; after want of memory frames that were handed over stand among those that were sent, and some of their bytes may
+    // be written.
+    fn write_phases(
+        &mut self,
+        room: usize,
+        out: &mut Vec<u8>,
+        sent: &mut Vec<SentFrame>,
+    ) -> Result<(), Memory>
+        ensures written { OnOk result (IsWrittenBy room self.old self.new out.old.items out.new.items sent.old.items sent.new.items) }
+        ensures full { OnOk result (IsIdle self.new ⊎ (room < length out.new.items - length out.old.items + max_frame_header + 1)) }
+        ensures cut { OnErr result (IsCutShort self.old self.new out.old.items out.new.items sent.old.items sent.new.items) }
+        ensures out { OnOk result (AreAllOut self.old sent.old.items → AreAllOut self.new sent.new.items) }
+        ensures keeps_out { KeepsOut self.old self.new }
+    {
+        let start = out.len();
+        self.write_limits(room, out, sent)?;
+        let left = room - (out.len() - start);
+        self.write_phase(Phase::SingleStreams, MOST_BEFORE, left, out, sent)?;
+        let left = room - (out.len() - start);
+        self.write_phase(Phase::Sending, left, left, out, sent)?;
+        let left = room - (out.len() - start);
+        self.write_phase(Phase::SingleStreams, left, left, out, sent)
+    }
+
+    // Appends the frames of limits that all streams share, where they are due.
+    fn write_limits(
+        &mut self,
+        room: usize,
+        out: &mut Vec<u8>,
+        sent: &mut Vec<SentFrame>,
+    ) -> Result<(), Memory>
+        ensures written { OnOk result (AreLimitsWritten room self.old self.new out.old.items out.new.items sent.old.items sent.new.items) }
+        ensures grown { OnOk result ((length out.old.items ≤ length out.new.items) × (length out.new.items - length out.old.items ≤ room)) }
+        ensures cut { OnErr result (IsCutShort self.old self.new out.old.items out.new.items sent.old.items sent.new.items) }
+        ensures keeps_out { KeepsOut self.old self.new }
+    {
+        let start = out.len();
+        self.write_phase(Phase::MaxData, 1, room, out, sent)?;
+        let left = room - (out.len() - start);
+        self.write_phase(Phase::MaxStreams(Dir::Bi), 1, left, out, sent)?;
+        let left = room - (out.len() - start);
+        self.write_phase(Phase::MaxStreams(Dir::Uni), 1, left, out, sent)
+    }
+
+    // Appends frames of a phase, at most so many.
+    fn write_phase(
+        &mut self,
+        phase: Phase,
+        most: usize,
+        room: usize,
+        out: &mut Vec<u8>,
+        sent: &mut Vec<SentFrame>,
+    ) -> Result<(), Memory>
+        ensures written { OnOk result (IsPhaseWritten phase most room self.old self.new out.old.items out.new.items sent.old.items sent.new.items) }
+        ensures grown { OnOk result ((length out.old.items ≤ length out.new.items) × (length out.new.items - length out.old.items ≤ room)) }
+        ensures cut { OnErr result (IsCutShort self.old self.new out.old.items out.new.items sent.old.items sent.new.items) }
+        ensures keeps_out { KeepsOut self.old self.new }
+    {
+        let start = out.len();
+        let before = sent.len();
+        while room - (out.len() - start) > MAX_FRAME_HEADER && sent.len() - before < most {
+            if !self.write_frame(phase, room - (out.len() - start), out, sent)? {
+                return Ok(());
             }
         }
         Ok(())
     }
 
-    // Appends the next frame that is due; false where nothing is left to be sent.
+    // Appends the next frame of a phase; false where none is due.
     fn write_frame(
         &mut self,
+        phase: Phase,
         room: usize,
         out: &mut Vec<u8>,
         sent: &mut Vec<SentFrame>,
     ) -> Result<bool, Memory>
-        requires { head_bound < room }
-        ensures written { IfOk result (λ b. b ≡ true → IsOneWritten room self.old self.new out.old.items out.new.items sent.old.items sent.new.items) }
-        ensures idle { IfOk result (λ b. b ≡ false → IsIdle self.old × (self.new ≡ self.old) × (out.new.items ≡ out.old.items) × (sent.new.items ≡ sent.old.items)) }
-        ensures err { OnErr result ((out.new.items ≡ out.old.items) × (sent.new.items ≡ sent.old.items) × ((self.new ≡ self.old) ⊎ IsLostAtOnce self.old self.new)) }
+        requires { max_frame_header < room }
+        ensures written { IfOk result (λ b. b ≡ true → IsOneWritten phase room self.old self.new out.old.items out.new.items sent.old.items sent.new.items) }
+        ensures idle { IfOk result (λ b. b ≡ false → IsPhaseIdle phase self.old × (self.new ≡ self.old) × (out.new.items ≡ out.old.items) × (sent.new.items ≡ sent.old.items)) }
+        ensures cut { OnErr result (IsCutShort self.old self.new out.old.items out.new.items sent.old.items sent.new.items) }
         ensures keeps_out { KeepsOut self.old self.new }
     {
         sent.reserve(1)?;
-        let Some(frame) = self.next_frame(room)? else {
+        let Some(frame) = self.next_frame(phase, room)? else {
             return Ok(false);
         };
-        if self.put(&frame, out).is_err() {
-            self.lose(&frame);
-            return Err(Memory);
-        }
+        let put = self.put(&frame, out);
         let _ = sent.push(frame);
+        put?;
         Ok(true)
     }
 
-    // The next frame that is due. It counts as sent.
-    fn next_frame(&mut self, room: usize) -> Result<Option<SentFrame>, Memory>
-        requires { head_bound < room }
-        ensures some { IfOk result (λ o. IfSome o (IsHandedOver self.old self.new room)) }
+    // The next frame of a phase. It counts as sent.
+    fn next_frame(&mut self, phase: Phase, room: usize) -> Result<Option<SentFrame>, Memory>
+        requires { max_frame_header < room }
+        ensures some { IfOk result (λ o. IfSome o (λ f. IsHandedOver self.old self.new room f × IsOf phase f)) }
         ensures out { IfOk result (λ o. IfSome o (IsOutHeld self.new)) }
-        ensures none { IfOk result (λ o. o ≡ None → (self.new ≡ self.old) × IsIdle self.old) }
+        ensures none { IfOk result (λ o. o ≡ None → (self.new ≡ self.old) × IsPhaseIdle phase self.old) }
         ensures err { OnErr result (self.new ≡ self.old) }
         ensures keeps_out { KeepsOut self.old self.new }
     {
-        if let Some(frame) = self.next_control() {
-            return Ok(Some(frame));
+        match phase {
+            Phase::MaxData => Ok(self.next_max_data()),
+            Phase::MaxStreams(dir) => Ok(self.next_max_streams(dir)),
+            Phase::SingleStreams => Ok(self.next_single()),
+            Phase::Sending => self.next_sending(room),
         }
-        let Some((id, transmission)) = self.send.poll_transmit(room - HEAD_BOUND)? else {
+    }
+
+    // The MAX_DATA frame, where it is due. It counts as announced then.
+    fn next_max_data(&mut self) -> Option<SentFrame>
+        ensures some { IfSome result (λ f. (room : ℕ) → IsHandedOver self.old self.new room f × IsOf phases.MaxData f) }
+        ensures out { IfSome result (IsOutHeld self.new) }
+        ensures none { result ≡ None → (self.new ≡ self.old) × IsPhaseIdle phases.MaxData self.old }
+        ensures keeps_out { KeepsOut self.old self.new }
+    {
+        let limit = self.recv.next_max_data()?;
+        Some(SentFrame::MaxData(limit))
+    }
+
+    // The MAX_STREAMS frame of a direction, where it is due. It counts as announced then.
+    fn next_max_streams(&mut self, dir: Dir) -> Option<SentFrame>
+        ensures some { IfSome result (λ f. (room : ℕ) → IsHandedOver self.old self.new room f × IsOf (phases.MaxStreams dir) f) }
+        ensures out { IfSome result (IsOutHeld self.new) }
+        ensures none { result ≡ None → (self.new ≡ self.old) × IsPhaseIdle (phases.MaxStreams dir) self.old }
+        ensures keeps_out { KeepsOut self.old self.new }
+    {
+        let count = self.next_count(dir)?;
+        Some(SentFrame::MaxStreams { dir, count })
+    }
+
+    // The next STOP_SENDING or MAX_STREAM_DATA frame. It counts as sent.
+    fn next_single(&mut self) -> Option<SentFrame>
+        ensures some { IfSome result (λ f. (room : ℕ) → IsHandedOver self.old self.new room f × IsOf phases.SingleStreams f) }
+        ensures out { IfSome result (IsOutHeld self.new) }
+        ensures none { result ≡ None → (self.new ≡ self.old) × IsPhaseIdle phases.SingleStreams self.old }
+        ensures keeps_out { KeepsOut self.old self.new }
+    {
+        let (id, control) = self.recv.next_control()?;
+        let id = StreamId(id);
+        Some(match control {
+            StreamControl::StopSending(code) => SentFrame::StopSending { id, code },
+            StreamControl::MaxStreamData(limit) => SentFrame::MaxStreamData { id, limit },
+        })
+    }
+
+    // The next STREAM or RESET_STREAM frame. It counts as sent.
+    fn next_sending(&mut self, room: usize) -> Result<Option<SentFrame>, Memory>
+        requires { max_frame_header < room }
+        ensures some { IfOk result (λ o. IfSome o (λ f. IsHandedOver self.old self.new room f × IsOf phases.Sending f)) }
+        ensures out { IfOk result (λ o. IfSome o (IsOutHeld self.new)) }
+        ensures none { IfOk result (λ o. o ≡ None → (self.new ≡ self.old) × IsPhaseIdle phases.Sending self.old) }
+        ensures err { OnErr result (self.new ≡ self.old) }
+        ensures keeps_out { KeepsOut self.old self.new }
+    {
+        let Some((id, transmission)) = self.send.poll_transmit(room - MAX_FRAME_HEADER)? else {
             return Ok(None);
         };
         let id = StreamId(id);
@@ -93,38 +226,23 @@ impl Streams {
         }))
     }
 
-    // The next STOP_SENDING or MAX frame that is due. It counts as sent.
-    fn next_control(&mut self) -> Option<SentFrame>
-        ensures some { IfSome result (λ f. (room : ℕ) → IsHandedOver self.old self.new room f) }
-        ensures out { IfSome result (IsOutHeld self.new) }
-        ensures none { result ≡ None → (self.new ≡ self.old) × IsControlIdle self.old }
+    // Frames from this place on that were handed over are lost, the last one first.
+    fn take_back(&mut self, before: usize, sent: &mut Vec<SentFrame>)
+        requires within { before ≤ length sent.old.items }
+        requires out { AreAllOut self.old (drop before sent.old.items) }
+        ensures lost { AreLost self.old self.new (reverse (drop before sent.old.items)) }
+        ensures rest { sent.new.items ≡ take before sent.old.items }
         ensures keeps_out { KeepsOut self.old self.new }
     {
-        if let Some((id, control)) = self.recv.next_control() {
-            let id = StreamId(id);
-            return Some(match control {
-                StreamControl::StopSending(code) => SentFrame::StopSending { id, code },
-                StreamControl::MaxStreamData(limit) => SentFrame::MaxStreamData { id, limit },
-            });
+        while sent.len() > before {
+            if let Some(frame) = sent.pop() {
+                self.lose(&frame);
+            }
         }
-        if let Some(limit) = self.recv.next_max_data() {
-            return Some(SentFrame::MaxData(limit));
-        }
-        if let Some(count) = self.next_max_streams(Dir::Bi) {
-            return Some(SentFrame::MaxStreams {
-                dir: Dir::Bi,
-                count,
-            });
-        }
-        let count = self.next_max_streams(Dir::Uni)?;
-        Some(SentFrame::MaxStreams {
-            dir: Dir::Uni,
-            count,
-        })
     }
 
     // The count of streams that is to be announced. It counts as announced then.
-    fn next_max_streams(&mut self, dir: Dir) -> Option<VarInt>
+    fn next_count(&mut self, dir: Dir) -> Option<VarInt>
         ensures some { IfSome result (λ count. (room : ℕ) → IsHandedOver self.old self.new room (MaxStreams dir count)) }
         ensures none { result ≡ None → (self.new ≡ self.old) × (is_due (counts_of self.old (is_two_way dir)).announced (count_limit (counts_of self.old (is_two_way dir))) ≡ false) }
         ensures keeps_out { KeepsOut self.old self.new }
@@ -148,7 +266,7 @@ impl Streams {
     // Appends a frame that was just handed over, or nothing.
     fn put(&self, frame: &SentFrame, out: &mut Vec<u8>) -> Result<(), Memory>
         requires { IsOutHeld self.now frame.now }
-        ensures ok { OnOk result (IsPut out.old.items out.new.items (written_frame self.now frame.now) (head_bound + payload_length frame.now)) }
+        ensures ok { OnOk result (IsPut out.old.items out.new.items (written_frame self.now frame.now) (max_frame_header + payload_length frame.now)) }
         ensures err { OnErr result (out.new.items ≡ out.old.items) }
     {
         match frame {
@@ -166,7 +284,7 @@ impl Streams {
     // Appends a STREAM frame that was just handed over, or nothing.
     fn put_stream(&self, id: StreamId, piece: &Outgoing, out: &mut Vec<u8>) -> Result<(), Memory>
         requires { IsOutHeld self.now (Stream id piece.now) }
-        ensures ok { OnOk result (IsPut out.old.items out.new.items (written_frame self.now (Stream id piece.now)) (head_bound + (piece.now.offsets.end - piece.now.offsets.start))) }
+        ensures ok { OnOk result (IsPut out.old.items out.new.items (written_frame self.now (Stream id piece.now)) (max_frame_header + (piece.now.offsets.end - piece.now.offsets.start))) }
         ensures err { OnErr result (out.new.items ≡ out.old.items) }
     {
         let start = out.len();

@@ -28,9 +28,3 @@ returns-clause-probe_end c = same.probe
 
 pub returns-clause-made_end : goal.returns-clause-made_end
 returns-clause-made_end c = same.made
-
-pub returns-clause-left : goal.returns-clause-left
-returns-clause-left c = within.left
-
-pub returns-clause-left_end : goal.returns-clause-left_end
-returns-clause-left_end c = same.left

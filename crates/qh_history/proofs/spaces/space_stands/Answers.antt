@@ -1,5 +1,5 @@
 use Rattle.qh_history.proofs.Arrivals as arrival
-use Rattle.qh_history.proofs.Made.{left_stands, made_stands}
+use Rattle.qh_history.proofs.Made.{made_stands}
 use Rattle.qh_history.proofs.spaces.space_stands.Goals as goal
 
 pub returns-clause-frame : goal.returns-clause-frame
@@ -13,6 +13,3 @@ returns-clause-probe c = arrival.probe_stands
 
 pub returns-clause-made : goal.returns-clause-made
 returns-clause-made c = made_stands
-
-pub returns-clause-left : goal.returns-clause-left
-returns-clause-left c = left_stands

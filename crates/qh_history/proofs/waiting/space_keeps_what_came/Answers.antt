@@ -16,6 +16,3 @@ returns-clause-probe c = keeps.probe
 
 pub returns-clause-made : goal.returns-clause-made
 returns-clause-made c = keeps.made
-
-pub returns-clause-left : goal.returns-clause-left
-returns-clause-left c = keeps.left

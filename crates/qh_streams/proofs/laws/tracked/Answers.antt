@@ -52,3 +52,6 @@ returns-clause-lost_all c = list.lost_all
 
 pub returns-clause-acked_all : goal.returns-clause-acked_all
 returns-clause-acked_all c = list.acked_all
+
+pub returns-clause-taken_back : goal.returns-clause-taken_back
+returns-clause-taken_back c = λ old new fs back t. list.taken_back old new fs back t

@@ -41,8 +41,8 @@ returns-clause-opened c = opening.opened_stand
 pub returns-clause-written : goal.returns-clause-written
 returns-clause-written c = λ room old new came t fs bytes all. frame.kept_stand old new came t (kept.written room old new fs bytes all)
 
-pub returns-clause-lost_at_once : goal.returns-clause-lost_at_once
-returns-clause-lost_at_once c = λ old new came t lost. frame.kept_stand old new came t (kept.at_once old new lost)
+pub returns-clause-taken_back : goal.returns-clause-taken_back
+returns-clause-taken_back c = λ old new came t lost. frame.kept_stand old new came t (kept.taken_back old new lost)
 
 pub returns-clause-again : goal.returns-clause-again
 returns-clause-again c = λ old new came t f lost. frame.kept_stand old new came t (kept.again old new f lost)

@@ -29,8 +29,8 @@ returns-clause-told_reset c = λ old new came id code half is. frame.half_keeps 
 pub returns-clause-written : goal.returns-clause-written
 returns-clause-written c = λ room old new came fs bytes all. frame.kept_keeps old new came (kept.written room old new fs bytes all)
 
-pub returns-clause-lost_at_once : goal.returns-clause-lost_at_once
-returns-clause-lost_at_once c = λ old new came lost. frame.kept_keeps old new came (kept.at_once old new lost)
+pub returns-clause-taken_back : goal.returns-clause-taken_back
+returns-clause-taken_back c = λ old new came lost. frame.kept_keeps old new came (kept.taken_back old new lost)
 
 pub returns-clause-again : goal.returns-clause-again
 returns-clause-again c = λ old new came f lost. frame.kept_keeps old new came (kept.again old new f lost)

@@ -31,8 +31,8 @@ pub returns-clause-written : goal.returns-clause-written
 returns-clause-written c = λ room old new frames t sent bytes w p. frame.all_written room old new frames t sent bytes w p
 
 -- src/within.rt:17:1
-pub returns-clause-lost_at_once : goal.returns-clause-lost_at_once
-returns-clause-lost_at_once c = frame.at_once
+pub returns-clause-taken_back : goal.returns-clause-taken_back
+returns-clause-taken_back c = frame.taken_back
 
 -- src/within.rt:17:1
 pub returns-clause-again : goal.returns-clause-again

@@ -1,7 +1,9 @@
-use Rattle.std.proofs.Common.{◌≡◌, ◌≤◌, ◌-◌, ◌++◌, length, take, drop}
-use Rattle.qh_buffers.specs.Assembler.{all_bytes}
+use Rattle.std.proofs.Common.{◌≡◌, ◌≤◌, ◌-◌, ◌++◌, length, take}
+use Rattle.qh_buffers.specs.Assembler.{pieces, all_bytes}
 use Rattle.qh_buffers.proofs.assembler.chunks.copied.Given as goal
 
-abbrev pub invariant-loop-index : goal.invariant-loop-index
-invariant-loop-index l =
-    (length l.bytes.items ≤ l.length) × (l.bytes.items ++ take (l.length - length l.bytes.items) (all_bytes (drop l.index l.chunks.items)) ≡ take l.length (all_bytes l.chunks.items))
+abbrev pub invariant-loop-piece : goal.invariant-loop-piece
+invariant-loop-piece l = record {
+  few : length l.bytes.items ≤ l.length;
+  so_far : l.bytes.items ++ take (l.length - length l.bytes.items) (all_bytes (pieces l.piece-iterator)) ≡ take l.length (all_bytes (pieces l.chunks.entries));
+}

@@ -1,11 +1,12 @@
-use Rattle.std.proofs.Common.{◌≡◌}
-use Rattle.std.specs.VecDeque.{deque_len}
-use Rattle.qh_buffers.specs.Assembler.{after_front, AreInOrder}
+use Rattle.std.proofs.Common.{◌≡◌, btree_map_len}
+use Rattle.qh_buffers.specs.Assembler.{pieces, after_front, AreStored}
 use Rattle.qh_buffers.proofs.assembler.chunks.drop_front.Given as goal
 
-abbrev pub invariant-loop-first : goal.invariant-loop-first
-invariant-loop-first l =
-    AreInOrder 0 l.chunks.items × (after_front l.left l.chunks.items ≡ after_front l.length l.fn.chunks.items)
+abbrev pub invariant-loop-end : goal.invariant-loop-end
+invariant-loop-end l = record {
+  stored : AreStored 0 l.chunks.entries;
+  left : after_front l.left (pieces l.chunks.entries) ≡ after_front l.length (pieces l.fn.chunks.entries);
+}
 
-abbrev pub decreases-loop-first : goal.decreases-loop-first
-decreases-loop-first l = deque_len l.chunks
+abbrev pub decreases-loop-end : goal.decreases-loop-end
+decreases-loop-end l = btree_map_len l.chunks

@@ -10,4 +10,4 @@ returns-clause-some g c = λ some.
 pub returns-clause-connection : goal.returns-clause-connection
 returns-clause-connection g c =
     packet_kept c.args.now c.args.self.now c.restart_idle.new.self c.write_packet.new.self c.args.out.now.items c.write_packet.new.out.items _ c.args.room c.len-were_out.result c.requires.room (omega arith) c.len-were_out.ensures c.restart_idle.ensures
-    c.in_ok-number.number c.requires.whole c.requires.open c.in_ok-number.ensures.some c.in_ok-number.ensures.left c.in_ok-number.ensures.space
+    c.in_ok-number.number c.requires.whole c.requires.open c.in_ok-number.ensures.some (λ none. (c.in_ok-number.ensures.none none).1) c.in_ok-number.ensures.space

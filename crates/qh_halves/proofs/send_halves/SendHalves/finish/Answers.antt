@@ -1,6 +1,7 @@
 use Rattle.std.proofs.Common.{◌≡◌, refl, sym, ◌∙◌, arith, to_z, of_z, w32, rules}
 use Rattle.std.proofs.lemmas.Result.{err_from_is_err_and}
-use Rattle.qh_halves.proofs.HalvesStepped.{put_stepped, room_for, same_again}
+use Rattle.qh_halves.specs.SendHalves.{Finishes}
+use Rattle.qh_halves.proofs.HalvesStepped.{put_stepped, room_for, same_again, is_step}
 use Rattle.qh_halves.proofs.HalfSteps.{finish_goes, finish_holds}
 use Rattle.qh_halves.proofs.send_halves.SendHalves.finish.Goals as goal
 
@@ -29,3 +30,10 @@ invariant_of-self-2 c =
     (put_stepped c.self.inside c.self.invariant c.args.id c.in-Some.half.now c.finish.new.self c.in-Some.ensures.value c.insert.new.self _ _ _
     c.insert.ensures.streams c.insert.ensures.room c.insert.ensures.in_order (is ∙ c.rank-priority.ensures)
     (finish_goes c.in-Some.half.now c.finish.new.self finished.1) (omega (arith, same)) c.self.invariant.credit)
+
+pub returns-clause-ok : goal.returns-clause-ok
+returns-clause-ok c =
+    let finished = c.in_ok-finish.ensures.ok in
+    rw (sym c.self.view_is)
+    (is_step c.self.inside c.self.invariant c.args.id c.in-Some.half.now c.finish.new.self c.in-Some.ensures.value Finishes _ _ 0
+    (c.get_mut.follows.holds c.finish.new.self).0 (omega arith) finished (finish_goes c.in-Some.half.now c.finish.new.self finished.1).undone)

@@ -1,6 +1,7 @@
 use Rattle.std.proofs.Common.{◌≡◌, refl, sym, ◌∙◌, arith, to_z, of_z, w32, rules}
 use Rattle.std.proofs.lemmas.Result.{err_from_is_err_and}
-use Rattle.qh_halves.proofs.HalvesStepped.{put_stepped, room_for, same_again, held_within}
+use Rattle.qh_halves.specs.SendHalves.{IsResetWith}
+use Rattle.qh_halves.proofs.HalvesStepped.{put_stepped, room_for, same_again, held_within, is_step}
 use Rattle.qh_halves.proofs.HalfSteps.{reset_goes, reset_holds}
 use Rattle.qh_halves.proofs.send_halves.SendHalves.reset.Goals as goal
 
@@ -36,3 +37,10 @@ invariant_of-self-2 c =
     (put_stepped c.self.inside c.self.invariant c.args.id c.in-Some.half.now c.reset.new.self c.in-Some.ensures.value c.insert.new.self _ _ _
     c.insert.ensures.streams c.insert.ensures.room c.insert.ensures.in_order (is ∙ c.rank-priority.ensures)
     (reset_goes c.in-Some.half.now c.reset.new.self c.args.code left.1) (omega (arith, bytes.0, bytes.1, within, c.self.invariant.counted, c.unacked.ensures)) c.self.invariant.credit)
+
+pub returns-clause-ok : goal.returns-clause-ok
+returns-clause-ok c =
+    let left = c.in_ok-reset.ensures.ok in
+    rw (sym c.self.view_is)
+    (is_step c.self.inside c.self.invariant c.args.id c.in-Some.half.now c.reset.new.self c.in-Some.ensures.value (IsResetWith c.args.code) _ _ 0
+    (c.get_mut.follows.holds c.reset.new.self).0 (omega arith) left (reset_goes c.in-Some.half.now c.reset.new.self c.args.code left.1).undone)

@@ -1,5 +1,6 @@
-use Rattle.std.proofs.Common.{◌≡◌, sym, ◌∙◌, arith, to_z, of_z, w32, rules}
-use Rattle.qh_halves.proofs.HalvesStepped.{put_stepped, room_for, spans_stay}
+use Rattle.std.proofs.Common.{◌≡◌, inl, sym, ◌∙◌, arith, to_z, of_z, w32, rules}
+use Rattle.qh_halves.specs.SendHalves.{IsLost}
+use Rattle.qh_halves.proofs.HalvesStepped.{put_stepped, room_for, spans_stay, is_step}
 use Rattle.qh_halves.proofs.HalfSteps.{lost_goes, lost_holds, lost_spans}
 use Rattle.qh_halves.proofs.send_halves.SendHalves.retransmit.Goals as goal
 
@@ -25,3 +26,10 @@ returns-clause-spans c k frame span =
     rw (c.get_mut.follows.holds c.retransmit.new.self).0
     (spans_stay c.self.inside c.self.invariant c.args.id c.in-Some.half.now c.retransmit.new.self c.in-Some.ensures.value
     (lost_spans c.in-Some.half.now c.retransmit.new.self _ _ _ c.retransmit.ensures) k frame (rw (sym c.self.view_is) at span))
+
+pub returns-clause-queued : goal.returns-clause-queued
+returns-clause-queued c =
+    let undone = c.self.invariant.undone c.args.id c.in-Some.half.now (sym c.in-Some.ensures.value) in
+    rw (sym c.self.view_is)
+    (inl (is_step c.self.inside c.self.invariant c.args.id c.in-Some.half.now c.retransmit.new.self c.in-Some.ensures.value (IsLost c.args.frame.now) _ _ 0
+    (c.get_mut.follows.holds c.retransmit.new.self).0 (omega arith) c.retransmit.ensures (lost_goes c.in-Some.half.now c.retransmit.new.self _ _ _ c.retransmit.ensures undone).undone))

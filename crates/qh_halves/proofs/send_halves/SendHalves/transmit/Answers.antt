@@ -1,6 +1,8 @@
 use Rattle.std.proofs.Common.{refl, sym, arith}
+use Rattle.std.proofs.lemmas.Option.{IfSome_then}
 use Rattle.std.proofs.lemmas.Result.{IfOk-weaker, on_err_weaker}
-use Rattle.qh_halves.proofs.HalvesStepped.{kept_stepped, same_again, spans_stay}
+use Rattle.qh_halves.specs.SendHalves.{Gives}
+use Rattle.qh_halves.proofs.HalvesStepped.{kept_stepped, same_again, spans_stay, is_step}
 use Rattle.qh_halves.proofs.HalfTransmits.{Sends, sends}
 use Rattle.qh_halves.proofs.send_halves.SendHalves.transmit.Goals as goal
 
@@ -29,3 +31,9 @@ pub returns-clause-spans : goal.returns-clause-spans
 returns-clause-spans c k frame span =
     rw (c.get_mut.follows.holds c.hand_out.new.half).0
     (spans_stay c.self.inside c.self.invariant c.args.id c.in-Some.half.now c.hand_out.new.half c.in-Some.ensures.value (sent c).spans k frame (rw (sym c.self.view_is) at span))
+
+pub returns-clause-some : goal.returns-clause-some
+returns-clause-some c = IfOk-weaker c.hand_out.result _ _ (λ o given. IfSome_then o given (λ t gives.
+    rw (sym c.self.view_is)
+    (is_step c.self.inside c.self.invariant c.args.id c.in-Some.half.now c.hand_out.new.half c.in-Some.ensures.value (Gives c.args.max_len t) _ _ 0
+    (c.get_mut.follows.holds c.hand_out.new.half).0 (omega arith) gives (sent c).on.undone))) c.hand_out.ensures.some

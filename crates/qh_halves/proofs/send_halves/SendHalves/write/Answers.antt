@@ -1,6 +1,7 @@
-use Rattle.std.proofs.Common.{◌≡◌, ◌≤◌, length, refl, sym, ◌∙◌, arith, to_z, of_z, w32, rules}
+use Rattle.std.proofs.Common.{◌≡◌, ◌≤◌, length, take, refl, sym, ◌∙◌, arith, to_z, of_z, w32, rules}
 use Rattle.std.proofs.lemmas.Result.{err_from_is_err_and}
-use Rattle.qh_halves.proofs.HalvesStepped.{put_stepped, room_for, same_again}
+use Rattle.qh_halves.specs.SendHalves.{Takes}
+use Rattle.qh_halves.proofs.HalvesStepped.{put_stepped, room_for, same_again, is_step}
 use Rattle.qh_halves.proofs.HalfSteps.{write_goes, write_holds}
 use Rattle.qh_halves.proofs.send_halves.SendHalves.write.Goals as goal
 
@@ -31,3 +32,9 @@ invariant_of-self-2 c =
     (put_stepped c.self.inside c.self.invariant c.args.id c.in-Some.half.now c.write.new.self c.in-Some.ensures.value c.insert.new.self _ _ _
     c.insert.ensures.streams c.insert.ensures.room c.insert.ensures.in_order (is ∙ c.rank-priority.ensures)
     (write_goes c.in-Some.half.now c.write.new.self _ _ c.in_ok-bytes.ensures.open c.in_ok-bytes.ensures.ok.1) (omega (arith, more)) (omega (arith, count, limit, c.self.invariant.credit)))
+
+pub returns-clause-ok : goal.returns-clause-ok
+returns-clause-ok c =
+    rw (sym c.self.view_is)
+    (is_step c.self.inside c.self.invariant c.args.id c.in-Some.half.now c.write.new.self c.in-Some.ensures.value (Takes (take c.in_ok-bytes.bytes c.args.payload.now)) _ _ c.in_ok-bytes.bytes
+    (c.get_mut.follows.holds c.write.new.self).0 refl c.in_ok-bytes.ensures.ok.1 (write_goes c.in-Some.half.now c.write.new.self _ _ c.in_ok-bytes.ensures.open c.in_ok-bytes.ensures.ok.1).undone)

@@ -1,7 +1,8 @@
-use Rattle.std.proofs.Common.{◌≡◌, ◌≤◌, length, refl, sym, ◌∙◌, arith, to_z, of_z, w32, rules}
+use Rattle.std.proofs.Common.{◌≡◌, ◌≤◌, length, take, refl, sym, ◌∙◌, arith, to_z, of_z, w32, rules}
 use Rattle.std.specs.List.{concat}
 use Rattle.std.proofs.lemmas.Result.{err_from_is_err_and}
-use Rattle.qh_halves.proofs.HalvesStepped.{put_stepped, room_for, same_again}
+use Rattle.qh_halves.specs.SendHalves.{Takes}
+use Rattle.qh_halves.proofs.HalvesStepped.{put_stepped, room_for, same_again, is_step}
 use Rattle.qh_halves.proofs.HalfSteps.{write_goes, write_holds}
 use Rattle.qh_halves.proofs.send_halves.SendHalves.write_chunks.Goals as goal
 
@@ -32,3 +33,10 @@ invariant_of-self-2 c =
     (put_stepped c.self.inside c.self.invariant c.args.id c.in-Some.half.now c.write_chunks.new.self c.in-Some.ensures.value c.insert.new.self _ _ _
     c.insert.ensures.streams c.insert.ensures.room c.insert.ensures.in_order (is ∙ c.rank-priority.ensures)
     (write_goes c.in-Some.half.now c.write_chunks.new.self _ _ c.in_ok-written.ensures.open c.in_ok-written.ensures.taken) (omega (arith, more)) (omega (arith, count, limit, c.self.invariant.credit)))
+
+pub returns-clause-ok : goal.returns-clause-ok
+returns-clause-ok c =
+    let taken = c.in_ok-written.ensures.taken in
+    rw (sym c.self.view_is)
+    (is_step c.self.inside c.self.invariant c.args.id c.in-Some.half.now c.write_chunks.new.self c.in-Some.ensures.value (Takes (take c.in_ok-written.written.bytes (concat c.args.chunks.now))) _ _ c.in_ok-written.written.bytes
+    (c.get_mut.follows.holds c.write_chunks.new.self).0 refl taken (write_goes c.in-Some.half.now c.write_chunks.new.self _ _ c.in_ok-written.ensures.open taken).undone)

@@ -1,6 +1,6 @@
 use Rattle.std.proofs.Common.{◌≡◌, ◌+◌, ◌-◌, ◌<◌, ◌^◌, arith, refl}
 use Rattle.qh_recovery.specs.declared.sent_packets.SentPacket.{SentPacket}
-use Rattle.qh_space.proofs.PacketMade.{next_kept, space_made, packet_made, space_kept, none_made, none_left}
+use Rattle.qh_space.proofs.PacketMade.{next_kept, space_made, packet_made, space_kept, none_made}
 use Rattle.qh_space.proofs.data_space.DataSpace.write_packet.Goals as goal
 use Rattle.qh_streams.specs.declared.frames.SentFrame.{SentFrame}
 
@@ -11,14 +11,6 @@ returns-then-len-start-clause-none c = λ _.
     let ack = c.in_ok-put_ack.ensures in
     none_made _ c.args.self.now c.put_eliciting.new.self c.put_ack.new.out.items c.put_eliciting.new.out.items packet put.put put.none
     c.args.out.now.items ack.put ack.some put.fits.0 (omega (arith, c.if-len-start.true, c.len.ensures, c.len-start.ensures)) put.idle
-
-pub returns-then-len-start-clause-left : goal.returns-then-len-start-clause-left
-returns-then-len-start-clause-left c = λ _.
-    let packet : SentPacket SentFrame = record { time_sent = c.args.now; size = 0; frames = c.in_ok-frames.frames } in
-    let put = c.in_ok-frames.ensures in
-    let ack = c.in_ok-put_ack.ensures in
-    none_left _ c.args.self.now c.put_eliciting.new.self c.put_ack.new.out.items c.put_eliciting.new.out.items packet put.put put.none
-    c.args.out.now.items ack.put ack.some put.fits.0 (omega (arith, c.if-len-start.true, c.len.ensures, c.len-start.ensures))
 
 pub returns-then-len-start-clause-space : goal.returns-then-len-start-clause-space
 returns-then-len-start-clause-space c =
@@ -40,7 +32,8 @@ returns-clause-some c =
       omega (arith, number, below),
       packet_made _ c.args.self.now c.put_eliciting.new.self c.put_ack.new.out.items c.put_eliciting.new.out.items packet put.put put.none c.count_sent.new.self below
           _ _ (omega (arith, c.len-acked.ensures)) (omega (arith, c.len-3.ensures)) sent.ok sent.packets
-          c.args.now.0 c.args.overhead c.args.room c.args.out.now.items ack.put (omega (arith, c.len-acked.ensures, c.len-start.ensures)) refl (omega (arith, c.len-2.ensures, c.len-start.ensures)) (omega (arith, c.if-len-start.false, ack.fits, put.fits)) (omega (arith, ack.fits, put.fits)),
+          c.args.now.0 c.args.overhead c.args.room c.args.out.now.items ack.put (omega (arith, c.len-acked.ensures, c.len-start.ensures)) refl (omega (arith, c.len-2.ensures, c.len-start.ensures)) (omega (arith, c.if-len-start.false, ack.fits, put.fits)) (omega (arith, ack.fits, put.fits))
+          (λ wide may. put.shared (omega (arith, wide, ack.fits, c.len-acked.ensures, c.len-start.ensures)) may),
     )
 
 pub returns-clause-space : goal.returns-clause-space

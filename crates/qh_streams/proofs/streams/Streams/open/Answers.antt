@@ -8,7 +8,7 @@ use Rattle.qh_halves.specs.declared.counts.StreamCounts.{StreamCounts}
 use Rattle.qh_halves.specs.RecvHalves.{recv_at}
 use Rattle.qh_streams.specs.Streams.{PlainStreams, AreOpened, is_two_way, counts_of, with_opened, with_counts, was_opened}
 use Rattle.qh_streams.proofs.StreamsKept.{halves_kept, send_same, recv_same, both_set, both_are}
-use Rattle.qh_streams.proofs.StreamsOpened.{own_id, bi_id, index_id, are_opened, kept_after, out_after, opened_is, no_recv_half, set_here}
+use Rattle.qh_streams.proofs.StreamsOpened.{own_id, bi_id, index_id, are_opened, kept_after, out_after, opened_is, no_send_half, no_recv_half, set_here}
 use Rattle.qh_streams.proofs.streams.Streams.open.Goals as goal
 
 pub invariant_of-self-in_err-insert_halves : goal.invariant_of-self-in_err-insert_halves
@@ -60,7 +60,7 @@ at_id c P here k same = subst P (sym (eqb-true k c.new-id.result.0 same)) here
 opened : (c : goal.After-uni-2-1) → AreOpened (before c) (after c) (λ k. k == c.new-id.result.0)
 opened c =
     let e = c.in_ok-insert_halves.ensures in
-    are_opened (before c) (after c) c.new-id.result.0 c.first_limit-limit.result (own_is c) (rw (← c.self.view_is) at c.first_limit-limit.ensures) (no_recv_half c.self.invariant c.new-id.result.0 (not_before c))
+    are_opened (before c) (after c) c.new-id.result.0 c.first_limit-limit.result (own_is c) (rw (← c.self.view_is) at c.first_limit-limit.ensures) (no_send_half c.self.invariant c.new-id.result.0 (not_before c)) (no_recv_half c.self.invariant c.new-id.result.0 (not_before c))
     (is_two_way c.args.dir) (bi_is c) e.send e.bi e.uni
 
 now_opened : (c : goal.After-uni-2-1) → was_opened (after c) c.new-id.result.0 ≡ true

@@ -1,30 +1,9 @@
-use Rattle.std.proofs.Common.{arith, inl}
-use Rattle.qh_streams.proofs.StreamsWritten.{none_so_far, one_more, room_falls, so_far_grown, kept_all_out}
+use Rattle.std.proofs.Common.{arith}
+use Rattle.qh_streams.proofs.PhasesWritten.{out_again, when_err}
 use Rattle.qh_streams.proofs.streams.Streams.write_frames.Goals as goal
 
-pub loop-self-init : goal.loop-self-init
-loop-self-init c = none_so_far c.args.room c.args.self.now c.args.out.now.items c.args.sent.now.items
-
-pub loop-self-smaller : goal.loop-self-smaller
-loop-self-smaller c =
-    let one = c.in-Ok-true.ensures.written c.in-Ok-true.field-0-test in
-    let grown = so_far_grown c.loop-self.invariant in
-    room_falls c.args.room _ c.loop-self.self c.write_frame.new.self c.args.out.now.items c.loop-self.out.items c.write_frame.new.out.items c.loop-self.sent.items c.write_frame.new.sent.items
-    (omega arith) grown.0 one
-
-pub loop-self-preserved : goal.loop-self-preserved
-loop-self-preserved c =
-    let one = c.in-Ok-true.ensures.written c.in-Ok-true.field-0-test in
-    one_more c.args.room _ c.args.self.now c.loop-self.self c.write_frame.new.self c.args.out.now.items c.loop-self.out.items c.write_frame.new.out.items c.args.sent.now.items c.loop-self.sent.items c.write_frame.new.sent.items
-    c.loop-self.invariant (omega arith) one c.in-Ok-true.ensures.keeps_out
-
-pub returns-in-Ok-false-clause-full : goal.returns-in-Ok-false-clause-full
-returns-in-Ok-false-clause-full c =
-    let idle = c.in-Ok-false.ensures.idle c.in-Ok-false.field-0-test in
-    inl (rw idle.1 idle.0)
-
-pub returns-in-Err-clause-out : goal.returns-in-Err-clause-out
-returns-in-Err-clause-out c = λ out. rw (c.in-Err.ensures.err.1) (kept_all_out c.loop-self.self c.write_frame.new.self c.in-Err.ensures.keeps_out c.loop-self.sent.items (c.loop-self.invariant.is_out out))
-
-pub returns-in-Err-2-clause-out : goal.returns-in-Err-2-clause-out
-returns-in-Err-2-clause-out c = λ out. rw (c.in-Err.ensures.err.1) (kept_all_out c.loop-self.self c.write_frame.new.self c.in-Err.ensures.keeps_out c.loop-self.sent.items (c.loop-self.invariant.is_out out))
+pub returns-then-is_err-clause-out : goal.returns-then-is_err-clause-out
+returns-then-is_err-clause-out c =
+    let cut = when_err c.write_phases-written.result c.if-is_err.ensures.value c.write_phases-written.ensures.cut in
+    out_again c.args.self.now c.write_phases-written.new.self c.take_back.new.self c.args.sent.now.items c.write_phases-written.new.sent.items c.take_back.new.sent.items cut.frames _ cut.sent_is
+    (omega arith) c.take_back.ensures.rest c.write_phases-written.ensures.keeps_out c.take_back.ensures.keeps_out
