@@ -1,6 +1,6 @@
 //! The packet numbers that came, and those that wait to be acknowledged.
 use crate::{put_count, put_some, put_yes};
-use qh_recovery::{Dedup, PendingAcks};
+use qh_recovery::{Dedup, PendingAcks, insert_received};
 use row_text::{RowFault, Words, put_bytes, put_number, put_text};
 use std::alloc::Global;
 
@@ -64,7 +64,7 @@ impl Numbers {
         if number >= END {
             return Err(RowFault::Form);
         }
-        self.dedup.insert(number)?;
+        insert_received(&mut self.dedup, &mut self.acks, number, false)?;
         Ok(())
     }
 
@@ -122,7 +122,7 @@ impl Numbers {
         if number >= END {
             return Err(RowFault::Form);
         }
-        self.acks.insert_one(number, is_ack_eliciting)?;
+        insert_received(&mut self.dedup, &mut self.acks, number, is_ack_eliciting)?;
         Ok(())
     }
 

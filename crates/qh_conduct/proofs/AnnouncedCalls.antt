@@ -23,7 +23,7 @@ use Rattle.qh_conn.specs.Follows.{event_acts}
 use Rattle.qh_conn.specs.Inner.{is_open, with_space, with_streams}
 use Rattle.qh_conn.specs.Receiving.{GoesOnWith, IsClosedWith, IsDatagramTaken, IsEventTaken, IsOpenedBy, IsPacketHandled, IsPacketTaken, received}
 use Rattle.qh_conn.specs.Receiving.IsDatagramTaken.{dropped, handled, told_again, closed_too, draining, drained}
-use Rattle.qh_conn.specs.Receiving.IsPacketHandled.{repeated, empty, faulty, taken}
+use Rattle.qh_conn.specs.Receiving.IsPacketHandled.{repeated, empty, faulty, unnoted, taken}
 use Rattle.qh_conn.specs.Sending.{NothingIsSent}
 use Rattle.qh_conn.specs.Timers.{IsTimedOut, restarted}
 use Rattle.qh_conn.specs.Timers.IsTimedOut.{idle, recovery, closed, draining as draining_over, waits, drained as drained_still}
@@ -237,6 +237,7 @@ module _ {S : Type 0} where
     handled_stands now number bytes d old new t up opened (repeated is e) p = unmoved old new t d (same_step old new e) p
     handled_stands now number bytes d old new t up opened (empty fault is no_byte says f) p = unmoved old new t d (closes_step now f.reason _ old new up f.closed) p
     handled_stands now number bytes d old new t up opened (faulty fault kind is at says f) p = unmoved old new t d (closes_step now f.reason _ old new up f.closed) p
+    handled_stands now number bytes d old new t up opened (unnoted fault eliciting is read at f) p = unmoved old new t d (closes_step now f.reason _ old new up f.closed) p
     handled_stands now number bytes d old new t up opened (taken is a) (inl over) = absurd (drained_open old.state over.1 up)
     handled_stands now number bytes d old new t up opened (taken is a) (inr p) = inr (packet_stands now number bytes d old new t up opened a p)
 

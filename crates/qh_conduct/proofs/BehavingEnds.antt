@@ -1,7 +1,9 @@
 -- An end goes on as it behaved, over events, datagrams and timers.
-use Rattle.std.proofs.Common.{◌≡◌, ◌⊎◌, ℕ, ◌≤◌, ◌^◌, Bool, true, false, List, [], ◌++◌, Option, Some, refl, sym, ap, subst, arith}
+use Rattle.std.proofs.Common.{◌≡◌, ◌⊎◌, ℕ, ◌≤◌, ◌^◌, Bool, true, false, List, [], ◌++◌, Option, Some, refl, sym, ap, subst, inl, inr, arith}
 use Rattle.std.specs.Prelude.{Ok}
+use Rattle.std.proofs.lemmas.Bool.{both_ways, cases_Bool}
 use Rattle.std.proofs.lemmas.List.{append-nil}
+use Rattle.qh_base.specs.declared.connection_error.ConnectionError.TheVariants.{LocallyClosed}
 use Rattle.qh_base.specs.declared.path.Transmit.{Transmit}
 use Rattle.qh_base.specs.declared.time.Moment.{Moment}
 use Rattle.qh_conduct.proofs.AnnouncedCalls as announced
@@ -19,7 +21,7 @@ use Rattle.qh_conn.specs.Config.{peer_of}
 use Rattle.qh_conn.specs.Event.{IsDrainedTold, IsPolledEvent}
 use Rattle.qh_conn.specs.Follows.{Follows, event_acts, transmit_acts}
 use Rattle.qh_conn.specs.Inner.{IsFailedBy, IsNewSpace, IsSameEnd, is_open}
-use Rattle.qh_conn.specs.Receiving.{IsEventTaken, received}
+use Rattle.qh_conn.specs.Receiving.{IsClosedWith, IsEventTaken, received}
 use Rattle.qh_conn.specs.Sending.{ClosesReadBack, IsDatagramMade, NothingIsSent}
 use Rattle.qh_conn.specs.Timers.{IsTimedOut}
 use Rattle.qh_conn.specs.declared.event.ConnectionEvent.{ConnectionEvent}
@@ -27,6 +29,7 @@ use Rattle.qh_conn.specs.declared.event.ConnectionEvent.TheVariants.{Close, Data
 use Rattle.qh_conn.specs.declared.event.EndpointEvent.{EndpointEvent}
 use Rattle.qh_conn.specs.declared.event.Event.{Event}
 use Rattle.qh_conn.specs.declared.inner.Inner.{Inner}
+use Rattle.qh_conn.specs.declared.state.Close.TheVariants.{Application}
 use Rattle.qh_space.specs.Space.{first_streams}
 use Rattle.qh_spec.specs.Transcript.{Act, handed_out}
 use Rattle.qh_spec.specs.declared.sides.Side.{Side}
@@ -101,6 +104,20 @@ module _ {S : Type 0} where
     sized = sized.event_sized accepts event old new t came b.sized;
     filled = quiet_filled old new t (event_acts event) same (event_out event) b.filled;
   }
+
+  close_taken : (accepts : Side → Space → ℕ → List ℕ → Bool) (now : Moment) (code : ℕ) (reason : List ℕ) (old new : Inner S)
+      → (is_open old.state ≡ true → IsClosedWith now (Application (record { error_code = code; reason = reason })) LocallyClosed old new) → (is_open old.state ≡ false → new ≡ old)
+      → IsEventTaken accepts (Close now code reason) old new
+  close_taken accepts now code reason old new closed kept = elim (cases_Bool (is_open old.state)) [ inl up ↦ rw up (closed up) | inr down ↦ rw down (kept down) ]
+
+  -- the application closes, which is an event of any session
+  pub closed_behaves : (now : Moment) (code : ℕ) (reason : List ℕ) (old new : Inner S) (t : List Act)
+      → (is_open old.state ≡ true → IsClosedWith now (Application (record { error_code = code; reason = reason })) LocallyClosed old new) → (is_open old.state ≡ false → new ≡ old)
+      → IsSameEnd old new → Follows new t → Behaves old t → Behaves new t
+  closed_behaves now code reason old new t closed kept same follows b =
+      subst (λ (u : List Act). Behaves new u) (append-nil t)
+      (event_behaves (λ from space number tag. false) (Close now code reason) old new t (λ from space number tag fits takes. absurd (both_ways false refl takes))
+      (close_taken (λ from space number tag. false) now code reason old new closed kept) same (subst (λ (u : List Act). Follows new u) (sym (append-nil t)) follows) b)
 
   pub failed_event : (event : ConnectionEvent) (old new : Inner S) (t : List Act) → IsFailedBy (received event old) new → Follows new (t ++ event_acts event) → Behaves old t → Behaves new (t ++ event_acts event)
   failed_event event old new t failed follows b = record {

@@ -6,6 +6,7 @@ use Rattle.qh_conduct.specs.Announced.{IsKeptFrame}
 use Rattle.qh_conduct.specs.Announced.IsKeptFrame.{ping, response, ack, stream, reset, stop, max_data, max_stream_data, max_streams, close}
 use Rattle.qh_conn.specs.Config.{peer_of}
 use Rattle.qh_conn.specs.Follows.{Follows, HasSomething, IsWithinLimits}
+use Rattle.qh_conn.specs.Follows.Reaches.{run as by_run}
 use Rattle.qh_conn.specs.Inner.{AreOf}
 use Rattle.qh_conn.specs.Sending.{close_frame}
 use Rattle.qh_conn.specs.declared.config.ConnConfig.{ConnConfig}
@@ -150,7 +151,7 @@ where_out (ReadReset s code ∷ t) d among = front_act (ReadReset s code) t d (w
 run_fits : (own peer : ℕ) (side : Side) (config : ConnConfig) (before : List Act) (d : List ℕ) (run : Run) → IsWithinLimits own peer side config before d → HasRun peer (d ∷ []) side run → HasSomething run
     → run.offset + length run.payload < 2 ^ 62
 run_fits own peer side config before d run w has some =
-    let bound = w.stream_bytes run has some in
+    let bound = w.stream_bytes run.id (run.offset + length run.payload) (by_run run has some) in
     let small = greatest_small run.id (first_limit w.streams run.id) w.given (first_small side config w.streams run.id w.of) (λ f is.
     let came = w.came f is in
     given_small came.frame f run.id came.is (packet_small own came.has.packet came.has.datagram came.has.has (plain_of came.frame) came.has.frame_among)) in

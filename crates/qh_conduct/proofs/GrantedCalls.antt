@@ -21,7 +21,7 @@ use Rattle.qh_conn.specs.Event.IsPolledEvent.{stream, lost, none as nothing}
 use Rattle.qh_conn.specs.Inner.{IsFailedBy, IsNewSpace, is_open, with_streams}
 use Rattle.qh_conn.specs.Receiving.{GoesOnWith, IsClosedWith, IsDatagramTaken, IsEventTaken, IsPacketHandled, IsPacketTaken, received}
 use Rattle.qh_conn.specs.Receiving.IsDatagramTaken.{dropped, handled, told_again, closed_too, draining, drained}
-use Rattle.qh_conn.specs.Receiving.IsPacketHandled.{repeated, empty, faulty, taken}
+use Rattle.qh_conn.specs.Receiving.IsPacketHandled.{repeated, empty, faulty, unnoted, taken}
 use Rattle.qh_conn.specs.Sending.{AreFramesMade, IsDatagramMade, NothingIsSent}
 use Rattle.qh_conn.specs.Sending.AreFramesMade.{packet as packet_made, close as close_made}
 use Rattle.qh_conn.specs.Timers.{IsTimedOut, restarted}
@@ -173,6 +173,7 @@ module _ {S : Type 0} where
   handled_on now number bytes old new up (repeated is e) p = same_on old new e p
   handled_on now number bytes old new up (empty fault is no_byte says f) p = closes_on now f.reason _ old new up f.closed p
   handled_on now number bytes old new up (faulty fault kind is at says f) p = closes_on now f.reason _ old new up f.closed p
+  handled_on now number bytes old new up (unnoted fault eliciting is read at f) p = closes_on now f.reason _ old new up f.closed p
   handled_on now number bytes old new up (taken is a) p = goes_on old new (packet_step now number bytes old new up a) p
 
   -- the connection was closed, and goes on so

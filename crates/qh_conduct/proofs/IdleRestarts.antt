@@ -1,27 +1,25 @@
 -- What an end hands out has the tag of its session; and such a datagram that counts restarts the idle time of the end that it is for.
-use Rattle.std.proofs.Common.{◌≡◌, ℕ, ◌-◌, ◌<◌, ◌≤◌, ◌^◌, max, Bool, true, false, List, [], ◌∷◌, ◌++◌, length, Some, refl, sym, ap, subst, ◌∙◌, inl, inr, arith, append_assoc}
+use Rattle.std.proofs.Common.{◌≡◌, ℕ, ◌-◌, ◌<◌, ◌≤◌, ◌^◌, Bool, true, false, List, [], ◌∷◌, ◌++◌, length, Some, refl, sym, ap, subst, ◌∙◌, inl, inr, arith, append_assoc}
 use Rattle.std.specs.Prelude.{Ok, drop}
 use Rattle.std.proofs.Math.Seq.{drop-append_seam}
-use Rattle.std.proofs.lemmas.Bool.{both_ways, cases_lt, or_cases, or_left, or_right}
+use Rattle.std.proofs.lemmas.Bool.{both_ways, cases_lt}
 use Rattle.std.proofs.lemmas.List.{append-nil}
 use Rattle.std.specs.declared.net.socket_addr.SocketAddr.{SocketAddr}
 use Rattle.qh_base.specs.declared.connection_error.ConnectionError.TheVariants.{Memory}
 use Rattle.qh_base.specs.declared.path.Transmit.{Transmit}
 use Rattle.qh_base.specs.declared.time.Moment.{Moment}
 use Rattle.qh_base.specs.declared.transport_error.TransportError.{TransportError}
-use Rattle.qh_buffers.proofs.RangeCounts.{in_end, in_start}
-use Rattle.qh_buffers.proofs.RangeLaws.{inside}
-use Rattle.qh_buffers.specs.Ranges.{PlainRange, has, is_in}
 use Rattle.qh_conduct.proofs.PacketsKept.{only_packet}
 use Rattle.qh_conduct.specs.Announced.{MakesTags}
 use Rattle.qh_conduct.specs.Peers.{ArePeers}
 use Rattle.qh_conduct.specs.Restarting.{AcceptsWhatIsMade, AreSealed, IsCounting, IsSealed}
 use Rattle.qh_conn.proofs.Ends.{goes_on_open}
+use Rattle.qh_conn.proofs.ExpectedNumbers.{expected_of}
 use Rattle.qh_conn.specs.Follows.{Follows, transmit_acts}
 use Rattle.qh_conn.specs.Inner.{IsSameEnd, is_open}
 use Rattle.qh_conn.specs.Receiving.{IsDatagramTaken, IsEventTaken, IsExpectedOf, IsFaulted, IsOpenedBy, IsPacketHandled, received}
 use Rattle.qh_conn.specs.Receiving.IsDatagramTaken.{dropped, handled as handled_one, told_again, closed_too, draining, drained}
-use Rattle.qh_conn.specs.Receiving.IsPacketHandled.{repeated, empty, faulty, taken as taken_one}
+use Rattle.qh_conn.specs.Receiving.IsPacketHandled.{repeated, empty, faulty, unnoted, taken as taken_one}
 use Rattle.qh_conn.specs.Sending.{IsDatagramMade, datagram_of}
 use Rattle.qh_conn.specs.Timers.{restarted}
 use Rattle.qh_conn.specs.declared.event.ConnectionEvent.TheVariants.{Datagram}
@@ -30,8 +28,7 @@ use Rattle.qh_conn.specs.declared.state.State.{State}
 use Rattle.qh_packet.proofs.Packets.{only_content, parts_of}
 use Rattle.qh_packet.specs.Packet.{IsOpened, low_bytes, short_of}
 use Rattle.qh_recovery.proofs.PacketNumbers.{expanded, found}
-use Rattle.qh_recovery.proofs.Window.{next_is}
-use Rattle.qh_recovery.specs.Accepted.{IsNew, IsNextIn, Remembers}
+use Rattle.qh_recovery.specs.Accepted.{IsNew, Remembers}
 use Rattle.qh_recovery.specs.PacketNumber.{IsCandidate, IsExpanded}
 use Rattle.qh_space.specs.declared.data_space.DataSpace.{DataSpace}
 use Rattle.qh_spec.proofs.Members.{in_more}
@@ -47,31 +44,6 @@ use Rattle.qh_spec.specs.declared.sides.Space.{Space}
 use Rattle.qh_spec.specs.declared.sides.Space.TheVariants.{Data}
 
 -- ---- the number that is expected
-
-one_range : (r : PlainRange) (rs : List PlainRange) (n : ℕ) → IsNextIn rs n → (next : ℕ) × IsNextIn (r ∷ rs) next
-one_range r rs n is = elim (cases_lt (max n r.start) r.end) [
-  | inl less ↦ (
-    r.end,
-    record {
-      is_above = λ k h. elim (or_cases (is_in r k) (has rs k) h) [ inl here ↦ in_end r k here | inr later ↦ omega (arith, less, is.is_above k later) ];
-      is_least = λ some. or_left (is_in r (r.end - 1)) (has rs (r.end - 1)) (inside r (r.end - 1) (omega arith) (omega arith));
-    },
-  )
-  | inr more ↦ (
-    n,
-    record {
-      is_above = λ k h. elim (or_cases (is_in r k) (has rs k) h) [ inl here ↦ omega (arith, more, in_start r k here, in_end r k here) | inr later ↦ is.is_above k later ];
-      is_least = λ some. or_right (is_in r (n - 1)) (has rs (n - 1)) (is.is_least some);
-    },
-  )
-]
-
-next_in : (kept : List PlainRange) → (next : ℕ) × IsNextIn kept next
-next_in [] = (0, record { is_above = λ k h. absurd (both_ways false refl h); is_least = λ some. absurd (omega arith) })
-next_in (r ∷ rs) = let rest = next_in rs in one_range r rs rest.0 rest.1
-
-expected_of : (s : DataSpace) → (expected : ℕ) × IsExpectedOf s expected
-expected_of s = let next = next_in s.dedup in (next.0, λ accepted memory. next_is accepted s.dedup memory next.0 next.1)
 
 -- it is no greater than a number above all that were accepted
 no_greater : (s : DataSpace) (accepted : List ℕ) (n e : ℕ) → Remembers accepted s.dedup → ((m : ℕ) → In m accepted → m < n) → IsExpectedOf s e → e ≤ n
@@ -172,6 +144,7 @@ module _ {S : Type 0} (accepts : Side → Space → ℕ → List ℕ → Bool) (
     handled now number frames new same up (repeated old _) = absurd (old a.accepted a.remembers (subst (λ (m : ℕ). IsNew a.accepted m) (sym same) is_new))
     handled now number frames new same up (empty fault _ _ _ f) = absurd (not_faulted now fault new f up)
     handled now number frames new same up (faulty fault kind _ _ _ f) = absurd (not_faulted now fault new f up)
+    handled now number frames new same up (unnoted fault _ _ _ _ f) = absurd (not_faulted now fault new f up)
     handled now number frames new same up (taken_one _ t) =
         ap (λ (x : Inner S). x.idle.since) (goes_on_open now t.end (record c { space = t.space; idle = restarted now c.idle }) new t.goes_on up).1
 

@@ -31,7 +31,7 @@ use Rattle.qh_conn.specs.Inner.{is_open}
 use Rattle.qh_conn.specs.Receiving.{AreFramesTaken, GoesOnWith, IsDatagramTaken, IsEventTaken, IsFaulted, IsOpenedBy, IsPacketHandled, is_close, received}
 use Rattle.qh_conn.specs.Receiving.AreFramesTaken.{none as none_taken, more as more_taken, closed as closed_taken, refused as refused_taken}
 use Rattle.qh_conn.specs.Receiving.IsDatagramTaken.{dropped, handled, told_again, closed_too, draining as in_draining, drained as in_drained}
-use Rattle.qh_conn.specs.Receiving.IsPacketHandled.{repeated, empty, faulty, taken as in_taken}
+use Rattle.qh_conn.specs.Receiving.IsPacketHandled.{repeated, empty, faulty, unnoted, taken as in_taken}
 use Rattle.qh_conn.specs.declared.config.ConnConfig.{ConnConfig}
 use Rattle.qh_conn.specs.declared.event.ConnectionEvent.TheVariants.{Datagram}
 use Rattle.qh_conn.specs.declared.inner.Inner.{Inner}
@@ -294,6 +294,19 @@ module _ {S : Type 0} where
         let fits = frame_fits p tp b f filled right up d there (all_small c p tc tp peers a f linked.from) in
         let end = nothing_left bytes at.rest k.frames at.behind (frames_opened old number bytes first o) fits at.none in
         absurd (at.some end)
+    packet_open now old number bytes first up_old o (unnoted e eliciting new_to read at faulted) =
+        let k = kept_datagram p tp b f filled right up d there in
+        let are = frames_opened old number bytes first o in
+        let is = faulted.closed.rest_is in
+        let same : SameEnds old new = record {
+          side = ap (λ (c : Inner S). c.side) is;
+          local_id = ap (λ (c : Inner S). c.local_id) is;
+          remote_id = ap (λ (c : Inner S). c.remote_id) is;
+          config = ap (λ (c : Inner S). c.config) is;
+        } in
+        let refused : HasRefused (length old.local_id) (other old.side) d old.space e =
+        frame_refused old.side (length old.local_id) d now.0 bytes old.space old.space [] (Some (error.TransportError e)) k.frames e at refl are (content_frame old d number k.frames (has_content accepts old d number bytes k.frames named o are)) in
+        absurd (none_refused old e first same (ap (λ (c : Inner S). c.error) is) (rw (ap (λ (c : Inner S). c.space) is) refused))
     packet_open now old number bytes first is o (in_taken new_to t) =
         let k = kept_datagram p tp b f filled right up d there in
         let are = frames_opened old number bytes first o in

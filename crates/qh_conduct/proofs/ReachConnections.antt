@@ -20,7 +20,7 @@ use Rattle.qh_conn.specs.Follows.{HasComing, HasFrame, event_acts}
 use Rattle.qh_conn.specs.Inner.{IsFailedBy, is_open, with_streams}
 use Rattle.qh_conn.specs.Receiving.{GoesOnWith, HasContent, IsClosedWith, IsDatagramTaken, IsEventTaken, IsFaulted, IsOpenedBy, IsPacketHandled, IsPacketTaken, received}
 use Rattle.qh_conn.specs.Receiving.IsDatagramTaken.{dropped, handled, told_again, closed_too, draining as in_draining, drained as in_drained}
-use Rattle.qh_conn.specs.Receiving.IsPacketHandled.{repeated, empty, faulty, taken as in_taken}
+use Rattle.qh_conn.specs.Receiving.IsPacketHandled.{repeated, empty, faulty, unnoted, taken as in_taken}
 use Rattle.qh_conn.specs.Sending.{AreFramesMade, IsDatagramMade, NothingIsSent}
 use Rattle.qh_conn.specs.Sending.AreFramesMade.{packet as packet_made, close as close_made}
 use Rattle.qh_conn.specs.Streams.{IsRead, IsReadFault, IsWriteRefused}
@@ -219,6 +219,7 @@ module _ {S : Type 0} where
     packet_handled number bytes old new t opened by (repeated is e) p = same_knows old new _ e p
     packet_handled number bytes old new t opened by (empty fault is none says f) p = faulted now fault old new _ opened f p
     packet_handled number bytes old new t opened by (faulty fault kind is at says f) p = faulted now fault old new _ opened f p
+    packet_handled number bytes old new t opened by (unnoted fault eliciting is read at f) p = faulted now fault old new _ opened f p
     packet_handled number bytes old new t opened by (in_taken is a) (inl p) =
         let has = has_content accepts old datagram number bytes a.surveyed.frames named by a.surveyed.are in
         inl (packet_taken now number bytes old new (t ++ HandedIn datagram ∷ []) a (content_frame old t datagram number a.surveyed.frames has) p)

@@ -1,5 +1,6 @@
 -- Why a connection is faulted: the frame of the datagram that its space refuses.
 use Rattle.std.proofs.Common.{◌≡◌, ℕ, Bool, List, [], ◌∷◌, length, Option, Some, None, refl, sym, ap, subst, ◌∙◌, inl, inr}
+use Rattle.std.specs.Option.{option_map}
 use Rattle.qh_base.specs.declared.connection_error.ConnectionError.{ConnectionError}
 use Rattle.qh_base.specs.declared.connection_error.ConnectionError.TheVariants as error
 use Rattle.qh_base.specs.declared.time.Moment.{Moment}
@@ -10,18 +11,20 @@ use Rattle.qh_conduct.specs.Fitting.{HasRefused, IsFaultOf, empty as fault_empty
 use Rattle.qh_conduct.specs.Reached.{AreNamed}
 use Rattle.qh_conn.proofs.Ends.{goes_on_space}
 use Rattle.qh_conn.specs.Follows.{HasFrame}
-use Rattle.qh_conn.specs.Receiving.{AreFramesTaken, GoesOnWith, HasContent, IsDatagramTaken, IsOpenedBy, IsPacketHandled}
+use Rattle.qh_conn.specs.Receiving.{AreFramesTaken, GoesOnWith, HasContent, IsDatagramTaken, IsFault as HasCode, IsFaulted, IsOpenedBy, IsPacketHandled}
 use Rattle.qh_conn.specs.Receiving.AreFramesTaken.{none as none_taken, more as more_taken, closed as closed_taken, refused as refused_taken}
 use Rattle.qh_conn.specs.Receiving.IsDatagramTaken.{dropped, handled, told_again, closed_too, draining as in_draining, drained as in_drained}
-use Rattle.qh_conn.specs.Receiving.IsPacketHandled.{repeated, empty, faulty, taken as in_taken}
+use Rattle.qh_conn.specs.Receiving.IsPacketHandled.{repeated, empty, faulty, unnoted, taken as in_taken}
 use Rattle.qh_conn.specs.declared.inner.Inner.{Inner}
 use Rattle.qh_frame.proofs.Named.{type_named}
 use Rattle.qh_frame.specs.Plain.{plain_of}
+use Rattle.qh_frame.specs.TypeOf.{named as frame_named}
 use Rattle.qh_frame.specs.declared.frame.Frame.{Frame}
 use Rattle.qh_frame.specs.declared.frame.Frame.TheVariants as kind
 use Rattle.qh_space.specs.Receiving.{IsClosedBy, IsFrameTaken, frame_refusal}
 use Rattle.qh_space.specs.Receiving.IsFrameTaken.{passive, streams, ack, challenge, close}
 use Rattle.qh_space.specs.declared.data_space.DataSpace.{DataSpace}
+use Rattle.qh_spec.specs.Codes as codes
 use Rattle.qh_spec.specs.Link.{other}
 use Rattle.qh_spec.specs.Lists.{In}
 use Rattle.qh_spec.specs.QuicFrames.{QuicFrame, AreQuicFrames}
@@ -115,12 +118,23 @@ module _ {S : Type 0} where
   error_of now (Some error.CidsExhausted) old new e d none h = sym (ap (λ (c : Inner S). c.error) d.rest_is) ∙ h
   error_of now (Some error.Memory) old new e d none h = sym (ap (λ (c : Inner S). c.error) d.rest_is) ∙ h
 
+  -- the error that a fault leaves is that fault
+  told_fault : (now : Moment) (fault : TransportError) (old new : Inner S) (e : TransportError) → IsFaulted now fault old new → IsFault new.error e → fault ≡ e
+  told_fault now fault old new e f h = same_fault fault e (sym (ap (λ (c : Inner S). c.error) f.closed.rest_is) ∙ h)
+
   module _ (accepts : Side → Space → ℕ → List ℕ → Bool) (now : Moment) (datagram : List ℕ) (named : AreNamed accepts) where
     packet_fault : (number : ℕ) (bytes : List ℕ) (old new : Inner S) (e : TransportError) → IsOpenedBy accepts old datagram number bytes → IsPacketHandled now number bytes old new → old.error ≡ None → IsFault new.error e
         → IsFaultOf accepts old new datagram e
     packet_fault number bytes old new e by (repeated is same) none h = no_error old.error e none (ap (λ (c : Inner S). c.error) (sym same) ∙ h)
-    packet_fault number bytes old new e by (empty fault is no_byte says f) none h = fault_empty number (subst (λ (b : List ℕ). IsOpenedBy accepts old datagram number b) no_byte by)
-    packet_fault number bytes old new e by (faulty fault kind is at says f) none h = fault_faulty number bytes kind by at
+    packet_fault number bytes old new e by (empty fault is no_byte says f) none h =
+        fault_empty number (subst (λ (b : List ℕ). IsOpenedBy accepts old datagram number b) no_byte by) (subst (λ (x : TransportError). HasCode codes.protocol_violation None x) (told_fault now fault old new e f h) says)
+    packet_fault number bytes old new e by (faulty fault kind is at says f) none h =
+        fault_faulty number bytes kind by at (subst (λ (x : TransportError). HasCode codes.frame_encoding_error (option_map frame_named kind) x) (told_fault now fault old new e f h) says)
+    packet_fault number bytes old new e by (unnoted fault eliciting is read at f) none h =
+        let fs = read.frames in
+        let has = has_content accepts old datagram number bytes fs named by read.are in
+        fault_refused (rw (ap (λ (c : Inner S). c.space) f.closed.rest_is)
+        (frame_refused old.side (length old.local_id) datagram now.0 bytes old.space old.space [] (Some (error.TransportError fault)) fs e at (ap (λ (x : TransportError). Some (error.TransportError x)) (told_fault now fault old new e f h)) read.are (content_frame old datagram number fs has)))
     packet_fault number bytes old new e by (in_taken is a) none h =
         let fs = a.surveyed.frames in
         let has = has_content accepts old datagram number bytes fs named by a.surveyed.are in

@@ -26,7 +26,7 @@ use Rattle.qh_conn.specs.Follows.{HasFrame, event_acts, transmit_acts}
 use Rattle.qh_conn.specs.Inner.{IsFailedBy, IsNewSpace, is_open, with_streams}
 use Rattle.qh_conn.specs.Receiving.{GoesOnWith, IsClosedWith, IsDatagramTaken, IsEventTaken, IsPacketHandled, IsPacketTaken, received}
 use Rattle.qh_conn.specs.Receiving.IsDatagramTaken.{dropped, handled, told_again, closed_too, draining, drained}
-use Rattle.qh_conn.specs.Receiving.IsPacketHandled.{repeated, empty, faulty, taken}
+use Rattle.qh_conn.specs.Receiving.IsPacketHandled.{repeated, empty, faulty, unnoted, taken}
 use Rattle.qh_conn.specs.Sending.{AreFramesMade, ClosesReadBack, IsDatagramMade, NothingIsSent, close_frame, datagram_of, overhead}
 use Rattle.qh_conn.specs.Sending.AreFramesMade.{packet as packet_made, close as close_made}
 use Rattle.qh_conn.specs.Timers.{IsTimedOut, restarted}
@@ -236,6 +236,7 @@ module _ {S : Type 0} where
   handled_holds now number bytes old new t up (repeated is e) p = same_holds old new t e p
   handled_holds now number bytes old new t up (empty fault is no_byte says f) p = closes_holds now f.reason _ old new t up f.closed p
   handled_holds now number bytes old new t up (faulty fault kind is at says f) p = closes_holds now f.reason _ old new t up f.closed p
+  handled_holds now number bytes old new t up (unnoted fault eliciting is read at f) p = closes_holds now f.reason _ old new t up f.closed p
   handled_holds now number bytes old new t up (taken is a) p = stays old new t (packet_step now number bytes old new up a) p
 
   -- the connection was closed, and goes on so

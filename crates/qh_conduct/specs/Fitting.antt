@@ -1,9 +1,10 @@
 -- Frames that an end doesn't refuse, by what came before (RFC 9000, sections 4.1 and 4.5), and what a connection is faulted for.
-use Rattle.std.specs.Prelude.{◌≡◌, ℕ, ◌<◌, ◌≤◌, ◌^◌, Bool, true, false, List, [], ◌∷◌, length, Option, Some}
+use Rattle.std.specs.Prelude.{◌≡◌, ℕ, ◌<◌, ◌≤◌, ◌^◌, Bool, true, false, List, [], ◌∷◌, length, Option, Some, None}
+use Rattle.std.specs.Option.{option_map}
 use Rattle.qh_base.specs.declared.transport_error.TransportError.{TransportError}
 use Rattle.qh_conduct.specs.Reached.{CameIn, EndsAt, Reaches}
 use Rattle.qh_conn.specs.Follows.{HasFrame}
-use Rattle.qh_conn.specs.Receiving.{IsOpenedBy}
+use Rattle.qh_conn.specs.Receiving.{IsFault, IsOpenedBy}
 use Rattle.qh_conn.specs.declared.inner.Inner.{Inner}
 use Rattle.qh_frame.specs.Plain.{plain_of}
 use Rattle.qh_frame.specs.TypeOf.{named, type_of}
@@ -14,6 +15,7 @@ use Rattle.qh_halves.specs.Counts.{has_recv, has_send, index_of, is_bi, is_own}
 use Rattle.qh_packet.specs.Frames.{IsFaultyFrame}
 use Rattle.qh_space.specs.Receiving.{coming_of, frame_refusal}
 use Rattle.qh_space.specs.declared.data_space.DataSpace.{DataSpace}
+use Rattle.qh_spec.specs.Codes as codes
 use Rattle.qh_spec.specs.Link.{other}
 use Rattle.qh_spec.specs.Lists.{In}
 use Rattle.qh_spec.specs.QuicFrames.{QuicFrame}
@@ -64,7 +66,9 @@ pub record HasRefused (id_length : ℕ) (sender : Side) (datagram : List ℕ) (s
 
 module _ {S : Type 0} where
   -- Why a datagram is a fault: its packet has no frame, or bytes that are none, or a frame that is refused, by the space as it is then.
+  -- The error has the code and the type of the frame at fault (RFC 9000, sections 12.4 and 20.1).
   pub data IsFaultOf (accepts : Side → Space → ℕ → List ℕ → Bool) (old new : Inner S) (datagram : List ℕ) (e : TransportError) : Type 0 where
-    empty : (number : ℕ) → IsOpenedBy accepts old datagram number [] → IsFaultOf accepts old new datagram e
-    faulty : (number : ℕ) (bytes : List ℕ) (kind : Option ℕ) → IsOpenedBy accepts old datagram number bytes → IsFaultyFrame bytes kind → IsFaultOf accepts old new datagram e
+    empty : (number : ℕ) → IsOpenedBy accepts old datagram number [] → IsFault codes.protocol_violation None e → IsFaultOf accepts old new datagram e
+    faulty : (number : ℕ) (bytes : List ℕ) (kind : Option ℕ) → IsOpenedBy accepts old datagram number bytes → IsFaultyFrame bytes kind
+        → IsFault codes.frame_encoding_error (option_map named kind) e → IsFaultOf accepts old new datagram e
     refused : HasRefused (length old.local_id) (other old.side) datagram new.space e → IsFaultOf accepts old new datagram e

@@ -1,5 +1,6 @@
-ghost use Rattle.std.specs.Prelude.{◌≡◌, ◌⊎◌, ◌++◌, ◌∷◌, ◌≤◌, ◌^◌, ℕ, Bool, true, List, [], Option, Some, None, Result, Ok, MatchResult};
+ghost use Rattle.std.specs.Prelude.{◌≡◌, ◌⊎◌, ◌++◌, ◌∷◌, ◌≤◌, ◌^◌, ℕ, Bool, true, false, List, [], Option, Some, None, Result, Ok, MatchResult};
 ghost use Rattle.std.specs.declared.net.socket_addr.SocketAddr.{SocketAddr as AnAddress};
+ghost use Rattle.qh_base.specs.declared.connection_error.ConnectionError.TheVariants.{LocallyClosed};
 ghost use Rattle.qh_base.specs.declared.path.Transmit.{Transmit as ATransmit};
 ghost use Rattle.qh_base.specs.declared.time.Moment.{Moment as AMoment};
 ghost use Rattle.qh_buffers.specs.declared.assembler.Chunk.{Chunk};
@@ -12,7 +13,7 @@ ghost use Rattle.qh_conduct.specs.Sized.{MayWrite, written_by};
 ghost use Rattle.qh_conn.specs.Event.{IsDrainedTold, IsPolledEvent};
 ghost use Rattle.qh_conn.specs.Follows.{Follows, event_acts, take_acts, transmit_acts};
 ghost use Rattle.qh_conn.specs.Inner.{IsFailedBy, IsNewSpace, IsSameEnd, is_open, with_streams};
-ghost use Rattle.qh_conn.specs.Receiving.{IsEventTaken, received};
+ghost use Rattle.qh_conn.specs.Receiving.{IsClosedWith, IsEventTaken, received};
 ghost use Rattle.qh_conn.specs.Sending.{ClosesReadBack, IsDatagramMade, NothingIsSent};
 ghost use Rattle.qh_conn.specs.Streams.{IsReadFault, IsWriteRefused, IsRead};
 ghost use Rattle.qh_conn.specs.Timers.{IsTimedOut};
@@ -22,6 +23,7 @@ ghost use Rattle.qh_conn.specs.declared.event.EndpointEvent.{EndpointEvent as An
 ghost use Rattle.qh_conn.specs.declared.event.Event.{Event as ATold};
 ghost use Rattle.qh_conn.specs.declared.fault.TakeFault.{TakeFault as ATakeFault};
 ghost use Rattle.qh_conn.specs.declared.inner.Inner.{Inner as AnInner};
+ghost use Rattle.qh_conn.specs.declared.state.Close.TheVariants.{Application};
 ghost use Rattle.qh_half.specs.declared.fault.WriteFault.{WriteFault};
 ghost use Rattle.qh_halves.specs.SendHalves.{Finishes, IsResetWith, IsStep, Takes, write_fault_at};
 ghost use Rattle.qh_spec.specs.Lists.{In};
@@ -49,6 +51,9 @@ pub fn behaves<S>()
         → Follows new (t ++ transmit_acts before after (Ok (Some transmit))) → Behaves old t → Behaves new (t ++ transmit_acts before after (Ok (Some transmit))) }
     ensures none { (old new : AnInner S) (t : List Act) → NothingIsSent old new → Follows new t → Behaves old t → Behaves new t }
     ensures failed { (old new : AnInner S) (t : List Act) → IsFailedBy old new → Follows new t → Behaves old t → Behaves new t }
+    ensures closed { (now : AMoment) (code : ℕ) (reason : List ℕ) (old new : AnInner S) (t : List Act)
+        → (is_open old.state ≡ true → IsClosedWith now (Application (record { error_code = code; reason = reason })) LocallyClosed old new) → (is_open old.state ≡ false → new ≡ old)
+        → IsSameEnd old new → Follows new t → Behaves old t → Behaves new t }
     ensures timeout { (now : ℕ) (old new : AnInner S) (t : List Act) → IsTimedOut now old new → IsSameEnd old new → Follows new t → Behaves old t → Behaves new t }
     ensures polled { (old new : AnInner S) (told : Option ATold) (t : List Act) → IsPolledEvent old new told → IsSameEnd old new → Follows new t → Behaves old t → Behaves new t }
     ensures drained { (old new : AnInner S) (told : Option AnEndpointEvent) (t : List Act) → IsDrainedTold old new told → IsSameEnd old new → Follows new t → Behaves old t → Behaves new t }

@@ -2,7 +2,7 @@
 use Rattle.std.proofs.Common.{ℕ, Bool, List, [], ◌∷◌, ◌++◌, refl, ap, subst, inl, inr}
 use Rattle.qh_conn.proofs.Acts.{coming_before, number_before}
 use Rattle.qh_conn.proofs.Followed.{FollowsOf, same_streams}
-use Rattle.qh_conn.proofs.Handed.{before_those, same_out}
+use Rattle.qh_conn.proofs.Handed.{before_those, resets_on, same_out}
 use Rattle.qh_conn.specs.Follows.{HasNumber}
 use Rattle.qh_conn.specs.Receiving.{IsAccepted}
 use Rattle.qh_conn.specs.declared.config.ConnConfig.{ConnConfig}
@@ -39,6 +39,7 @@ module _ (side : Side) (own peer : ℕ) (config : ConnConfig) where
     given = p.given;
     gave = λ f is. coming_before own (other side) t d f (p.gave f is);
     within = kept.others s.streams p.given t (HandedIn d ∷ []) (writes_nothing d) p.within;
+    resets = resets_on peer side t (HandedIn d ∷ []) refl p.resets;
     each_within = λ before after e is. let r = before_those t (HandedIn d ∷ []) before after e refl is in p.each_within before r.0 e r.1;
     accepted = p.accepted;
     remembers = p.remembers;
@@ -60,6 +61,7 @@ module _ (side : Side) (own peer : ℕ) (config : ConnConfig) where
         given = q.given;
         gave = q.gave;
         within = q.within;
+        resets = q.resets;
         each_within = q.each_within;
         accepted = number ∷ p.accepted;
         remembers = a.remembers p.accepted p.remembers;

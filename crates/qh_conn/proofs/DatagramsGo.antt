@@ -3,16 +3,18 @@ use Rattle.std.proofs.Common.{◌≡◌, ℕ, zero, suc, ◌+◌, ◌-◌, ◌<�
 use Rattle.std.proofs.Math.Seq.{drop-append_seam}
 use Rattle.std.proofs.lemmas.Bool.{both_ways, cases_Bool}
 use Rattle.std.proofs.lemmas.List.{append-nil, append_cancel_left}
-use borrow.Author.Tests.{ltb-true}
 use Rattle.std.specs.Prelude.{slice_get, MatchBool, drop, Ok}
 use Rattle.qh_base.specs.declared.connection_error.ConnectionError.TheVariants.{Memory}
 use Rattle.qh_base.specs.declared.path.Transmit.{Transmit}
 use Rattle.qh_base.specs.declared.time.Moment.{Moment}
 use Rattle.qh_conn.proofs.Acts.{last_or_before, one_datagram}
 use Rattle.qh_conn.proofs.Followed.{FollowsOf, carried_on, same_end, same_streams, space_follows, stepped}
-use Rattle.qh_conn.proofs.Handed.{same_in}
+use Rattle.qh_conn.proofs.Handed.{same_in, written_on}
+use Rattle.qh_conn.proofs.ResetsMade.{below_count, has_reset_type, packet_said}
 use Rattle.qh_conn.proofs.RunSums.{sum_within}
-use Rattle.qh_conn.specs.Follows.{Following, HasComing, HasNumber, HasSomething, IsWithinLimits, transmit_acts}
+use Rattle.qh_conn.specs.Config.{peer_of}
+use Rattle.qh_conn.specs.Follows.{Following, HasComing, HasFrame, HasNumber, HasSomething, IsWithinLimits, Reaches, reset_frame, transmit_acts}
+use Rattle.qh_conn.specs.Follows.Reaches.{run as by_run, reset as by_reset}
 use Rattle.qh_conn.specs.Inner.{IsConnection, IsSameEnd}
 use Rattle.qh_conn.specs.Sending.{AreFramesMade, ClosesReadBack, IsDatagramMade, close_frame, datagram_of, overhead}
 use Rattle.qh_conn.specs.Sending.AreFramesMade.{packet, close}
@@ -26,11 +28,13 @@ use Rattle.qh_history.proofs.Made.{made_stands}
 use Rattle.qh_history.proofs.Runs.{handed}
 use Rattle.qh_history.proofs.SameEnd as same
 use Rattle.qh_history.proofs.WithinLimits as limits
+use Rattle.qh_packet.proofs.Packets.{only_content}
 use Rattle.qh_packet.specs.Packet.{header_bytes}
 use Rattle.qh_recovery.specs.declared.sent_packets.SentPacket.{SentPacket}
 use Rattle.qh_space.specs.Sending.{AreElicitingPut, IsPacketMade, may_elicit, with_sent}
 use Rattle.qh_space.specs.declared.data_space.DataSpace.{DataSpace}
-use Rattle.qh_spec.proofs.Members.{in_left, in_right}
+use Rattle.qh_spec.proofs.FrameLaws.{quic_frames_agree}
+use Rattle.qh_spec.proofs.Members.{in_left, in_right, in_split}
 use Rattle.qh_spec.proofs.TranscriptLaws.{handed_out-append}
 use Rattle.qh_spec.specs.Carried.{HasRun}
 use Rattle.qh_spec.specs.FrameViews.{stream_of}
@@ -42,13 +46,15 @@ use Rattle.qh_spec.specs.Transcript.{Act, HandedOut, finished, handed_out, writt
 use Rattle.qh_spec.specs.declared.sides.Side.{Side}
 use Rattle.qh_spec.specs.declared.sides.Space.{Space}
 use Rattle.qh_spec.specs.declared.sides.Space.TheVariants.{Data}
-use Rattle.qh_streams.specs.Streams.{PlainStreams, counts_of, was_opened}
+use Rattle.qh_streams.specs.Streams.{PlainStreams, was_opened}
 use Rattle.qh_streams.specs.declared.frames.SentFrame.{SentFrame}
+use Rattle.qh_streams.specs.declared.frames.StreamFrame.{StreamFrame}
 use Rattle.qh_transcript.proofs.ReceivingLists.{none_some, others_stand}
 use Rattle.qh_transcript.proofs.SendingSteps as step
 use Rattle.qh_transcript.proofs.WithinKept as kept
 use Rattle.qh_transcript.specs.Receiving.{ReadNothing}
 use Rattle.qh_transcript.specs.Sending.{IsRunOf, StandsOut, WriteNothing, runs_of, some_run}
+use Rattle.qh_transcript.specs.Within.{count_given, first_count, greatest}
 
 -- ---- a run that was written lies within the limits
 
@@ -89,18 +95,16 @@ run_opened s sent t run p is some = elim (cases_Bool (was_opened s run.id)) [
       absurd (something (written t run.id) (finished t run.id) run (p.runs run is) some nothing.1 nothing.2)
 ]
 
-below_count : (s : PlainStreams) (id : ℕ) → is_own s.side id ≡ true → was_opened s id ≡ true → index_of id < (counts_of s (is_bi id)).opened
-below_count s id own opened =
-    let counted : nat_lt (index_of id) (counts_of s (is_bi id)).opened ≡ true = rw own at opened in
-    ltb-true (index_of id) (counts_of s (is_bi id)).opened counted
-
 one_out : (t : List Act) (d : List ℕ) → handed_out (t ++ HandedOut d ∷ []) ≡ handed_out t ++ d ∷ []
 one_out t d = handed_out-append t (HandedOut d ∷ [])
 
-alone : (k : ℕ) (side : Side) (t : List Act) (d : List ℕ) (run : Run) → HasRun k (d ∷ []) side run → HasRun k (handed_out (t ++ HandedOut d ∷ [])) side run
-alone k side t d run q = record {
+last_out : (t : List Act) (d x : List ℕ) → In x (d ∷ []) → In x (handed_out (t ++ HandedOut d ∷ []))
+last_out t d x is = subst (λ (z : List (List ℕ)). In x z) (sym (one_out t d)) (in_right x (handed_out t) (d ∷ []) is)
+
+run_alone : (k : ℕ) (side : Side) (t : List Act) (d : List ℕ) (run : Run) → HasRun k (d ∷ []) side run → HasRun k (handed_out (t ++ HandedOut d ∷ [])) side run
+run_alone k side t d run q = record {
   datagram = q.datagram;
-  among = subst (λ (z : List (List ℕ)). In q.datagram z) (sym (one_out t d)) (in_right q.datagram (handed_out t) (d ∷ []) q.among);
+  among = last_out t d q.datagram q.among;
   packet = q.packet;
   has = q.has;
   space_is = q.space_is;
@@ -110,6 +114,18 @@ alone k side t d run q = record {
   is = q.is;
 }
 
+-- a frame in a datagram among others
+frame_in : (k : ℕ) (xs ys : List (List ℕ)) (side : Side) (f : QuicFrame) → (q : HasFrame k xs side f) → In q.datagram ys → HasFrame k ys side f
+frame_in k xs ys side f q among = record { datagram = q.datagram; among = among; packet = q.packet; has = q.has; space_is = q.space_is; sender_is = q.sender_is; frame_among = q.frame_among }
+
+-- the frames of a datagram that is written are those of its packet
+frame_there : (k number : ℕ) (side : Side) (id frames tag : List ℕ) (fs : List QuicFrame) (f : QuicFrame) → length id ≡ k → length tag ≡ 32 → AreQuicFrames frames fs
+    → HasFrame k ((header_bytes id number ++ (frames ++ tag)) ∷ []) side f → In f fs
+frame_there k number side id frames tag fs f length_is tag_is are q =
+    let is : q.datagram ≡ header_bytes id number ++ (frames ++ tag) = elim q.among [ inl same ↦ sym same | inr none ↦ absurd none ] in
+    let same : q.packet.frames ≡ fs = quic_frames_agree frames q.packet.frames fs (only_content k number id frames tag q.datagram q.packet length_is tag_is is q.has).1 are in
+    subst (λ (z : List QuicFrame). In f z) same q.frame_among
+
 writes_nothing : (d : List ℕ) → WriteNothing (HandedOut d ∷ [])
 writes_nothing d = record { bytes = λ id. refl; ends = λ id. refl }
 
@@ -117,38 +133,68 @@ reads_nothing : (d : List ℕ) → ReadNothing (HandedOut d ∷ [])
 reads_nothing d = record { pieces = λ id. refl; ends = λ id. refl }
 
 module _ (side : Side) (own peer : ℕ) (config : ConnConfig) where
-  -- a datagram with these runs keeps within the limits
-  within_limits : (s : DataSpace) (t : List Act) (d : List ℕ) (sent : List Run) → (p : FollowsOf side own peer config s t) → StandsOut s.streams sent t
-      → ((run : Run) → HasRun peer (handed_out (t ++ HandedOut d ∷ [])) side run → In run sent) → IsWithinLimits own peer side config t d
-  within_limits s t d sent p out is_sent = record {
-    streams = s.streams;
-    of = p.of;
-    given = p.given;
-    came = p.gave;
-    all_bytes = λ runs apart each.
-        let ends = sum_within t runs apart (λ run among.
-        let one = each run among in
-        let is = is_sent run (subst (λ (z : List (List ℕ)). HasRun peer z side run) (sym (one_out t d)) one.0) in
-        run_end (written t run.id) (finished t run.id) run (out.runs run is) one.1) in
-        let bound = p.within.all_bytes in
-        omega (arith, ends, bound);
-    stream_bytes = λ run has some.
-        let is = is_sent run (alone peer side t d run has) in
-        let end = run_end (written t run.id) (finished t run.id) run (out.runs run is) some in
-        let bound = p.within.stream_bytes run.id in
-        omega (arith, end, bound);
-    count = λ run has some mine.
-        let is = is_sent run (alone peer side t d run has) in
+  -- the RESET_STREAM frames of a datagram keep within the limits
+  abbrev AreResetsKept : DataSpace → List StreamFrame → List Act → List ℕ → Type 0
+  AreResetsKept s given t d = (id code size : ℕ) → HasFrame peer (d ∷ []) side (reset_frame id code size)
+      → (size ≤ length (written t id)) × (is_own side id ≡ true → index_of id < greatest (count_given (is_bi id)) (first_count s.streams (is_bi id)) given)
+
+  -- the final sizes that were handed out with it
+  sizes_out : (s : DataSpace) (t : List Act) (d : List ℕ) → (p : FollowsOf side own peer config s t) → AreResetsKept s p.given t d
+      → (id code size : ℕ) → HasFrame peer (handed_out (t ++ HandedOut d ∷ [])) side (reset_frame id code size) → size ≤ length (written t id)
+  sizes_out s t d p resets id code size q =
+      let all = handed_out (t ++ HandedOut d ∷ []) in
+      let f = reset_frame id code size in
+      elim (in_split q.datagram (handed_out t) (d ∷ []) (subst (λ (z : List (List ℕ)). In q.datagram z) (one_out t d) q.among)) [
+        | inl before ↦ p.resets id code size (frame_in peer all (handed_out t) side f q before)
+        | inr last ↦ (resets id code size (frame_in peer all (d ∷ []) side f q last)).0
+      ]
+
+  -- a datagram with these runs and RESET_STREAM frames keeps within the limits
+  module _ (s : DataSpace) (t : List Act) (d : List ℕ) (sent : List Run) (p : FollowsOf side own peer config s t) (out : StandsOut s.streams sent t)
+      (is_sent : (run : Run) → HasRun peer (handed_out (t ++ HandedOut d ∷ [])) side run → In run sent) (resets : AreResetsKept s p.given t d) where
+    run_within : (run : Run) → HasRun peer (handed_out (t ++ HandedOut d ∷ [])) side run → HasSomething run → run.offset + length run.payload ≤ length (written t run.id)
+    run_within run has some = run_end (written t run.id) (finished t run.id) run (out.runs run (is_sent run has)) some
+
+    -- what a frame takes a stream up to was written
+    was_written : (id end : ℕ) → Reaches peer (handed_out t ++ d ∷ []) side id end → end ≤ length (written t id)
+    was_written id end (by_run run has some) = run_within run (subst (λ (z : List (List ℕ)). HasRun peer z side run) (sym (one_out t d)) has) some
+    was_written id end (by_reset _ code _ has) = sizes_out s t d p resets id code end (subst (λ (z : List (List ℕ)). HasFrame peer z side (reset_frame id code end)) (sym (one_out t d)) has)
+
+    written_here : (id end : ℕ) → Reaches peer (d ∷ []) side id end → end ≤ length (written t id)
+    written_here id end (by_run run has some) = run_within run (run_alone peer side t d run has) some
+    written_here id end (by_reset _ code _ has) = (resets id code end has).0
+
+    -- its stream is permitted
+    permitted_here : (id end : ℕ) → Reaches peer (d ∷ []) side id end → is_own side id ≡ true → index_of id < greatest (count_given (is_bi id)) (first_count s.streams (is_bi id)) p.given
+    permitted_here id end (by_run run has some) mine =
+        let is = is_sent run (run_alone peer side t d run has) in
         let opened = run_opened s.streams sent t run out is some in
         let below = below_count s.streams run.id (rw (p.of.side_is) mine) opened in
         let bound = p.within.count (is_bi run.id) in
-        omega (arith, below, bound);
-  }
+        omega (arith, below, bound)
+    permitted_here id end (by_reset _ code _ has) mine = (resets id code end has).1 mine
+
+    within_limits : IsWithinLimits own peer side config t d
+    within_limits = record {
+      streams = s.streams;
+      of = p.of;
+      given = p.given;
+      came = p.gave;
+      all_bytes = λ ends apart each.
+          let sum = sum_within t ends apart (λ e among. was_written e.0 e.1 (each e among)) in
+          let bound = p.within.all_bytes in
+          omega (arith, sum, bound);
+      stream_bytes = λ id end reaches.
+          let below = written_here id end reaches in
+          let bound = p.within.stream_bytes id in
+          omega (arith, below, bound);
+      count = permitted_here;
+    }
 
   -- it is handed out
   handed_out_follows : (s : DataSpace) (t : List Act) (d : List ℕ) (sent : List Run) → (p : FollowsOf side own peer config s t) → StandsOut s.streams sent t
-      → ((run : Run) → HasRun peer (handed_out (t ++ HandedOut d ∷ [])) side run → In run sent) → FollowsOf side own peer config s (t ++ HandedOut d ∷ [])
-  handed_out_follows s t d sent p out is_sent = record {
+      → ((run : Run) → HasRun peer (handed_out (t ++ HandedOut d ∷ [])) side run → In run sent) → AreResetsKept s p.given t d → FollowsOf side own peer config s (t ++ HandedOut d ∷ [])
+  handed_out_follows s t d sent p out is_sent resets = record {
     of = p.of;
     sent = sent;
     came = p.came;
@@ -161,9 +207,10 @@ module _ (side : Side) (own peer : ℕ) (config : ConnConfig) where
     given = p.given;
     gave = λ f is. subst (λ (z : List (List ℕ)). HasComing own z (other side) f) (sym (same_in t (HandedOut d ∷ []) refl)) (p.gave f is);
     within = kept.others s.streams p.given t (HandedOut d ∷ []) (writes_nothing d) p.within;
+    resets = λ id code size has. written_on t (HandedOut d ∷ []) id size (sizes_out s t d p resets id code size has);
     each_within = λ before after e is. elim (last_or_before t before after (HandedOut d) (HandedOut e) is) [
       | inl last ↦
-          let here : IsWithinLimits own peer side config t d = within_limits s t d sent p out is_sent in
+          let here : IsWithinLimits own peer side config t d = within_limits s t d sent p out is_sent resets in
           subst (λ (e : List ℕ). IsWithinLimits own peer side config before e) (one_datagram d e last.1) (subst (λ (t : List Act). IsWithinLimits own peer side config t d) (sym last.0) here)
       | inr r ↦ p.each_within before r.0 e r.1
     ];
@@ -203,24 +250,38 @@ module _ (side : Side) (own : ℕ) (id : List ℕ) (config : ConnConfig) where
       let once = made_stands now around room old new head (head ++ frames) sent came t m s in
       record { out = step.fewer new.streams (sent ++ runs_of once.frames) sent t (λ run is. in_left run sent (runs_of once.frames) is) once.stands.out; into = once.stands.into })
       (λ given. limits.made now around room old new head (head ++ frames) given t m) p in
+      let b = packet_said side (peer_of config.limits) p.sent p.given t now around room old new head (head ++ frames) m
+      (record { out = p.stands.out; within = p.within; side_is = p.of.side_is; peer_is = p.of.peer_is }) in
+      let read : AreQuicFrames frames b.are.frames = subst (λ (z : List ℕ). AreQuicFrames z b.are.frames) (sym (append_cancel_left head frames b.bytes b.appended)) b.are.are in
       handed_out_follows side own (length id) config new t (head ++ (frames ++ tag)) (p.sent ++ runs_of made.frames) after made.stands.out
       (handed (length id) number side p.sent t id frames tag made.frames refl tag_is are p.is_sent)
+      (λ stream code size has.
+      let says = b.are.said (reset_frame stream code size) (frame_there (length id) number side id frames tag b.are.frames (reset_frame stream code size) refl tag_is read has) stream code size refl in
+      (says.0, λ mine. rw after.of.peer_is (says.1 mine)))
 
   -- a datagram with one frame that carries nothing of a stream is handed out
-  frame_goes : (s : DataSpace) (number : ℕ) (f : QuicFrame) (frames tag : List ℕ) (t : List Act) → frames ≡ frame_bytes f → ((rest : List ℕ) → IsQuicFrame (frame_bytes f ++ rest) f rest) → stream_of f ≡ None
+  frame_goes : (s : DataSpace) (number : ℕ) (f : QuicFrame) (frames tag : List ℕ) (t : List Act) → frames ≡ frame_bytes f → ((rest : List ℕ) → IsQuicFrame (frame_bytes f ++ rest) f rest) → stream_of f ≡ None → has_reset_type f ≡ false
       → length tag ≡ 32 → FollowsOf side own (length id) config s t → FollowsOf side own (length id) config s (t ++ HandedOut (header_bytes id number ++ (frames ++ tag)) ∷ [])
-  frame_goes s number f frames tag t bytes_are back silent tag_is p =
+  frame_goes s number f frames tag t bytes_are back silent no_reset tag_is p =
       let one : IsQuicFrame frames f [] = subst (λ (z : List ℕ). IsQuicFrame z f []) (append-nil (frame_bytes f) ∙ sym bytes_are) (back []) in
       let are : AreQuicFrames frames (f ∷ []) = ([], one, refl) in
       handed_out_follows side own (length id) config s t (header_bytes id number ++ (frames ++ tag)) p.sent p p.stands.out
       (λ run has. subst (λ (z : List Run). In run z) (append-nil p.sent) (subst (λ (o : Option Run). In run (p.sent ++ (some_run o ++ []))) silent
       (handed (length id) number side p.sent t id frames tag (f ∷ []) refl tag_is are p.is_sent run has)))
+      (λ stream code size has. elim (frame_there (length id) number side id frames tag (f ∷ []) (reset_frame stream code size) refl tag_is are has) [
+        | inl same ↦ absurd (both_ways (has_reset_type f) no_reset (ap has_reset_type same))
+        | inr none ↦ absurd none
+      ])
 
 -- ---- the connection
 
 close_silent : (reason : Close) → stream_of (close_frame reason) ≡ None
 close_silent (Connection c) = refl
 close_silent (Application a) = refl
+
+close_resets_nothing : (reason : Close) → has_reset_type (close_frame reason) ≡ false
+close_resets_nothing (Connection c) = refl
+close_resets_nothing (Application a) = refl
 
 module _ {S : Type 0} where
   frames_go : (sealed : Side → Space → ℕ → List ℕ) (now : Moment) (old new : Inner S) (frames : List ℕ) (t : List Act) → AreFramesMade now old new (header_bytes old.remote_id old.space.next_number) frames
@@ -233,7 +294,7 @@ module _ {S : Type 0} where
       (packet_goes old.side (length old.local_id) old.remote_id old.config now.0 (overhead old) (1200 - overhead old) old.space new.space old.space.next_number frames tag t m tag_is before)
   frames_go sealed now old new frames t (close reason until is bytes_are e) tag_is back c p =
       let tag = sealed old.side Data old.space.next_number in
-      let after = frame_goes old.side (length old.local_id) old.remote_id old.config p.space old.space.next_number (close_frame reason) frames tag t bytes_are (back reason until is) (close_silent reason) tag_is (space_follows old t p) in
+      let after = frame_goes old.side (length old.local_id) old.remote_id old.config p.space old.space.next_number (close_frame reason) frames tag t bytes_are (back reason until is) (close_silent reason) (close_resets_nothing reason) tag_is (space_follows old t p) in
       let u = t ++ HandedOut (datagram_of sealed old frames) ∷ [] in
       elim p.is_space [
         | inl failed ↦ carried_on old new u p.space (rw e (same_end refl refl refl refl)) (inl (ap (λ (c : Inner S). c.error) e ∙ failed)) after

@@ -1,10 +1,13 @@
 -- One number is expected next of a space.
-use Rattle.std.proofs.Common.{◌≡◌, ℕ, zero, suc, ◌+◌, ◌-◌, ◌<◌, ◌≤◌, true, List, [], ◌∷◌, ◌++◌, refl, inl, inr, arith}
-use Rattle.std.proofs.lemmas.Bool.{cases_Bool}
+use Rattle.std.proofs.Common.{◌≡◌, ℕ, zero, suc, ◌+◌, ◌-◌, ◌<◌, ◌≤◌, max, true, false, List, [], ◌∷◌, ◌++◌, refl, inl, inr, arith}
+use Rattle.std.proofs.lemmas.Bool.{both_ways, cases_Bool, cases_lt, or_cases, or_left, or_right}
 use Rattle.std.proofs.lemmas.Bool.Decides.{eqb_tells, nat_tests}
+use Rattle.qh_buffers.proofs.RangeCounts.{in_end, in_start}
+use Rattle.qh_buffers.proofs.RangeLaws.{inside}
 use Rattle.qh_buffers.specs.Ranges.{PlainRange, is_in, has}
 use Rattle.qh_conn.specs.Receiving.{IsExpectedOf}
-use Rattle.qh_recovery.specs.Accepted.{IsNextOf, Remembers}
+use Rattle.qh_recovery.proofs.Window.{next_is}
+use Rattle.qh_recovery.specs.Accepted.{IsNextIn, IsNextOf, Remembers}
 use Rattle.qh_space.specs.declared.data_space.DataSpace.{DataSpace}
 use Rattle.qh_spec.proofs.Members.{in_left, in_right, in_split}
 use Rattle.qh_spec.specs.Lists.{In}
@@ -69,3 +72,30 @@ one_expected s a b p q =
     let above : a < b → ⊥ = no_less all a b first other in
     let below : b < a → ⊥ = no_less all b a other first in
     omega arith
+
+-- ---- and there is one
+
+one_range : (r : PlainRange) (rs : List PlainRange) (n : ℕ) → IsNextIn rs n → (next : ℕ) × IsNextIn (r ∷ rs) next
+one_range r rs n is = elim (cases_lt (max n r.start) r.end) [
+  | inl less ↦ (
+    r.end,
+    record {
+      is_above = λ k h. elim (or_cases (is_in r k) (has rs k) h) [ inl here ↦ in_end r k here | inr later ↦ omega (arith, less, is.is_above k later) ];
+      is_least = λ some. or_left (is_in r (r.end - 1)) (has rs (r.end - 1)) (inside r (r.end - 1) (omega arith) (omega arith));
+    },
+  )
+  | inr more ↦ (
+    n,
+    record {
+      is_above = λ k h. elim (or_cases (is_in r k) (has rs k) h) [ inl here ↦ omega (arith, more, in_start r k here, in_end r k here) | inr later ↦ is.is_above k later ];
+      is_least = λ some. or_right (is_in r (n - 1)) (has rs (n - 1)) (is.is_least some);
+    },
+  )
+]
+
+next_in : (kept : List PlainRange) → (next : ℕ) × IsNextIn kept next
+next_in [] = (0, record { is_above = λ k h. absurd (both_ways false refl h); is_least = λ some. absurd (omega arith) })
+next_in (r ∷ rs) = let rest = next_in rs in one_range r rs rest.0 rest.1
+
+pub expected_of : (s : DataSpace) → (expected : ℕ) × IsExpectedOf s expected
+expected_of s = let next = next_in s.dedup in (next.0, λ accepted memory. next_is accepted s.dedup memory next.0 next.1)

@@ -1,9 +1,9 @@
 -- How a space stands to all that was done with its connection, apart from the connection around it.
-use Rattle.std.proofs.Common.{◌≡◌, ◌⊎◌, ℕ, List, ◌∷◌, ◌++◌, length, Some, sym, ap, subst, ◌∙◌, inl, inr}
+use Rattle.std.proofs.Common.{◌≡◌, ◌⊎◌, ℕ, ◌≤◌, List, ◌∷◌, ◌++◌, length, Some, sym, ap, subst, ◌∙◌, inl, inr}
 use Rattle.qh_base.specs.declared.connection_error.ConnectionError.TheVariants.{Memory}
 use Rattle.qh_conn.proofs.Ends.{same_of}
 use Rattle.qh_conn.specs.Config.{peer_of}
-use Rattle.qh_conn.specs.Follows.{Following, HasComing, HasNumber, IsWithinLimits}
+use Rattle.qh_conn.specs.Follows.{Following, HasComing, HasFrame, HasNumber, IsWithinLimits, reset_frame}
 use Rattle.qh_conn.specs.Inner.{AreOf, IsSameEnd}
 use Rattle.qh_conn.specs.declared.config.ConnConfig.{ConnConfig}
 use Rattle.qh_conn.specs.declared.inner.Inner.{Inner}
@@ -14,7 +14,7 @@ use Rattle.qh_spec.specs.Carried.{HasRun}
 use Rattle.qh_spec.specs.Link.{other}
 use Rattle.qh_spec.specs.Lists.{In}
 use Rattle.qh_spec.specs.QuicFrame.{StreamFrame as Run}
-use Rattle.qh_spec.specs.Transcript.{Act, HandedOut, handed_in, handed_out}
+use Rattle.qh_spec.specs.Transcript.{Act, HandedOut, handed_in, handed_out, written}
 use Rattle.qh_spec.specs.declared.sides.Side.{Side}
 use Rattle.qh_streams.specs.Streams.{PlainStreams}
 use Rattle.qh_streams.specs.declared.frames.StreamFrame.{StreamFrame}
@@ -33,6 +33,7 @@ pub record FollowsOf (side : Side) (own peer : ℕ) (config : ConnConfig) (space
   pub given : List StreamFrame
   pub gave : (f : StreamFrame) → In f given → HasComing own (handed_in t) (other side) f
   pub within : KeepsWithin space.streams given t
+  pub resets : (id code size : ℕ) → HasFrame peer (handed_out t) side (reset_frame id code size) → size ≤ length (written t id)
   pub each_within : (before after : List Act) (datagram : List ℕ) → t ≡ before ++ HandedOut datagram ∷ after → IsWithinLimits own peer side config before datagram
   pub accepted : List ℕ
   pub remembers : Remembers accepted space.dedup
@@ -40,7 +41,7 @@ pub record FollowsOf (side : Side) (own peer : ℕ) (config : ConnConfig) (space
 
 module _ (side : Side) (own peer : ℕ) (config : ConnConfig) where
   -- a step of the space, where nothing is handed in or out
-  pub stepped : (old new : DataSpace) (t : List Act) → SameEnd old new → new.dedup ≡ old.dedup
+  abbrev pub stepped : (old new : DataSpace) (t : List Act) → SameEnd old new → new.dedup ≡ old.dedup
       → ((sent came : List Run) → Stands old sent came t → Stands new sent came t) → ((given : List StreamFrame) → KeepsWithin old.streams given t → KeepsWithin new.streams given t)
       → FollowsOf side own peer config old t → FollowsOf side own peer config new t
   stepped old new t same dedup stand within p = record {
@@ -53,6 +54,7 @@ module _ (side : Side) (own peer : ℕ) (config : ConnConfig) where
     given = p.given;
     gave = p.gave;
     within = within p.given p.within;
+    resets = p.resets;
     each_within = p.each_within;
     accepted = p.accepted;
     remembers = rw dedup p.remembers;
@@ -80,6 +82,7 @@ module _ {S : Type 0} where
     given = p.given;
     gave = p.gave;
     within = p.within;
+    resets = p.resets;
     each_within = p.each_within;
     accepted = p.accepted;
     remembers = p.remembers;
@@ -99,6 +102,7 @@ module _ {S : Type 0} where
     given = p.given;
     gave = p.gave;
     within = p.within;
+    resets = p.resets;
     each_within = p.each_within;
     accepted = p.accepted;
     remembers = p.remembers;

@@ -68,6 +68,7 @@ module _ {S : Type 0} where
     given = [];
     gave = λ f is. absurd is;
     within = limits.fresh c.space peer unused;
+    resets = λ id code size has. absurd has.among;
     each_within = λ before after d e. absurd (never_empty before after (HandedOut d) (sym e));
     accepted = [];
     remembers = remembers;

@@ -1,11 +1,13 @@
 -- The frames of a packet, taken one after another.
-use Rattle.std.proofs.Common.{◌≡◌, ℕ, List, [], ◌∷◌, ◌++◌, Option, Some, None, length, sym, ap, ◌∙◌, inl, inr, subst, append_assoc, arith}
+use Rattle.std.proofs.Common.{◌≡◌, ℕ, Bool, List, [], ◌∷◌, ◌++◌, Option, Some, None, length, refl, sym, ap, ◌∙◌, inl, inr, subst, append_assoc, arith}
 use Rattle.std.specs.List.{AllByRecursion}
+use Rattle.std.specs.Prelude.{OnErr, Result, Ok, Err}
 use Rattle.qh_base.specs.declared.connection_error.ConnectionError.{ConnectionError}
 use Rattle.qh_base.specs.declared.connection_error.ConnectionError.TheVariants.{TransportError as Fault}
 use Rattle.qh_base.specs.declared.transport_error.TransportError.{TransportError}
-use Rattle.qh_conn.specs.Receiving.{AreFramesTaken}
+use Rattle.qh_conn.specs.Receiving.{AreFramesTaken, StopsUnrefused}
 use Rattle.qh_conn.specs.Receiving.AreFramesTaken.{none, more, closed, refused}
+use Rattle.qh_conn.specs.Receiving.StopsUnrefused.{here, behind as behind_taken}
 use Rattle.qh_frame.specs.FrameAt.{Begins, HasNoFrame}
 use Rattle.qh_frame.specs.Plain.{plain_of}
 use Rattle.qh_frame.specs.Range.{IsInRange}
@@ -50,6 +52,7 @@ range_none bytes h unread = all h.frames h.are h.in_range where
 pub record AreTakenUpTo (now : ℕ) (bytes rest : List ℕ) (old mid : DataSpace) : Type 0 where
   pub taken : List Frame
   pub goes_on : (new : DataSpace) (later : List Frame) (end : Option ConnectionError) → AreFramesTaken now rest mid new later end → AreFramesTaken now bytes old new (taken ++ later) end
+  pub stops : StopsUnrefused now rest mid → StopsUnrefused now bytes old
   pub left : AreInRange rest
   pub space : IsSpace mid
 
@@ -57,6 +60,7 @@ pub taken_none : (now : ℕ) (bytes : List ℕ) (s : DataSpace) (is_eliciting : 
 taken_none now bytes s is_eliciting h space = record {
   taken = [];
   goes_on = λ new later end t. t;
+  stops = λ s. s;
   left = record { frames = h.frames; are = h.are; in_range = h.in_range };
   space = space;
 }
@@ -69,6 +73,7 @@ taken_more now bytes rest behind old mid new f h b free step space = record {
   goes_on = λ last later end t.
       subst (λ (fs : List Frame). AreFramesTaken now bytes old last fs end) (sym (append_assoc h.taken (f ∷ []) later))
       (h.goes_on last (f ∷ later) end (more rest behind f mid new last later end b free step t));
+  stops = λ s. h.stops (behind_taken rest behind f mid new b free step s);
   left = range_behind rest behind (plain_of f) h.left b;
   space = space;
 }
@@ -96,3 +101,29 @@ taken_refused now bytes rest behind old mid new f fault e h b named (inr r) same
   subst (λ (s : DataSpace). AreFramesTaken now bytes old s (h.taken ++ []) (Some (Fault e))) (sym same)
       (h.goes_on mid [] (Some (Fault e)) (refused rest behind f mid e b named (subst (λ (x : StreamFault). IsRefusal x (frame_refusal mid f)) is r))),
 )
+
+-- memory is wanting only at one that isn't refused
+pub unrefused : (s : DataSpace) (f : Frame) (fault : StreamFault) → IsRefusedBy fault (frame_refusal s f) → fault ≡ Wanting → frame_refusal s f ≡ None
+unrefused s f fault (inl wanting) is = wanting.1
+unrefused s f fault (inr r) is = absurd (subst (λ (x : StreamFault). IsRefusal x (frame_refusal s f)) is r)
+
+pub stops_at : (now : ℕ) (bytes rest after : List ℕ) (old mid : DataSpace) (f : Frame) (fault : StreamFault) → AreTakenUpTo now bytes rest old mid → Begins rest (plain_of f) after
+    → IsRefusedBy fault (frame_refusal mid f) → fault ≡ Wanting → StopsUnrefused now bytes old
+stops_at now bytes rest after old mid f fault h b r is = h.stops (here rest after f mid b (unrefused mid f fault r is))
+
+-- bytes that are valid frames begin with one
+pub first_read : (bytes : List ℕ) (is_eliciting : Bool) → AreValidFrames bytes is_eliciting → HasNoFrame bytes → ⊥
+first_read bytes is_eliciting h unread = first h.frames h.are h.in_range h.some where
+  first : (fs : List QuicFrame) → AreQuicFrames bytes fs → AllByRecursion IsInRange fs → (fs ≡ [] → ⊥) → ⊥
+  first [] are all some = some refl
+  first (f ∷ fs) are all some = unread f are.0 are.1 all.0
+
+pub wants : {A E : Type 0} {P : Type 0} (r : Result A E) → P → OnErr r P
+wants (Ok a) p = tt
+wants (Err e) p = p
+
+-- one that is refused alone
+pub refused_first : (now : ℕ) (bytes rest : List ℕ) (s : DataSpace) (f : Frame) (fault : StreamFault) (e : TransportError) → Begins bytes (plain_of f) rest → HasType bytes f
+    → IsRefusedBy fault (frame_refusal s f) → fault ≡ Transport e → AreFramesTaken now bytes s s [] (Some (Fault e))
+refused_first now bytes rest s f fault e b named (inl wanting) is = absurd (let both : Wanting ≡ Transport e = sym wanting.0 ∙ is in cc)
+refused_first now bytes rest s f fault e b named (inr r) is = refused bytes rest f s e b named (subst (λ (x : StreamFault). IsRefusal x (frame_refusal s f)) is r)

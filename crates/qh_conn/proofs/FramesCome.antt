@@ -207,6 +207,7 @@ module _ (side : Side) (own peer : ℕ) (config : ConnConfig) where
         ];
         within = by_limits (coming_of f) new.streams p.given t
             (limits.frame now old new f closed p.given t ok taken (λ id none. (p.stands.out.unopened id none).1) p.within);
+        resets = p.resets;
         each_within = p.each_within;
         accepted = p.accepted;
         remembers = rw (taken_dedup now old new f closed taken) p.remembers;

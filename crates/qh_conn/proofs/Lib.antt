@@ -28,6 +28,7 @@ pub mod PacketsOut
 pub mod Polled
 pub mod QuietCalls
 pub mod ReaderCalls
+pub mod ResetsMade
 pub mod RunSums
 pub mod StreamsGo
 pub mod Timeouts

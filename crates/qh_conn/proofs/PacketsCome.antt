@@ -18,7 +18,7 @@ use Rattle.qh_conn.specs.Follows.{Following, Follows, HasFrame, HasNumber, event
 use Rattle.qh_conn.specs.Inner.{IsConnection, IsFailedBy, IsSameEnd, counted, is_open}
 use Rattle.qh_conn.specs.Receiving.{GoesOnWith, HasContent, HasWhatOpens, IsClosedWith, IsFaulted, IsDatagramTaken, IsEventTaken, IsPacketHandled, IsPacketTaken, received}
 use Rattle.qh_conn.specs.Receiving.IsDatagramTaken.{dropped, handled, told_again, closed_too, draining, drained}
-use Rattle.qh_conn.specs.Receiving.IsPacketHandled.{repeated, empty, faulty, taken}
+use Rattle.qh_conn.specs.Receiving.IsPacketHandled.{repeated, empty, faulty, unnoted, taken}
 use Rattle.qh_conn.specs.declared.event.ConnectionEvent.{ConnectionEvent}
 use Rattle.qh_conn.specs.declared.event.ConnectionEvent.TheVariants.{Datagram, Close}
 use Rattle.qh_conn.specs.declared.inner.Inner.{Inner}
@@ -96,6 +96,7 @@ module _ {S : Type 0} where
     handled_follows number bytes old new t (repeated is e) none has p h = stays old new t (t ++ HandedIn datagram ∷ []) p (rw e (parts refl refl refl refl refl)) (none_some _ old.error error.Memory none) h
     handled_follows number bytes old new t (empty fault is no_byte says f) none has p h = stays old new t (t ++ HandedIn datagram ∷ []) p (faulted now fault old new f) (none_some _ old.error error.Memory none) h
     handled_follows number bytes old new t (faulty fault kind is at says f) none has p h = stays old new t (t ++ HandedIn datagram ∷ []) p (faulted now fault old new f) (none_some _ old.error error.Memory none) h
+    handled_follows number bytes old new t (unnoted fault eliciting is read at f) none has p h = stays old new t (t ++ HandedIn datagram ∷ []) p (faulted now fault old new f) (none_some _ old.error error.Memory none) h
     handled_follows number bytes old new t (taken is a) none has p h =
         let same : old.space ≡ p.space = elim p.is_space [ inl failed ↦ none_some _ old.error error.Memory none failed | inr same ↦ same ] in
         packet_follows now number bytes datagram old new t a has
@@ -105,6 +106,7 @@ module _ {S : Type 0} where
     handled_end number bytes old new (repeated is e) = GoesTo.same (rw e (parts refl refl refl refl refl))
     handled_end number bytes old new (empty fault is no_byte says f) = (faulted now fault old new f).same
     handled_end number bytes old new (faulty fault kind is at says f) = (faulted now fault old new f).same
+    handled_end number bytes old new (unnoted fault eliciting is read at f) = (faulted now fault old new f).same
     handled_end number bytes old new (taken is a) =
         let to = goes_on now a.end _ new a.goes_on in
         record { side = to.same.side; local_id = to.same.local_id; remote_id = to.same.remote_id; config = to.same.config }

@@ -7,7 +7,7 @@ use Rattle.qh_conn.specs.Follows.{Following, Follows, HasComing, HasNumber}
 use Rattle.qh_conn.specs.Inner.{AreOf, HasNoHalf, IsConnection, with_streams}
 use Rattle.qh_conn.specs.declared.inner.Inner.{Inner}
 use Rattle.qh_conn.proofs.Followed.{carried_on, same_end, space_follows}
-use Rattle.qh_conn.proofs.Handed.{HandNothing, same_in, same_out, before_those}
+use Rattle.qh_conn.proofs.Handed.{HandNothing, same_in, same_out, before_those, resets_on}
 use Rattle.qh_history.specs.Standing.{Stands}
 use Rattle.qh_recovery.specs.Accepted.{Remembers}
 use Rattle.qh_space.proofs.StreamsStepped.{stepped}
@@ -81,6 +81,7 @@ module _ {S : Type 0} where
         given = f.given;
         gave = λ g is. subst (λ (z : List (List ℕ)). HasComing (length c.local_id) z (other c.side) g) came_is (f.gave g is);
         within = go.within f.sent f.given t stands.out (subst (λ (s : DataSpace). KeepsWithin s.streams f.given t) (sym same) f.within);
+        resets = resets_on (length c.remote_id) c.side t u go.handed.out f.resets;
         each_within = λ before after d e. let r = before_those t u before after d go.handed.out e in f.each_within before r.0 d r.1;
         accepted = f.accepted;
         remembers = subst (λ (s : DataSpace). Remembers f.accepted s.dedup) (sym same) f.remembers;

@@ -17,7 +17,7 @@ use Rattle.qh_conn.specs.Event.IsPolledEvent.{stream, lost, none as nothing}
 use Rattle.qh_conn.specs.Inner.{HaveSameCounts, with_space, with_streams}
 use Rattle.qh_conn.specs.Receiving.{GoesOnWith, IsDatagramTaken, IsFaulted, IsPacketHandled, IsPacketTaken, handed_at}
 use Rattle.qh_conn.specs.Receiving.IsDatagramTaken.{dropped, handled, told_again, closed_too, draining, drained}
-use Rattle.qh_conn.specs.Receiving.IsPacketHandled.{repeated, empty, faulty, taken}
+use Rattle.qh_conn.specs.Receiving.IsPacketHandled.{repeated, empty, faulty, unnoted, taken}
 use Rattle.qh_conn.specs.Sending.{AreFramesMade}
 use Rattle.qh_conn.specs.Sending.AreFramesMade.{packet, close}
 use Rattle.qh_conn.specs.Timers.{IsKeptByTimers, IsTimedOut, IsUndisturbed, RunsOn, restarted, sent_at}
@@ -83,6 +83,7 @@ module _ {S : Type 0} where
   handled_undisturbed now number bytes old new (repeated is e) = same_undisturbed now old new e
   handled_undisturbed now number bytes old new (empty fault is no_byte says f) = faulted now fault old new f
   handled_undisturbed now number bytes old new (faulty fault kind is at says f) = faulted now fault old new f
+  handled_undisturbed now number bytes old new (unnoted fault eliciting is read at f) = faulted now fault old new f
   handled_undisturbed now number bytes old new (taken is p) = packet_undisturbed now number bytes old new p
 
   datagram_undisturbed : (accepts : Side → Space → ℕ → List ℕ → Bool) (now : Moment) (datagram : List ℕ) (old new : Inner S) → IsDatagramTaken accepts now datagram old new → IsUndisturbed now old new

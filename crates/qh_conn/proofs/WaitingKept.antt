@@ -10,7 +10,7 @@ use Rattle.qh_conn.specs.Inner.{is_open}
 use Rattle.qh_conn.specs.Receiving.{AreFramesTaken, IsDatagramTaken, IsPacketHandled, IsPacketTaken}
 use Rattle.qh_conn.specs.Receiving.AreFramesTaken.{none as none_taken, more as more_taken, closed as closed_taken, refused as refused_taken}
 use Rattle.qh_conn.specs.Receiving.IsDatagramTaken.{dropped, handled, told_again, closed_too, draining as in_draining, drained as in_drained}
-use Rattle.qh_conn.specs.Receiving.IsPacketHandled.{repeated, empty, faulty, taken as in_taken}
+use Rattle.qh_conn.specs.Receiving.IsPacketHandled.{repeated, empty, faulty, unnoted, taken as in_taken}
 use Rattle.qh_conn.specs.Sending.{AreFramesMade, IsDatagramMade, NothingIsSent}
 use Rattle.qh_conn.specs.Sending.AreFramesMade.{packet as packet_made, close as close_made}
 use Rattle.qh_conn.specs.Timers.{AreLostByAge, IsProbed, IsTimedOut}
@@ -98,6 +98,7 @@ module _ {S : Type 0} where
   handled_or_still now number frames old new (repeated before is) = inl (ap (λ (c : Inner S). c.space) is)
   handled_or_still now number frames old new (empty e fresh none fault f) = inl (ap (λ (c : Inner S). c.space) f.closed.rest_is)
   handled_or_still now number frames old new (faulty e kind fresh bad fault f) = inl (ap (λ (c : Inner S). c.space) f.closed.rest_is)
+  handled_or_still now number frames old new (unnoted e eliciting fresh read at f) = inl (ap (λ (c : Inner S). c.space) f.closed.rest_is)
   handled_or_still now number frames old new (in_taken fresh t) = inr (number, frames, t)
 
   pub taken_or_still : (accepts : Side → Space → ℕ → List ℕ → Bool) (now : Moment) (datagram : List ℕ) (old new : Inner S) → IsDatagramTaken accepts now datagram old new

@@ -25,11 +25,12 @@ use Rattle.qh_space.specs.Receiving.{coming_of}
 use Rattle.qh_space.specs.declared.data_space.DataSpace.{DataSpace}
 use Rattle.qh_spec.specs.Carried.{HasRun}
 use Rattle.qh_spec.specs.Datagram.{Packet, HasPacket}
+use Rattle.qh_spec.specs.FrameTypes as frame_types
 use Rattle.qh_spec.specs.Link.{other}
 use Rattle.qh_spec.specs.Lists.{In, Distinct}
 use Rattle.qh_spec.specs.QuicFrame.{StreamFrame as Run}
-use Rattle.qh_spec.specs.QuicFrames.{QuicFrame}
-use Rattle.qh_spec.specs.Transcript.{Act, HandedIn, HandedOut, Wrote, Finished, Reset, Stopped, handed_in, handed_out}
+use Rattle.qh_spec.specs.QuicFrames.{QuicFrame, Num}
+use Rattle.qh_spec.specs.Transcript.{Act, HandedIn, HandedOut, Wrote, Finished, Reset, Stopped, handed_in, handed_out, written}
 use Rattle.qh_spec.specs.declared.sides.Side.{Side}
 use Rattle.qh_spec.specs.declared.sides.Space.TheVariants.{Data}
 use Rattle.qh_streams.specs.Streams.{PlainStreams, first_limit}
@@ -107,32 +108,42 @@ pub record HasNumber (id_length : ℕ) (datagrams : List (List ℕ)) (sender : S
   pub sender_is : packet.sender ≡ sender
   pub number_is : packet.number ≡ number
 
--- ---- the peer's limits (RFC 9000, sections 4.1 and 4.6)
+-- ---- the peer's limits (RFC 9000, sections 4.1, 4.5 and 4.6)
 
 -- the run has a byte, or the end
 abbrev pub HasSomething : Run → Type 0
 HasSomething run = (0 < length run.payload) ⊎ (run.fin ≡ true)
 
--- The datagram keeps within limits that the peer gave before, in frames that came, or at first. Each STREAM frame in it ends within
--- the limit of its stream. Whatever STREAM frames are taken from it and from those handed out before, one of each stream, their
--- ends come to no more in sum than the limit of all streams. Each stream of this end's that a STREAM frame in it names is one of
--- those that the peer permits. All this of frames that have a byte, or the end.
+-- a RESET_STREAM frame (RFC 9000, section 19.4)
+abbrev pub reset_frame : (id code size : ℕ) → QuicFrame
+reset_frame id code size = record { kind = frame_types.reset_stream; values = Num id ∷ Num code ∷ Num size ∷ [] }
+
+-- A frame of the sender's in these datagrams takes a stream up to an offset: a STREAM frame that has a byte, or the end, up to the
+-- end of its bytes; a RESET_STREAM frame up to its final size (RFC 9000, sections 4.1 and 4.5).
+pub data Reaches (id_length : ℕ) (datagrams : List (List ℕ)) (sender : Side) : (id end : ℕ) → Type 0 where
+  run : (run : Run) → HasRun id_length datagrams sender run → HasSomething run → Reaches id_length datagrams sender run.id (run.offset + length run.payload)
+  reset : (id code size : ℕ) → HasFrame id_length datagrams sender (reset_frame id code size) → Reaches id_length datagrams sender id size
+
+-- The datagram keeps within limits that the peer gave before, in frames that came, or at first. Each STREAM and RESET_STREAM frame
+-- in it takes its stream no farther than the limit of that stream. Whatever such frames are taken from it and from those handed out
+-- before, one of each stream, the offsets up to which they take their streams come to no more in sum than the limit of all streams.
+-- Each stream of this end's that such a frame in it names is one of those that the peer permits. All this of STREAM frames that
+-- have a byte, or the end, and of all RESET_STREAM frames.
 pub record IsWithinLimits (own_length peer_length : ℕ) (side : Side) (config : ConnConfig) (before : List Act) (datagram : List ℕ) : Type 0 where
   pub streams : PlainStreams
   pub of : AreOf side (peer_of config.limits) streams
   pub given : List StreamFrame
   pub came : (f : StreamFrame) → In f given → HasComing own_length (handed_in before) (other side) f
-  pub all_bytes : (runs : List Run) → Distinct (map (λ (r : Run). r.id) runs)
-      → ((run : Run) → In run runs → HasRun peer_length (handed_out before ++ datagram ∷ []) side run × HasSomething run)
-      → sum_by (λ (r : Run). r.offset + length r.payload) runs ≤ greatest data_given streams.peer.max_data given
-  pub stream_bytes : (run : Run) → HasRun peer_length (datagram ∷ []) side run → HasSomething run
-      → run.offset + length run.payload ≤ greatest (stream_given run.id) (first_limit streams run.id) given
-  pub count : (run : Run) → HasRun peer_length (datagram ∷ []) side run → HasSomething run → is_own side run.id ≡ true
-      → index_of run.id < greatest (count_given (is_bi run.id)) (first_count streams (is_bi run.id)) given
+  pub all_bytes : (ends : List (ℕ × ℕ)) → Distinct (map (λ (e : ℕ × ℕ). e.0) ends)
+      → ((e : ℕ × ℕ) → In e ends → Reaches peer_length (handed_out before ++ datagram ∷ []) side e.0 e.1)
+      → sum_by (λ (e : ℕ × ℕ). e.1) ends ≤ greatest data_given streams.peer.max_data given
+  pub stream_bytes : (id end : ℕ) → Reaches peer_length (datagram ∷ []) side id end → end ≤ greatest (stream_given id) (first_limit streams id) given
+  pub count : (id end : ℕ) → Reaches peer_length (datagram ∷ []) side id end → is_own side id ≡ true
+      → index_of id < greatest (count_given (is_bi id)) (first_count streams (is_bi id)) given
 
 module _ {S : Type 0} where
-  -- The connection stands so to all that was done with it. Each run that it handed out was written and within the limits; what
-  -- its readers got came to it. Where want of memory ended it, its streams of before do.
+  -- The connection stands so to all that was done with it. Each run that it handed out was written and within the limits, and so
+  -- was each final size; what its readers got came to it. Where want of memory ended it, its streams of before do.
   pub record Following (c : Inner S) (t : List Act) : Type 0 where
     pub space : DataSpace
     pub is_space : (c.error ≡ Some Memory) ⊎ (c.space ≡ space)
@@ -145,6 +156,7 @@ module _ {S : Type 0} where
     pub given : List StreamFrame
     pub gave : (f : StreamFrame) → In f given → HasComing (length c.local_id) (handed_in t) (other c.side) f
     pub within : KeepsWithin space.streams given t
+    pub resets : (id code size : ℕ) → HasFrame (length c.remote_id) (handed_out t) c.side (reset_frame id code size) → size ≤ length (written t id)
     pub each_within : (before after : List Act) (datagram : List ℕ) → t ≡ before ++ HandedOut datagram ∷ after
         → IsWithinLimits (length c.local_id) (length c.remote_id) c.side c.config before datagram
     pub accepted : List ℕ

@@ -72,6 +72,12 @@ pub data AreFramesTaken (now : ℕ) : (bytes : List ℕ) → (old new : DataSpac
   refused : (bytes rest : List ℕ) (frame : Frame) (s : DataSpace) (e : TransportError) → Begins bytes (plain_of frame) rest
       → HasType bytes frame → IsRefusal (Transport e) (frame_refusal s frame) → AreFramesTaken now bytes s s [] (Some (Fault e))
 
+-- The bytes begin with a frame that isn't refused; or they do behind frames that were taken, none of which closed.
+pub data StopsUnrefused (now : ℕ) : (bytes : List ℕ) → DataSpace → Type 0 where
+  here : (bytes rest : List ℕ) (frame : Frame) (s : DataSpace) → Begins bytes (plain_of frame) rest → frame_refusal s frame ≡ None → StopsUnrefused now bytes s
+  behind : (bytes rest : List ℕ) (frame : Frame) (old mid : DataSpace) → Begins bytes (plain_of frame) rest → frame_refusal old frame ≡ None
+      → IsFrameTaken now old mid frame None → StopsUnrefused now rest mid → StopsUnrefused now bytes old
+
 -- a CONNECTION_CLOSE (section 19.19)
 abbrev pub is_close : QuicFrame → Bool
 is_close f = f.kind == frame_types.connection_close || f.kind == frame_types.application_close
@@ -145,12 +151,32 @@ module _ {S : Type 0} where
     pub goes_on : GoesOnWith now end (record old { space = space; idle = restarted now old.idle }) new
 
   -- What a packet does whose tag was accepted: nothing where its number isn't new; a packet without a frame, or with bytes that
-  -- are no frame, is a fault (sections 12.4 and 20.1), and no frame of it is taken.
+  -- are no frame, is a fault (sections 12.4 and 20.1), and no frame of it is taken. Nor is one taken where memory is wanting to note
+  -- the number: then a fault of its first frame closes all the same.
   pub data IsPacketHandled (now : Moment) (number : ℕ) (frames : List ℕ) (old new : Inner S) : Type 0 where
     repeated : IsOldTo old.space number → new ≡ old → IsPacketHandled now number frames old new
     empty : (e : TransportError) → IsNewTo old.space number → frames ≡ [] → IsFault codes.protocol_violation None e → IsFaulted now e old new → IsPacketHandled now number frames old new
     faulty : (e : TransportError) (kind : Option ℕ) → IsNewTo old.space number → IsFaultyFrame frames kind → IsFault codes.frame_encoding_error (option_map named kind) e → IsFaulted now e old new → IsPacketHandled now number frames old new
+    unnoted : (e : TransportError) (is_eliciting : Bool) → IsNewTo old.space number → AreValidFrames frames is_eliciting → AreFramesTaken now.0 frames old.space old.space [] (Some (Fault e)) → IsFaulted now e old new → IsPacketHandled now number frames old new
     taken : IsNewTo old.space number → IsPacketTaken now number frames old new → IsPacketHandled now number frames old new
+
+  -- Memory is wanting for a packet whose tag was accepted: its number is new, its bytes are frames, and none of those that were read is
+  -- refused, nor the one at which memory is wanting.
+  pub record IsPacketUnread (now : Moment) (number : ℕ) (frames : List ℕ) (old : Inner S) : Type 0 where
+    pub is_new : IsNewTo old.space number
+    pub is_eliciting : Bool
+    pub surveyed : AreValidFrames frames is_eliciting
+    pub mid : DataSpace
+    pub mid_is : mid ≡ record old.space { dedup = mid.dedup; acks = mid.acks }
+    pub stops : StopsUnrefused now.0 frames mid
+
+  -- memory is wanting for a datagram: the connection is open, and the datagram is a packet for it
+  pub record IsDatagramUnread (accepts : Side → Space → ℕ → List ℕ → Bool) (now : Moment) (datagram : List ℕ) (old : Inner S) : Type 0 where
+    pub opened : is_open old.state ≡ true
+    pub number : ℕ
+    pub frames : List ℕ
+    pub is : IsOpenedBy accepts old datagram number frames
+    pub unread : IsPacketUnread now number frames old
 
   -- the datagram is a packet that closes: it has a CONNECTION_CLOSE, and all its frames can be read, with values in range
   pub record BringsClose (accepts : Side → Space → ℕ → List ℕ → Bool) (c : Inner S) (datagram : List ℕ) : Type 0 where
@@ -185,6 +211,11 @@ module _ {S : Type 0} where
   IsEventTaken accepts (Datagram now remote payload) old new = IsDatagramTaken accepts now payload (received (Datagram now remote payload) old) new
   IsEventTaken accepts (Close now code reason) old new =
       MatchBool (is_open old.state) (IsClosedWith now (Application (record { error_code = code; reason = reason })) LocallyClosed old new) (new ≡ old)
+
+  -- memory is wanting for what is handed in: for a datagram, and for no close
+  abbrev pub IsWantingFor : (accepts : Side → Space → ℕ → List ℕ → Bool) → ConnectionEvent → (old : Inner S) → Type 0
+  IsWantingFor accepts (Datagram now remote payload) old = IsDatagramUnread accepts now payload (received (Datagram now remote payload) old)
+  IsWantingFor accepts (Close now code reason) old = ⊥
 
 -- when it is handed in
 abbrev pub handed_at : ConnectionEvent → Moment

@@ -3,7 +3,7 @@ ghost use Rattle.qh_base.specs.declared.connection_error.ConnectionError.TheVari
 ghost use Rattle.qh_conn.specs.Event.{IsDrainedTold, IsPolledEvent, is_drained};
 ghost use Rattle.qh_conn.specs.Follows.{Follows, event_acts, transmit_acts};
 ghost use Rattle.qh_conn.specs.Inner.{HaveSameCounts, IsFailedBy, IsNewSpace, IsSameEnd, fresh_stats, is_open};
-ghost use Rattle.qh_conn.specs.Receiving.{IsClosedWith, IsEventTaken, handed_at, received};
+ghost use Rattle.qh_conn.specs.Receiving.{IsClosedWith, IsEventTaken, IsWantingFor, handed_at, received};
 ghost use Rattle.qh_conn.specs.Sending.{IsDatagramMade, NothingIsSent};
 ghost use Rattle.qh_conn.specs.Timers.{IsDueAt, IsFirstDue, IsKeptByTimers, IsTimedOut, IsUndisturbed};
 ghost use Rattle.qh_conn.specs.declared.state.Close.TheVariants.{Application};
@@ -94,11 +94,13 @@ impl<S: Session> Connection<S> {
 
     /// Takes what is handed in from outside. A datagram that isn't a packet for this end, by its id and its tag, is dropped, and
     /// a packet whose number isn't new. A packet without a frame and a frame at fault close the connection with PROTOCOL_VIOLATION,
-    /// FRAME_ENCODING_ERROR or the code of the frame's refusal (RFC 9000, section 20.1), unless memory is wanting. Want of memory
-    /// ends the connection: the error that it keeps is Memory then, and what waited to be read is dropped.
+    /// FRAME_ENCODING_ERROR or the code of the frame's refusal (RFC 9000, section 20.1). Want of memory ends the connection: the
+    /// error that it keeps is Memory then, and what waited to be read is dropped. It is answered only for a packet whose number is
+    /// new and whose bytes are frames, the first of which isn't refused.
     pub fn handle_event(&mut self, event: ConnectionEvent) -> Result<(), Memory>
         ensures ok { OnOk result (IsEventTaken (S.accepts self.old.session) event self.old self.new) }
         ensures err { OnErr result (IsFailedBy (received event self.old) self.new) }
+        ensures wanting { OnErr result (IsWantingFor (S.accepts self.old.session) event self.old) }
         ensures follows { (t : List Act) → Follows self.old t → Follows self.new (t ++ event_acts event) }
         ensures undisturbed { OnOk result (IsUndisturbed (handed_at event) self.old self.new) }
         ensures same_end { IsSameEnd self.old self.new }
@@ -268,7 +270,8 @@ impl<S> Connection<S> {
 
     /// Which end this is.
     pub fn side(&self) -> Side
-        ensures { result ≡ self.now.side }
+        ensures value { result ≡ self.now.side }
+        ensures streams { self.now.space.streams.side ≡ result }
     {
         self.inner.side
     }

@@ -18,7 +18,8 @@ ghost use Rattle.qh_streams.specs.Streams.{PlainStreams, AreWritten};
 ghost use Rattle.qh_streams.specs.declared.frames.SentFrame.{SentFrame};
 
 /// Whatever came to a connection, it keeps the laws of an end of a connection: it sends of a stream only what was written there,
-/// and gives to readers only what was carried to it. And each datagram keeps within the limits that the peer had given before.
+/// and gives to readers only what was carried to it. And the STREAM and RESET_STREAM frames of each datagram keep within the limits
+/// that the peer had given before.
 pub fn lawful<S>()
     ensures faithful { (c : AnInner S) (t : List Act) → Follows c t → Lawful c.side (length c.local_id) (length c.remote_id) t }
     ensures within { (c : AnInner S) (t before after : List Act) (datagram : List ℕ) → Follows c t → t ≡ before ++ HandedOut datagram ∷ after

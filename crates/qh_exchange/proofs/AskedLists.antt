@@ -7,7 +7,6 @@ use Rattle.qh_conn.specs.declared.config.ConnConfig.{ConnConfig}
 use Rattle.qh_message.specs.Written.{CanBeWritten}
 use Rattle.qh_roles.specs.Client.{AreAskable, PlainClient, held}
 use Rattle.qh_service.specs.declared.service.Limits.{Limits}
-use Rattle.qh_spec.specs.declared.link.Event.{Event}
 use Rattle.qh_spec.specs.Message.{IsRequest, PlainHead, PlainMessage, Request, Response}
 use Rattle.qh_spec.specs.Same.{bytes_under}
 use Rattle.qh_spec.specs.Validity.{IsValidHead, IsValidList, IsValidRequest}

@@ -9,7 +9,7 @@ use Rattle.qh_conn.proofs.Ends.{ended_with}
 use Rattle.qh_conn.specs.Inner.{IsSameEnd, is_open}
 use Rattle.qh_conn.specs.Receiving.{GoesOnWith, IsDatagramTaken, IsPacketHandled}
 use Rattle.qh_conn.specs.Receiving.IsDatagramTaken.{dropped, handled, told_again, closed_too, draining, drained}
-use Rattle.qh_conn.specs.Receiving.IsPacketHandled.{repeated, empty, faulty, taken}
+use Rattle.qh_conn.specs.Receiving.IsPacketHandled.{repeated, empty, faulty, unnoted, taken}
 use Rattle.qh_conn.specs.Timers.{IsTimedOut, RunsOn}
 use Rattle.qh_conn.specs.Timers.IsTimedOut.{idle, recovery, closed, draining as drained_then, waits, drained as was_drained}
 use Rattle.qh_packet.specs.Session.{PlainKeys}
@@ -39,6 +39,7 @@ handled_session : (now : Moment) (number : ℕ) (bytes : List ℕ) (old new : En
 handled_session now number bytes old new (repeated is e) = ap (λ (c : End). c.session) e
 handled_session now number bytes old new (empty fault is no_byte says f) = ap (λ (c : End). c.session) f.closed.rest_is
 handled_session now number bytes old new (faulty fault kind is at says f) = ap (λ (c : End). c.session) f.closed.rest_is
+handled_session now number bytes old new (unnoted fault eliciting is read at f) = ap (λ (c : End). c.session) f.closed.rest_is
 handled_session now number bytes old new (taken is p) = goes_on_session now p.end _ new p.goes_on
 
 pub datagram_session : (accepts : Side → Space → ℕ → List ℕ → Bool) (now : Moment) (datagram : List ℕ) (old new : End) → IsDatagramTaken accepts now datagram old new → new.session ≡ old.session

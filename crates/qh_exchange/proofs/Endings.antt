@@ -1,42 +1,41 @@
 -- How runs end.
-use Rattle.std.proofs.Common.{◌≡◌, ◌≢◌, ◌⊎◌, inl, inr, ℕ, suc, ◌+◌, ◌≤◌, List, [], ◌∷◌, ◌++◌, length, Result, Option, refl, sym, ap, ◌∙◌, subst, arith}
-use Rattle.std.specs.Prelude.{IfOk, IfErr, Ok, Err, Some, None, IfSome, IfNone, flat_map}
-use Rattle.std.proofs.lemmas.Result.{IfOk-weaker}
-use Rattle.qh_base.specs.declared.memory.Memory.{Memory as OutOfMemory}
+use Rattle.std.proofs.Common.{◌≡◌, ◌≢◌, ◌⊎◌, inl, inr, ℕ, suc, ◌+◌, ◌≤◌, List, [], ◌∷◌, ◌++◌, length, Option, refl, sym, ap, ◌∙◌, subst, arith, append-nil}
+use Rattle.std.specs.Prelude.{Ok, Some, None, IfSome, IfNone}
 use Rattle.qh_link.specs.ScriptLink.{PlainLink}
 use Rattle.qh_spec.specs.Message.{PlainMessage}
 use Rattle.qh_spec.specs.Record.{PlainEntry}
-use Rattle.qh_spec.specs.Report.{entry_block, report_of}
+use Rattle.qh_spec.specs.Report.{report_of}
 use Rattle.qh_spec.specs.Schedule.{IsUnforged}
 use Rattle.qh_spec.specs.Script.{Script, IsScript, max_script}
 use Rattle.qh_spec.specs.TokenFilter.{TokenLimits}
 use Rattle.qh_spec.specs.TokenLog.{Token}
 use Rattle.qh_spec.specs.TokenScript.{IsTokenScript, token_report}
 use Rattle.qh_spec.specs.Words.{Command, IsCommand, Exchange, Make, Workers, Tokens}
+use Rattle.qh_exchange.specs.declared.ending.Ending.{Ending}
+use Rattle.qh_exchange.specs.declared.ending.Outcome.{Outcome}
+use Rattle.qh_exchange.specs.declared.ending.Outcome.TheVariants.{Done, Failed}
 use Rattle.qh_exchange.specs.declared.error.ExchangeError.{ExchangeError}
-use Rattle.qh_exchange.specs.declared.error.ExchangeError.TheVariants.{Memory}
-use Rattle.qh_exchange.specs.declared.program.Ending.{Ending}
-use Rattle.qh_exchange.specs.Endings.{EndsFailed}
-use Rattle.qh_exchange.specs.Program.{IsLastLine, invalid, timed_out, out_of_rounds, link, protocol, memory_wanting, HasRun, ScriptEnds, answered, failed, TextEnds, refused, unbuilt, ran, TokensEnd, looked, Ends, usage, unbuilt_words, read_fault, read, tokens, memory, AreLookedAt, IsAnswered, IsWanting, IsWantingText, LeavesWanting, nothing_done, exchanged, memory_line}
+use Rattle.qh_exchange.specs.declared.error.ExchangeError.TheVariants.{Invalid, Link, TimedOut, OutOfRounds, Protocol, Memory}
+use Rattle.qh_exchange.specs.Endings.{EndsLooked, all_looked, wanting_tokens}
+use Rattle.qh_exchange.specs.Ending.{error_status, line_of, status_of, text_of}
+use Rattle.qh_exchange.specs.Program.{HasRun, ScriptEnds, answered, failed, unlisted, unreported, neither, TextEnds, refused, unbuilt, ran, wanting, TokensEnd, looked, Ends, usage, unbuilt_words, read_fault, unread, read, tokens, AreLookedAt, IsAnswered}
 use Rattle.qh_exchange.specs.Reading.{IsRead, IsInput, all, front, IsAppended, IsWritten, whole, cut}
 use Rattle.qh_exchange.specs.Unbuilt.{IsUnbuiltLine, IsUnbuiltAt}
 use Rattle.qh_exchange.proofs.Unbuilt.{AreBuilt}
 
-both_as : (P : ℕ → List ℕ → Type 0) (status s : ℕ) (text t : List ℕ) → P status text → s ≡ status → t ≡ text → P s t
-both_as P status s text t p e f = subst (λ (z : ℕ). P z t) (sym e) (subst (P status) (sym f) p)
+-- an ending with this text and this outcome
+pub ends_by : (P : ℕ → List ℕ → Type 0) (e : Ending) (text : List ℕ) (o : Outcome) → e.text.items ≡ text → e.last ≡ o → P (status_of o) (text ++ line_of o)
+    → P (status_of e.last) (text_of e)
+ends_by P e text o t l p = subst (λ (z : List ℕ). P (status_of e.last) (z ++ line_of e.last)) (sym t) (subst (λ (z : Outcome). P (status_of z) (text ++ line_of z)) (sym l) p)
 
--- a line that was made has this status and this text
-pub ends_as : (r : Result Ending OutOfMemory) (P : ℕ → List ℕ → Type 0) (status : ℕ) (text : List ℕ) → P status text
-    → IfOk r (λ (x : Ending). (x.status ≡ status) × (x.text.items ≡ text)) → IfOk r (λ (x : Ending). P x.status x.text.items)
-ends_as r P status text p made =
-    IfOk-weaker r (λ (x : Ending). (x.status ≡ status) × (x.text.items ≡ text)) (λ (x : Ending). P x.status x.text.items)
-    (λ x h. both_as P status x.status text x.text.items p h.0 h.1) made
+-- an ending that is whole without another line
+pub ends_done : (P : ℕ → List ℕ → Type 0) (e : Ending) (text : List ℕ) → e.text.items ≡ text → e.last ≡ Done → P 0 text → P (status_of e.last) (text_of e)
+ends_done P e text t l p = ends_by P e text Done t l (subst (P 0) (sym (append-nil text)) p)
 
--- the line that was made is the error's
-pub line_of_error : (r : Result Ending OutOfMemory) (e f : ExchangeError) (status : ℕ) (text : List ℕ) → e ≡ f → IsLastLine f status text
-    → IfOk r (λ (x : Ending). (x.status ≡ status) × (x.text.items ≡ text)) → IfOk r (λ (x : Ending). IsLastLine e x.status x.text.items)
-line_of_error r e f status text same line made =
-    ends_as r (IsLastLine e) status text (subst (λ (z : ExchangeError). IsLastLine z status text) (sym same) line) made
+-- how commands on a token log end
+pub looked_ends : (text : List ℕ) (limits : TokenLimits) (ts : List Token) (e : Ending) → IsTokenScript text limits ts → EndsLooked limits ts e → TokensEnd text (status_of e.last) (text_of e)
+looked_ends text limits ts e is (all_looked t l) = ends_done (TokensEnd text) e (token_report limits ts) t l (looked limits ts is)
+looked_ends text limits ts e is (wanting_tokens t l) = ends_by (TokensEnd text) e [] (Failed Memory) t l (wanting limits ts is)
 
 -- what is known of an option, where it is there or not
 pub at_some : {X : Type 0} (P : X → Type 0) (o : Option X) (x : X) → o ≡ Some x → IfSome o P → P x
@@ -82,17 +81,20 @@ pub record IsDone (s : Script) (link : PlainLink) (served : List PlainEntry) (te
   pub run : HasRun s link served (Ok answers)
   pub told : IsUnforged s.schedule → text ≡ report_of s.config.max_response_body s.requests
 
-no_last : (e : ExchangeError) (status : ℕ) (last : List ℕ) → status ≡ 0 → IsLastLine e status last → ⊥
-no_last e status last z (invalid index) = absurd (omega arith)
-no_last e status last z timed_out = absurd (omega arith)
-no_last e status last z out_of_rounds = absurd (omega arith)
-no_last e status last z link = absurd (omega arith)
-no_last e status last z (protocol x) = absurd (omega arith)
-no_last e status last z memory_wanting = absurd (omega arith)
+no_status : (e : ExchangeError) → error_status e ≡ 0 → ⊥
+no_status (Invalid index) z = absurd (omega arith)
+no_status TimedOut z = absurd (omega arith)
+no_status OutOfRounds z = absurd (omega arith)
+no_status Link z = absurd (omega arith)
+no_status (Protocol x) z = absurd (omega arith)
+no_status Memory z = absurd (omega arith)
 
 script_done : (s : Script) (l : PlainLink) (served : List PlainEntry) (status : ℕ) (text : List ℕ) → status ≡ 0 → ScriptEnds s l served status text → IsDone s l served text
 script_done s l served status text z (answered answers run told) = record { answers = answers; run = run; told = told }
-script_done s l served status text z (failed e st last run line) = absurd (no_last e st last z line)
+script_done s l served status text z (failed e run) = absurd (no_status e z)
+script_done s l served status text z (unlisted e run) = absurd (no_status e z)
+script_done s l served status text z (unreported answers run) = absurd (omega arith)
+script_done s l served status text z (neither answers run) = absurd (omega arith)
 
 pub record IsTextDone (text : List ℕ) (l : PlainLink) (served : List PlainEntry) (written : List ℕ) : Type 0 where
   pub script : Script
@@ -103,6 +105,7 @@ text_done : (text : List ℕ) (o l : PlainLink) (served : List PlainEntry) (stat
     → IsTextDone text l served written
 text_done text o l served status written z (refused n r u same) = absurd (omega arith)
 text_done text o l served status written z (unbuilt n u r same) = absurd (omega arith)
+text_done text o l served status written z (wanting s is_script none same) = absurd (omega arith)
 text_done text o l served status written z (ran s st w is_script none ends) =
     record { script = s; is_script = is_script; done = script_done s l served st w z ends }
 
@@ -120,6 +123,7 @@ pub record IsTokensDone (text written : List ℕ) : Type 0 where
 
 tokens_done : (text : List ℕ) (status : ℕ) (written : List ℕ) → status ≡ 0 → TokensEnd text status written → IsTokensDone text written
 tokens_done text status written z (refused n r) = absurd (omega arith)
+tokens_done text status written z (wanting limits ts commands) = absurd (omega arith)
 tokens_done text status written z (looked limits ts commands) = record { limits = limits; tokens = ts; commands = commands; told = refl }
 
 pub record AreAllLookedAt (words : List (List ℕ)) (left_before left_after : Option (List ℕ)) (written : List ℕ) : Type 0 where
@@ -133,13 +137,13 @@ all_done : (words : List (List ℕ)) (left_before left_after : Option (List ℕ)
 all_done words left_before left_after f g o l served status written z (usage u same) = absurd (omega arith)
 all_done words left_before left_after f g o l served status written z (unbuilt_words c is n m same) = absurd (omega arith)
 all_done words left_before left_after f g o l served status written z (read_fault w r same) = absurd (omega arith)
+all_done words left_before left_after f g o l served status written z (unread bytes w some r same) = absurd (omega arith)
 all_done words left_before left_after f g o l served status written z (read text st w is input ends) =
     let done = text_done text o l served st w z ends in
     inl (record { words_are = is; text = text; read = read_whole left_before left_after text done.is_script.short input; done = done })
 all_done words left_before left_after f g o l served status written z (tokens text st w is input ends same) =
     let done = tokens_done text st w z ends in
     inr (record { words_are = is; text = text; read = read_whole left_before left_after text done.commands.short input; done = done })
-all_done words left_before left_after f g o l served status written z (memory w leaves text) = absurd (omega arith)
 
 written_whole : (status : ℕ) (text : List ℕ) (before after : Option (List ℕ)) (f g result : ℕ) → result ≡ 0 → IsWritten status text before after f g result
     → (status ≡ 0) × IsAppended before after text
@@ -177,24 +181,3 @@ answered_whole words left_before left_after f g o l served written_before writte
             written = subst (IsAppended written_before written_after) d.done.told w.1;
           })
     ]
-
--- ---- status 9
-
-wanting_last : (e : ExchangeError) (status : ℕ) (last : List ℕ) → e ≡ Memory → IsLastLine e status last → last ≡ memory_line
-wanting_last e status last is (invalid index) = cc
-wanting_last e status last is timed_out = cc
-wanting_last e status last is out_of_rounds = cc
-wanting_last e status last is link = cc
-wanting_last e status last is (protocol x) = cc
-wanting_last e status last is memory_wanting = refl
-
--- the entries and the line of an exchange that memory ended
-pub wanting_text : (served : List PlainEntry) (status : ℕ) (text : List ℕ) → EndsFailed served Memory status text → IsWantingText served text
-wanting_text served status text ends = inl (ends.text_is ∙ ap (λ (z : List ℕ). flat_map entry_block served ++ z) (wanting_last Memory status ends.last refl ends.last_is))
-
--- memory was wanting for what was to be done with a text that was read
-pub leaves_text : {T : Type 0} (words : List (List ℕ)) (left_before left_after : Option (List ℕ)) (o l : PlainLink) (served : List PlainEntry) (text : List ℕ) (r : Result T OutOfMemory)
-    → IsCommand words Exchange → IsInput left_before left_after text → IfErr r (λ _. IsWanting text o l served) → IfErr r (λ _. LeavesWanting words left_before left_after o l served)
-leaves_text words left_before left_after o l served text (Ok x) is input wanting = tt
-leaves_text words left_before left_after o l served text (Err e) is input (inl same) = nothing_done same
-leaves_text words left_before left_after o l served text (Err e) is input (inr done) = exchanged text is input done

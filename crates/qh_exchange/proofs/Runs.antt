@@ -1,9 +1,7 @@
 -- What an exchange of a script's requests leaves behind, where a service echoes over a link in memory.
-use Rattle.std.proofs.Common.{◌≡◌, ℕ, List, [], ◌++◌, Option, Some, None, Result, Ok, Err, refl, sym, ap, ◌∙◌, subst}
-use Rattle.std.specs.Prelude.{IfOk, IfErr, All}
-use Rattle.std.proofs.lemmas.Result.{IfOk-weaker}
+use Rattle.std.proofs.Common.{◌≡◌, ℕ, List, [], ◌++◌, length, Option, Some, None, Result, Ok, Err, refl, sym, ap, ◌∙◌, subst}
+use Rattle.std.specs.Prelude.{IfOk, IfErr, IsOk, All, flat_map}
 use Rattle.qh_base.specs.declared.connection_error.ConnectionError.{ConnectionError}
-use Rattle.qh_base.specs.declared.memory.Memory.{Memory as OutOfMemory}
 use Rattle.qh_link.specs.ScriptLink.{PlainLink, plan_of}
 use Rattle.qh_plain.specs.Undecided.{IsUndecidedList}
 use Rattle.qh_roles.specs.Server.{GrewByAnswers}
@@ -18,23 +16,28 @@ use Rattle.qh_spec.specs.Link.{moments_of}
 use Rattle.qh_spec.specs.Lists.{In}
 use Rattle.qh_spec.specs.Message.{PlainMessage}
 use Rattle.qh_spec.specs.Record.{PlainEntry}
+use Rattle.qh_spec.specs.Report.{entry_block, report_of}
 use Rattle.qh_spec.specs.Schedule.{Plan, IsScheduled, IsUnforged}
 use Rattle.qh_spec.specs.Script.{Script, rounds_of}
 use Rattle.qh_spec.specs.Service.{echo}
 use Rattle.qh_spec.specs.Validity.{IsFaultIndex, IsValidList}
+use Rattle.qh_script.specs.Report.{HaveMaps, report_by}
 use Rattle.qh_spec.proofs.Schedules.{unforged_is_honest}
 use Rattle.qh_exchange.specs.declared.error.ExchangeError.{ExchangeError}
 use Rattle.qh_exchange.specs.declared.error.ExchangeError.TheVariants.{Invalid, Link, TimedOut, OutOfRounds, Protocol, Memory}
-use Rattle.qh_exchange.specs.declared.program.Ending.{Ending}
-use Rattle.qh_exchange.specs.Endings.{EndsAnswered, EndsFailed, IsRunAs}
+use Rattle.qh_exchange.specs.declared.ending.Ending.{Ending}
+use Rattle.qh_exchange.specs.declared.ending.Outcome.TheVariants.{Failed, Unlisted}
+use Rattle.qh_exchange.specs.Ending.{status_of, text_of}
+use Rattle.qh_exchange.specs.Endings.{EndsAnswered, EndsFailed, IsRunAs, listed, left_out, reported, wanting}
 use Rattle.qh_exchange.specs.Exchange.{IfInvalid, IfOutOfRounds, IfProtocol, IfTimedOut, IsInvalidAnswer}
 use Rattle.qh_exchange.specs.Pair.{KeepWithin}
-use Rattle.qh_exchange.specs.Program.{AreEchoes, HasRun, ScriptEnds, answered, failed}
+use Rattle.qh_exchange.specs.Program.{AreEchoes, HasRun, ScriptEnds, answered, failed, unlisted, unreported, neither}
 use Rattle.qh_exchange.specs.Settings.{conn_config}
 use Rattle.qh_exchange.specs.Sound.{EndsFairly}
 use Rattle.qh_exchange.specs.Turn.{RanOut, WasIdle, WasLost, has_link_failed}
 use Rattle.qh_exchange.proofs.Fairness.{fair_again}
-use Rattle.qh_exchange.proofs.Reported.{reported}
+use Rattle.qh_exchange.proofs.Endings.{ends_by, ends_done}
+use Rattle.qh_exchange.proofs.Reported.{reported as told_of}
 
 -- ---- what is known of an exchange
 
@@ -52,6 +55,8 @@ pub record Exchanged {V : Type 0} (items : V → List PlainMessage) (config : Pl
   pub answered : IsHonest new.events → IfOk r (λ v. AnsweredOnce config.local_id_len new.events requests [] after (items v))
   pub once : IsHonest new.events → ServedOnce config.local_id_len new.events requests [] after
   pub within : KeepWithin config.local_id_len (conn_config config) new.events
+  pub count : IfOk r (λ v. length (items v) ≡ length requests)
+  pub empty : requests ≡ [] → IsOk r × (new.events ≡ []) × (after ≡ [])
   pub invalid : IfInvalid r (λ index. IsFaultOf config requests index × (new.events ≡ []) × (after ≡ []))
   pub not_valid : (IsValidAt config requests → ⊥) → IsInvalidAnswer r (IsUndecidedAt config requests) × (new.events ≡ []) × (after ≡ [])
   pub answers : GrewByAnswers (λ q a. a ≡ echo config.max_response_body q) [] after
@@ -70,6 +75,8 @@ pub record Clauses {V : Type 0} (items : V → List PlainMessage) (config : Plai
       → ServedOnce config.local_id_len events requests before after
   pub within : (earlier more : List Event) → Some old.events ≡ Some earlier → Some new.events ≡ Some (earlier ++ more)
       → KeepWithin config.local_id_len (conn_config config) more
+  pub count : IfOk r (λ v. length (items v) ≡ length requests)
+  pub empty : requests ≡ [] → IsOk r × (new ≡ old) × (after ≡ before)
   pub invalid : IfInvalid r (λ index. IsFaultOf config requests index × (new ≡ old) × (after ≡ before))
   pub not_valid : (IsValidAt config requests → ⊥) → IsInvalidAnswer r (IsUndecidedAt config requests) × (new ≡ old) × (after ≡ before)
   pub answers : GrewByAnswers (λ q a. a ≡ echo config.max_response_body q) before after
@@ -100,6 +107,8 @@ exchanged items config requests rounds old new before after r none never nothing
       answered = λ h. subst (λ (z : List PlainEntry). IfOk r (λ v. AnsweredOnce config.local_id_len new.events requests z after (items v))) nothing (x.answered new.events fresh refl h);
       once = λ h. subst (λ (z : List PlainEntry). ServedOnce config.local_id_len new.events requests z after) nothing (x.once new.events fresh refl h);
       within = x.within [] new.events fresh refl;
+      count = x.count;
+      empty = λ e. let a = x.empty e in (a.0, unused a.1, a.2 ∙ nothing);
       invalid = invalid_weaker r (λ index. IsFaultOf config requests index × (new ≡ old) × (after ≡ before)) (λ index. IsFaultOf config requests index × (new.events ≡ []) × (after ≡ []))
           (λ index h. (h.0, unused h.1, h.2 ∙ nothing)) x.invalid;
       not_valid = λ n. let a = x.not_valid n in (a.0, unused a.1, a.2 ∙ nothing);
@@ -167,6 +176,9 @@ invalid_as V W Memory P h = h
 grown_echoes : (limit : ℕ) (after : List PlainEntry) → GrewByAnswers (λ q a. a ≡ echo limit q) [] after → AreEchoes limit after
 grown_echoes limit after g e i = g.each e (subst (λ (z : List PlainEntry). In e z) g.longer i)
 
+failed_is_no_answer : (V : Type 0) (x : ExchangeError) → IsOk {T = V} (Err x) → ⊥
+failed_is_no_answer V x e = cc
+
 -- ---- what a run leaves
 
 ran_ok : {V : Type 0} (items : V → List PlainMessage) (s : Script) (new : PlainLink) (after : List PlainEntry) (v : V)
@@ -179,6 +191,8 @@ ran_ok items s new after v x step schedule honest = record {
   answered_once = λ u. x.answered (honest u);
   echoes = grown_echoes s.config.max_response_body after x.answers;
   kept_within = x.within;
+  count = x.count;
+  empty = λ e. let a = x.empty e in (refl, a.1, a.2);
   cause = x.cause;
   invalid = tt;
   not_valid = λ n. let a = x.not_valid n in absurd a.0;
@@ -198,6 +212,8 @@ ran_err {V} items s new after x known step schedule honest = record {
   answered_once = λ u. tt;
   echoes = grown_echoes s.config.max_response_body after known.answers;
   kept_within = known.within;
+  count = tt;
+  empty = λ e. let a = known.empty e in absurd (failed_is_no_answer V x a.0);
   cause = known.cause;
   invalid = fault_as V (List PlainMessage) x _ known.invalid;
   not_valid = λ n. let a = known.not_valid n in (invalid_as V (List PlainMessage) x _ a.0, a.1, a.2);
@@ -209,48 +225,38 @@ ran_err {V} items s new after x known step schedule honest = record {
 
 -- ---- how a run ends
 
--- what a run left, and how it ends
-abbrev pub RunsTo : Script → PlainLink → List PlainEntry → Result Ending OutOfMemory → Type 0
-RunsTo s new after w =
-    ((ended : Result (List PlainMessage) ExchangeError) × HasRun s new after ended) × IfOk w (λ (e : Ending). ScriptEnds s new after e.status e.text.items)
+-- how a run ends
+abbrev pub RunsTo : Script → PlainLink → List PlainEntry → Ending → Type 0
+RunsTo s new after w = ScriptEnds s new after (status_of w.last) (text_of w)
 
-ends_ok : {V : Type 0} (items : V → List PlainMessage) (s : Script) (new : PlainLink) (after : List PlainEntry) (v : V) (w : Result Ending OutOfMemory)
-    → Exchanged items s.config s.requests (rounds_of s) new after (Ok v) → new.step ≡ s.step → new.schedule ≡ s.schedule → (IsUnforged s.schedule → IsHonest new.events)
-    → All HasMaps s.requests → IfOk w (λ (e : Ending). EndsAnswered after (items v) e.status e.text.items) → RunsTo s new after w
-ends_ok items s new after v w x step schedule honest maps ends =
-    let run : HasRun s new after (Ok (items v)) = ran_ok items s new after v x step schedule honest in (
-      (Ok (items v), run),
-      IfOk-weaker w (λ (e : Ending). EndsAnswered after (items v) e.status e.text.items) (λ (e : Ending). ScriptEnds s new after e.status e.text.items)
-          (λ e h. subst (λ (z : ℕ). ScriptEnds s new after z e.text.items) (sym h.status_is)
-          (subst (λ (z : List ℕ). ScriptEnds s new after 0 z) (sym h.text_is)
-          (answered (items v) run
-          (λ u. reported s.config.local_id_len s.config.max_response_body new.events s.requests after (items v) (x.answered (honest u)) run.echoes maps h.maps))))
-          ends,
-    )
+wanting_ends : (s : Script) (new : PlainLink) (after : List PlainEntry) (answers : List PlainMessage) (w : Ending) → HasRun s new after (Ok answers) → EndsFailed after Memory w
+    → RunsTo s new after w
+wanting_ends s new after answers w run (listed t l) = ends_by (ScriptEnds s new after) w (flat_map entry_block after) (Failed Memory) t l (unreported answers run)
+wanting_ends s new after answers w run (left_out t l) = ends_by (ScriptEnds s new after) w [] (Unlisted Memory) t l (neither answers run)
 
-ends_err : {V : Type 0} (items : V → List PlainMessage) (s : Script) (new : PlainLink) (after : List PlainEntry) (x : ExchangeError) (w : Result Ending OutOfMemory)
-    → Exchanged items s.config s.requests (rounds_of s) new after (Err x) → new.step ≡ s.step → new.schedule ≡ s.schedule → (IsUnforged s.schedule → IsHonest new.events)
-    → IfOk w (λ (e : Ending). EndsFailed after x e.status e.text.items) → RunsTo s new after w
-ends_err items s new after x w known step schedule honest ends =
-    let run : HasRun s new after (Err x) = ran_err items s new after x known step schedule honest in (
-      (Err x, run),
-      IfOk-weaker w (λ (e : Ending). EndsFailed after x e.status e.text.items) (λ (e : Ending). ScriptEnds s new after e.status e.text.items)
-          (λ e h. subst (λ (z : List ℕ). ScriptEnds s new after e.status z) (sym h.text_is) (failed x e.status h.last run h.last_is)) ends,
-    )
+answered_ends : (s : Script) (new : PlainLink) (after : List PlainEntry) (answers : List PlainMessage) (w : Ending) → HasRun s new after (Ok answers)
+    → (HaveMaps after answers → IsUnforged s.schedule → report_by after answers ≡ report_of s.config.max_response_body s.requests) → EndsAnswered after answers w → RunsTo s new after w
+answered_ends s new after answers w run told (reported t l maps) = ends_done (ScriptEnds s new after) w (report_by after answers) t l (answered answers run (told maps))
+answered_ends s new after answers w run told (wanting f) = wanting_ends s new after answers w run f
 
-either_ends : {V : Type 0} (items : V → List PlainMessage) (s : Script) (new : PlainLink) (after : List PlainEntry) (r : Result V ExchangeError) (w : Result Ending OutOfMemory)
+failed_ends : (s : Script) (new : PlainLink) (after : List PlainEntry) (x : ExchangeError) (w : Ending) → HasRun s new after (Err x) → EndsFailed after x w → RunsTo s new after w
+failed_ends s new after x w run (listed t l) = ends_by (ScriptEnds s new after) w (flat_map entry_block after) (Failed x) t l (failed x run)
+failed_ends s new after x w run (left_out t l) = ends_by (ScriptEnds s new after) w [] (Unlisted x) t l (unlisted x run)
+
+either_ends : {V : Type 0} (items : V → List PlainMessage) (s : Script) (new : PlainLink) (after : List PlainEntry) (r : Result V ExchangeError) (w : Ending)
     → Exchanged items s.config s.requests (rounds_of s) new after r → new.step ≡ s.step → new.schedule ≡ s.schedule → (IsUnforged s.schedule → IsHonest new.events)
-    → All HasMaps s.requests → IfOk r (λ v. IfOk w (λ (e : Ending). EndsAnswered after (items v) e.status e.text.items))
-    → IfErr r (λ x. IfOk w (λ (e : Ending). EndsFailed after x e.status e.text.items)) → RunsTo s new after w
-either_ends items s new after (Ok v) w x step schedule honest maps ok err = ends_ok items s new after v w x step schedule honest maps ok
-either_ends items s new after (Err e) w x step schedule honest maps ok err = ends_err items s new after e w x step schedule honest err
+    → All HasMaps s.requests → IfOk r (λ v. EndsAnswered after (items v) w) → IfErr r (λ x. EndsFailed after x w) → RunsTo s new after w
+either_ends items s new after (Ok v) w x step schedule honest maps ok err =
+    let run : HasRun s new after (Ok (items v)) = ran_ok items s new after v x step schedule honest in
+    answered_ends s new after (items v) w run
+    (λ have u. told_of s.config.local_id_len s.config.max_response_body new.events s.requests after (items v) (x.answered (honest u)) run.echoes maps have) ok
+either_ends items s new after (Err e) w x step schedule honest maps ok err = failed_ends s new after e w (ran_err items s new after e x step schedule honest) err
 
 -- a run of a script's requests, over a link that kept its plan
 pub script_ends : {V : Type 0} (items : V → List PlainMessage) (s : Script) (config : PlainConfig) (requests : List PlainMessage) (rounds : ℕ) (old new : PlainLink) (before after : List PlainEntry)
-    (r : Result V ExchangeError) (w : Result Ending OutOfMemory) → IsRunAs s config requests rounds old → old.events ≡ [] → old.faults ≡ 0 → before ≡ []
+    (r : Result V ExchangeError) (w : Ending) → IsRunAs s config requests rounds old → old.events ≡ [] → old.faults ≡ 0 → before ≡ []
     → Clauses items config requests rounds old new before after r → plan_of new ≡ plan_of old → IsScheduled new.step new.schedule new.events → All HasMaps requests
-    → IfOk r (λ v. IfOk w (λ (e : Ending). EndsAnswered after (items v) e.status e.text.items))
-    → IfErr r (λ x. IfOk w (λ (e : Ending). EndsFailed after x e.status e.text.items)) → RunsTo s new after w
+    → IfOk r (λ v. EndsAnswered after (items v) w) → IfErr r (λ x. EndsFailed after x w) → RunsTo s new after w
 script_ends items s config requests rounds old new before after r w as_ none never nothing x plan scheduled maps ok err =
     let schedule : new.schedule ≡ s.schedule = ap schedule_in plan ∙ as_.schedule_is in
     either_ends items s new after r w

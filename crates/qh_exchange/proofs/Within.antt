@@ -1,8 +1,9 @@
 -- What an end sent kept within the limits that it was given before.
-use Rattle.std.proofs.Common.{◌≡◌, ℕ, ◌+◌, ◌<◌, ◌≤◌, Bool, List, [], ◌∷◌, ◌++◌, length, Option, Some, None, refl, sym, ◌∙◌, ap, subst, append_assoc, inl, inr}
+use Rattle.std.proofs.Common.{◌≡◌, ℕ, ◌<◌, ◌≤◌, Bool, List, [], ◌∷◌, ◌++◌, length, Option, Some, None, refl, sym, ◌∙◌, ap, subst, append_assoc, inl, inr}
 use Rattle.std.specs.Prelude.{not, sum_by}
 use Rattle.qh_conn.specs.Config.{peer_of}
-use Rattle.qh_conn.specs.Follows.{Follows, HasComing, HasSomething, IsWithinLimits}
+use Rattle.qh_conn.specs.Follows.{Follows, HasComing, HasSomething, IsWithinLimits, Reaches}
+use Rattle.qh_conn.specs.Follows.Reaches.{run as run_reaches, reset as reset_reaches}
 use Rattle.qh_conn.specs.Inner.{AreOf}
 use Rattle.qh_conn.specs.declared.config.ConnConfig.{ConnConfig}
 use Rattle.qh_halves.specs.Counts.{is_bi, index_of}
@@ -22,7 +23,8 @@ use Rattle.qh_streams.specs.Streams.{PlainStreams, first_limit}
 use Rattle.qh_streams.specs.declared.frames.PeerLimits.{PeerLimits}
 use Rattle.qh_transcript.specs.Within.{greatest, data_given, stream_given, count_given, first_count}
 use Rattle.qh_exchange.specs.Pair.{End, EndAt, IsRunning, IsTold, all, unhanded, unsent, KeepWithin, PairState, Running, id_length, wire, told_acts}
-use Rattle.qh_exchange.specs.Within.{KeptWithin, first_stream_count, first_stream_limit}
+use Rattle.qh_exchange.specs.Within.{KeptWithin, TakesTo, first_stream_count, first_stream_limit}
+use Rattle.qh_exchange.specs.Within.TakesTo.{run as by_run, reset as by_reset}
 use Rattle.qh_exchange.proofs.Wire.{told_acts-append, told_nearly, whole_in, whole_out}
 
 abbrev pub AreWithin : Type 0
@@ -147,22 +149,25 @@ module _ (k : ℕ) (config : ConnConfig) (side : Side) (t before after : List Ac
   here : (run : Run) → HasRun k (d ∷ []) side run → HasSomething run
   here run has = something run (same_run k (d ∷ []) (handed_out before ++ d ∷ []) side run (λ x i. in_right x (handed_out before) (d ∷ []) i) has)
 
+  reaches : (ds : List (List ℕ)) (id end : ℕ) → ((run : Run) → HasRun k ds side run → HasSomething run) → TakesTo k ds side id end → Reaches k ds side id end
+  reaches ds id end some (by_run run has) = run_reaches run has (some run has)
+  reaches ds id end some (by_reset _ code _ has) = reset_reaches id code end has
+
   told_of_events : KeptWithin k config side events d
   told_of_events = record {
     given = p.given;
     came = λ f i. subst (λ (z : List (List ℕ)). HasComing k z (other side) f) ins (p.came f i);
-    stream_bytes = λ run has.
-        subst (λ (n : ℕ). run.offset + length run.payload ≤ greatest (stream_given run.id) n p.given)
-        (first_limit_is side (peer_of config.limits) p.streams p.of run.id) (p.stream_bytes run has (here run has));
-    all_bytes = λ runs apart each.
-        subst (λ (n : ℕ). sum_by (λ (r : Run). r.offset + length r.payload) runs ≤ greatest data_given n p.given)
+    stream_bytes = λ id end takes.
+        subst (λ (n : ℕ). end ≤ greatest (stream_given id) n p.given)
+        (first_limit_is side (peer_of config.limits) p.streams p.of id) (p.stream_bytes id end (reaches (d ∷ []) id end here takes));
+    all_bytes = λ ends apart each.
+        subst (λ (n : ℕ). sum_by (λ (e : ℕ × ℕ). e.1) ends ≤ greatest data_given n p.given)
         (max_data_is side (peer_of config.limits) p.streams p.of)
-        (p.all_bytes runs apart (λ run i.
-        let has : HasRun k (handed_out before ++ d ∷ []) side run = subst (λ (z : List (List ℕ)). HasRun k z side run) (sym out_here) (each run i) in
-        (has, something run has)));
-    count = λ run has own.
-        subst (λ (n : ℕ). index_of run.id < greatest (count_given (is_bi run.id)) n p.given)
-        (first_count_is side (peer_of config.limits) p.streams p.of (is_bi run.id)) (p.count run has (here run has) own);
+        (p.all_bytes ends apart (λ e i.
+        reaches (handed_out before ++ d ∷ []) e.0 e.1 something (subst (λ (z : List (List ℕ)). TakesTo k z side e.0 e.1) (sym out_here) (each e i))));
+    count = λ id end takes own.
+        subst (λ (n : ℕ). index_of id < greatest (count_given (is_bi id)) n p.given)
+        (first_count_is side (peer_of config.limits) p.streams p.of (is_bi id)) (p.count id end (reaches (d ∷ []) id end here takes) own);
   }
 
 -- no STREAM frame that an end handed out is empty

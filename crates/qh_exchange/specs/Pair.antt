@@ -167,7 +167,7 @@ pub record Means (p : PairState) (events : List Event) (before entries : List Pl
   pub answered : (index : ℕ) (answer : PlainMessage) → slice_get p.client.answers index ≡ Some (Some answer)
       → IsRecordedAnswer (id_length p) events entries index answer
 
--- each datagram that was sent kept within the limits that its sender was given before, as far as STREAM frames go, over any link
+-- the STREAM and RESET_STREAM frames of each datagram that was sent kept within the limits that its sender was given before, over any link
 abbrev pub KeepWithin : ℕ → ConnConfig → List Event → Type 0
 KeepWithin id_length config events = (before after : List Event) (side : Side) (datagram : List ℕ) → events ≡ before ++ Sent side datagram ∷ after
     → KeptWithin id_length config side before datagram

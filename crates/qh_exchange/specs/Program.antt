@@ -1,12 +1,12 @@
 -- What a run of the program reads, does and writes, by its status (own).
-use Rattle.std.specs.Prelude.{◌≡◌, ◌≢◌, ◌⊎◌, ℕ, ◌<◌, ◌≤◌, List, [], ◌++◌, codes, decimal, flat_map, Option, Some, Result, Ok, Err, IfOk}
+use Rattle.std.specs.Prelude.{◌≡◌, ◌≢◌, ◌⊎◌, ℕ, ◌<◌, ◌≤◌, List, [], ◌++◌, length, flat_map, Option, Some, Result, Ok, Err, IfOk, IsOk}
 use Rattle.qh_spec.specs.Fault.{Rose, CountsFaults}
 use Rattle.qh_spec.specs.Headline.{ServedOnce, AnsweredOnce}
 use Rattle.qh_spec.specs.Link.{moments_of}
 use Rattle.qh_spec.specs.Lists.{In}
 use Rattle.qh_spec.specs.Message.{PlainMessage}
 use Rattle.qh_spec.specs.Record.{PlainEntry}
-use Rattle.qh_spec.specs.Report.{newline, entry_block, report_of}
+use Rattle.qh_spec.specs.Report.{entry_block, report_of}
 use Rattle.qh_spec.specs.Schedule.{IsUnforged}
 use Rattle.qh_spec.specs.Service.{echo}
 use Rattle.qh_spec.specs.Script.{Script, IsScript, IsRefusedAt, rounds_of}
@@ -15,42 +15,19 @@ use Rattle.qh_spec.specs.TokenLog.{Token}
 use Rattle.qh_spec.specs.TokenScript.{IsTokenScript, IsTokenRefusedAt, token_report}
 use Rattle.qh_spec.specs.Validity.{IsFaultIndex, IsValidList}
 use Rattle.qh_spec.specs.Words.{Command, Exchange, Tokens, IsCommand, AreUnknown}
-use Rattle.qh_base.specs.declared.connection_error.ConnectionError.{ConnectionError}
 use Rattle.qh_link.specs.ScriptLink.{PlainLink}
 use Rattle.qh_plain.specs.Undecided.{IsUndecidedList}
 use Rattle.qh_script.specs.Report.{report_by}
 use Rattle.qh_exchange.specs.declared.error.ExchangeError.{ExchangeError}
-use Rattle.qh_exchange.specs.declared.error.ExchangeError.TheVariants.{Invalid, Link, TimedOut, OutOfRounds, Protocol, Memory}
+use Rattle.qh_exchange.specs.declared.error.ExchangeError.TheVariants.{Memory}
+use Rattle.qh_exchange.specs.Ending.{error_line, error_status, read_fault_line, refused_line, unbuilt_line, unlisted_line, usage_line}
 use Rattle.qh_exchange.specs.Exchange.{IfInvalid, IfOutOfRounds, IfProtocol, IfTimedOut, IsInvalidAnswer}
 use Rattle.qh_exchange.specs.Pair.{KeepWithin}
-use Rattle.qh_exchange.specs.Reading.{IsRead, IsInput, IsAppended, IsWritten}
+use Rattle.qh_exchange.specs.Reading.{HasRead, IsRead, IsInput, IsAppended, IsWritten}
 use Rattle.qh_exchange.specs.Settings.{conn_config}
 use Rattle.qh_exchange.specs.Sound.{EndsFairly}
 use Rattle.qh_exchange.specs.Turn.{RanOut, WasIdle, WasLost, has_link_failed}
 use Rattle.qh_exchange.specs.Unbuilt.{IsUnbuiltAt}
-
--- ---- the last lines
-
-abbrev pub usage_line : List ℕ
-usage_line = codes "usage: h3run exchange, make N SEED, workers N, tokens" ++ newline
-
-abbrev pub unbuilt_line : List ℕ
-unbuilt_line = codes "unbuilt" ++ newline
-
-abbrev pub memory_line : List ℕ
-memory_line = codes "memory" ++ newline
-
-abbrev pub refused_line : ℕ → List ℕ
-refused_line n = codes "line " ++ (decimal n ++ newline)
-
--- the status of an error of an exchange, and its last line
-pub data IsLastLine : ExchangeError → ℕ → List ℕ → Type 0 where
-  invalid : (index : ℕ) → IsLastLine (Invalid index) 4 (codes "invalid " ++ (decimal index ++ newline))
-  timed_out : IsLastLine TimedOut 5 (codes "timed out" ++ newline)
-  out_of_rounds : IsLastLine OutOfRounds 6 (codes "out of rounds" ++ newline)
-  link : IsLastLine Link 7 (codes "link" ++ newline)
-  protocol : (e : ConnectionError) → IsLastLine (Protocol e) 8 (codes "protocol" ++ newline)
-  memory_wanting : IsLastLine Memory 9 memory_line
 
 -- ---- what is done
 
@@ -67,8 +44,11 @@ pub record HasRun (s : Script) (link : PlainLink) (served : List PlainEntry) (re
   pub served_once : IsUnforged s.schedule → ServedOnce s.config.local_id_len link.events s.requests [] served
   pub answered_once : IsUnforged s.schedule → IfOk result (λ answers. AnsweredOnce s.config.local_id_len link.events s.requests [] served answers)
   pub echoes : AreEchoes s.config.max_response_body served
-  -- what an end sent kept within what it was given before, as far as STREAM frames go, whatever the schedule does
+  -- what an end sent in STREAM and RESET_STREAM frames kept within what it was given before, whatever the schedule does
   pub kept_within : KeepWithin s.config.local_id_len (conn_config s.config) link.events
+  -- an answer to each request; a script without requests is answered, with nothing sent
+  pub count : IfOk result (λ answers. length answers ≡ length s.requests)
+  pub empty : s.requests ≡ [] → IsOk result × (link.events ≡ []) × (served ≡ [])
   -- why it failed
   pub cause : CountsFaults 0 link.faults (has_link_failed result)
   pub invalid : IfInvalid result (λ index. IsFaultIndex s.config.max_requests s.config.max_field_section_size s.config.max_request_body s.requests index × (link.events ≡ []) × (served ≡ []))
@@ -88,8 +68,11 @@ pub record IsAsAtEntry (link_before link : PlainLink) (served : List PlainEntry)
 pub data ScriptEnds (s : Script) (link : PlainLink) (served : List PlainEntry) : (status : ℕ) → (text : List ℕ) → Type 0 where
   answered : (answers : List PlainMessage) → HasRun s link served (Ok answers)
       → (IsUnforged s.schedule → report_by served answers ≡ report_of s.config.max_response_body s.requests) → ScriptEnds s link served 0 (report_by served answers)
-  failed : (e : ExchangeError) (status : ℕ) (last : List ℕ) → HasRun s link served (Err e) → IsLastLine e status last
-      → ScriptEnds s link served status (flat_map entry_block served ++ last)
+  failed : (e : ExchangeError) → HasRun s link served (Err e) → ScriptEnds s link served (error_status e) (flat_map entry_block served ++ error_line e)
+  unlisted : (e : ExchangeError) → HasRun s link served (Err e) → ScriptEnds s link served (error_status e) (unlisted_line ++ error_line e)
+  -- each request has its answer, and there was no memory for the report
+  unreported : (answers : List PlainMessage) → HasRun s link served (Ok answers) → ScriptEnds s link served 9 (flat_map entry_block served ++ error_line Memory)
+  neither : (answers : List PlainMessage) → HasRun s link served (Ok answers) → ScriptEnds s link served 9 (unlisted_line ++ error_line Memory)
 
 -- How a run ends that read a text: a line of it is refused, or isn't built yet, whichever comes first, or it is a script.
 pub data TextEnds (text : List ℕ) (link_before link : PlainLink) (served : List PlainEntry) : (status : ℕ) → (written : List ℕ) → Type 0 where
@@ -99,37 +82,19 @@ pub data TextEnds (text : List ℕ) (link_before link : PlainLink) (served : Lis
       → TextEnds text link_before link served 12 unbuilt_line
   ran : (s : Script) (status : ℕ) (written : List ℕ) → IsScript text s → ((m : ℕ) → IsUnbuiltAt text m → ⊥) → ScriptEnds s link served status written
       → TextEnds text link_before link served status written
-
--- A script's requests were exchanged, and then memory was wanting for what is to be written.
-pub record RanWanting (text : List ℕ) (link : PlainLink) (served : List PlainEntry) : Type 0 where
-  pub script : Script
-  pub is_script : IsScript text script
-  pub built : (m : ℕ) → IsUnbuiltAt text m → ⊥
-  pub result : Result (List PlainMessage) ExchangeError
-  pub run : HasRun script link served result
-
--- Memory was wanting before anything was exchanged, and the bench is as it was, or behind an exchange.
-abbrev pub IsWanting : (text : List ℕ) → (link_before link_after : PlainLink) → (served : List PlainEntry) → Type 0
-IsWanting text link_before link_after served = IsAsAtEntry link_before link_after served ⊎ RanWanting text link_after served
-
--- the entries that were served, where there is memory for them, and the last line of status 9
-abbrev pub IsWantingText : List PlainEntry → List ℕ → Type 0
-IsWantingText served written = (written ≡ flat_map entry_block served ++ memory_line) ⊎ (written ≡ memory_line)
+  -- there was no memory for the script
+  wanting : (s : Script) → IsScript text s → ((m : ℕ) → IsUnbuiltAt text m → ⊥) → IsAsAtEntry link_before link served
+      → TextEnds text link_before link served 9 (error_line Memory)
 
 -- How a run ends that read commands on a token log: a line of them is refused, or each token was looked at.
 pub data TokensEnd (text : List ℕ) : (status : ℕ) → (written : List ℕ) → Type 0 where
   refused : (n : ℕ) → IsTokenRefusedAt text n → TokensEnd text 3 (refused_line n)
   looked : (limits : TokenLimits) (tokens : List Token) → IsTokenScript text limits tokens → TokensEnd text 0 (token_report limits tokens)
+  wanting : (limits : TokenLimits) (tokens : List Token) → IsTokenScript text limits tokens → TokensEnd text 9 (error_line Memory)
 
 -- the words with which the program reads its input
 abbrev pub IsReading : List (List ℕ) → Type 0
 IsReading words = IsCommand words Exchange ⊎ IsCommand words Tokens
-
--- The bench where memory was wanting: as it was, or behind the exchange of a script that was read.
-pub data LeavesWanting (words : List (List ℕ)) (left_before left_after : Option (List ℕ)) (link_before link : PlainLink) (served : List PlainEntry) : Type 0 where
-  nothing_done : IsAsAtEntry link_before link served → LeavesWanting words left_before left_after link_before link served
-  exchanged : (text : List ℕ) → IsCommand words Exchange → IsInput left_before left_after text → RanWanting text link served
-      → LeavesWanting words left_before left_after link_before link served
 
 -- How a run ends: its status and what it has to write, by its words, by what it reads, and by what it leaves on the bench.
 pub data Ends (words : List (List ℕ)) (left_before left_after : Option (List ℕ)) (faults_before faults_after : ℕ) (link_before link : PlainLink) (served : List PlainEntry)
@@ -138,13 +103,14 @@ pub data Ends (words : List (List ℕ)) (left_before left_after : Option (List �
   unbuilt_words : (c : Command) → IsCommand words c → c ≢ Exchange → c ≢ Tokens → IsAsAtEntry link_before link served
       → Ends words left_before left_after faults_before faults_after link_before link served 12 unbuilt_line
   read_fault : IsReading words → Rose faults_before faults_after → IsAsAtEntry link_before link served
-      → Ends words left_before left_after faults_before faults_after link_before link served 10 (codes "read fault" ++ newline)
+      → Ends words left_before left_after faults_before faults_after link_before link served 10 read_fault_line
+  -- bytes were read that there was no memory for
+  unread : (front : List ℕ) → IsReading words → 0 < length front → HasRead left_before left_after front → IsAsAtEntry link_before link served
+      → Ends words left_before left_after faults_before faults_after link_before link served 9 (error_line Memory)
   read : (text : List ℕ) (status : ℕ) (written : List ℕ) → IsCommand words Exchange → IsInput left_before left_after text
       → TextEnds text link_before link served status written → Ends words left_before left_after faults_before faults_after link_before link served status written
   tokens : (text : List ℕ) (status : ℕ) (written : List ℕ) → IsCommand words Tokens → IsInput left_before left_after text
       → TokensEnd text status written → IsAsAtEntry link_before link served → Ends words left_before left_after faults_before faults_after link_before link served status written
-  memory : (written : List ℕ) → LeavesWanting words left_before left_after link_before link served → IsWantingText served written
-      → Ends words left_before left_after faults_before faults_after link_before link served 9 written
 
 -- How a run ends: what it read, did and wrote, and its status.
 pub record HasEnded (words : List (List ℕ)) (left_before left_after : Option (List ℕ)) (read_before read_after : ℕ) (link_before link : PlainLink) (served : List PlainEntry)

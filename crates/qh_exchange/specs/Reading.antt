@@ -1,5 +1,5 @@
 -- What is read of a source, and what is written to a sink (own).
-use Rattle.std.specs.Prelude.{◌≡◌, ℕ, ◌<◌, List, [], ◌++◌, length, Option, Some}
+use Rattle.std.specs.Prelude.{◌≡◌, ℕ, ◌<◌, ◌≤◌, Bool, true, false, List, [], ◌++◌, length, Option, Some}
 use Rattle.qh_spec.specs.Fault.{Rose}
 use Rattle.qh_spec.specs.Script.{max_script}
 
@@ -25,6 +25,12 @@ pub data IsWritten (status : ℕ) (text : List ℕ) (before after : Option (List
   whole : IsAppended before after text → IsWritten status text before after faults_before faults_after status
   cut : (front rest : List ℕ) → text ≡ front ++ rest → IsAppended before after front → Rose faults_before faults_after
       → IsWritten status text before after faults_before faults_after 11
+
+-- the text was written whole, as the answer says; or the sink failed behind a front of it
+pub data WritesText (text : List ℕ) (before after : Option (List ℕ)) (faults_before faults_after : ℕ) : Bool → Type 0 where
+  all_written : IsAppended before after text → faults_before ≤ faults_after → WritesText text before after faults_before faults_after true
+  front_written : (front rest : List ℕ) → text ≡ front ++ rest → IsAppended before after front → Rose faults_before faults_after
+      → WritesText text before after faults_before faults_after false
 
 -- a piece of bytes, which isn't empty, was read and put behind what stood there
 pub record IsPiece (before after : Option (List ℕ)) (old new : List ℕ) : Type 0 where

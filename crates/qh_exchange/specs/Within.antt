@@ -1,8 +1,8 @@
--- What a side sends keeps within the limits of its peer (RFC 9000, sections 4.1 and 4.6), as far as STREAM frames go, told of
--- events and datagrams alone.
+-- What a side sends in STREAM and RESET_STREAM frames keeps within the limits of its peer (RFC 9000, sections 4.1, 4.5 and 4.6), told
+-- of events and datagrams alone.
 use Rattle.std.specs.Prelude.{◌≡◌, ℕ, ◌+◌, ◌<◌, ◌≤◌, Bool, true, List, [], ◌∷◌, ◌++◌, length, map, sum_by, if◌then◌else◌}
 use Rattle.qh_conn.specs.Config.{peer_of}
-use Rattle.qh_conn.specs.Follows.{HasComing}
+use Rattle.qh_conn.specs.Follows.{HasComing, HasFrame, reset_frame}
 use Rattle.qh_conn.specs.declared.config.ConnConfig.{ConnConfig}
 use Rattle.qh_halves.specs.Counts.{is_bi, is_own, index_of}
 use Rattle.qh_spec.specs.Carried.{HasRun}
@@ -23,20 +23,28 @@ first_stream_limit side peer id = if is_bi id then (if is_own side id then peer.
 abbrev pub first_stream_count : PeerLimits → (two_way : Bool) → ℕ
 first_stream_count peer two_way = if two_way then peer.max_bidi else peer.max_uni
 
--- A side that sent this datagram behind these events kept within the limits that it was given before, as far as STREAM frames go: of each limit the greatest
--- of the first, by the settings that both ends begin with, and of those in frames that came in datagrams given to it before.
+-- A frame of the sender's in these datagrams takes a stream up to an offset: a STREAM frame up to the end of its bytes, a
+-- RESET_STREAM frame up to its final size (RFC 9000, sections 4.1 and 4.5).
+pub data TakesTo (id_length : ℕ) (datagrams : List (List ℕ)) (sender : Side) : (id end : ℕ) → Type 0 where
+  run : (run : Run) → HasRun id_length datagrams sender run → TakesTo id_length datagrams sender run.id (run.offset + length run.payload)
+  reset : (id code size : ℕ) → HasFrame id_length datagrams sender (reset_frame id code size) → TakesTo id_length datagrams sender id size
+
+-- A side that sent this datagram behind these events kept within the limits that it was given before, in its STREAM and RESET_STREAM
+-- frames: of each limit the greatest of the first, by the settings that both ends begin with, and of those in frames that came in
+-- datagrams given to it before.
 pub record KeptWithin (id_length : ℕ) (config : ConnConfig) (side : Side) (before : List Event) (datagram : List ℕ) : Type 0 where
   -- frames of the peer's that came before
   pub given : List StreamFrame
   pub came : (f : StreamFrame) → In f given → HasComing id_length (given_to side before) (other side) f
-  -- each STREAM frame in the datagram ends within the limit of its stream
-  pub stream_bytes : (run : Run) → HasRun id_length (datagram ∷ []) side run
-      → run.offset + length run.payload ≤ greatest (stream_given run.id) (first_stream_limit side (peer_of config.limits) run.id) given
-  -- Whatever STREAM frames one takes from it and from all that this side sent before, one of each stream, their ends come to no
-  -- more in sum than the limit of all streams. So neither do the greatest ends that were sent on each stream.
-  pub all_bytes : (runs : List Run) → Distinct (map (λ (r : Run). r.id) runs)
-      → ((run : Run) → In run runs → HasRun id_length (sent_by side before ++ datagram ∷ []) side run)
-      → sum_by (λ (r : Run). r.offset + length r.payload) runs ≤ greatest data_given (peer_of config.limits).max_data given
-  -- each stream of this side's that a STREAM frame in the datagram names is one of those that the peer permits
-  pub count : (run : Run) → HasRun id_length (datagram ∷ []) side run → is_own side run.id ≡ true
-      → index_of run.id < greatest (count_given (is_bi run.id)) (first_stream_count (peer_of config.limits) (is_bi run.id)) given
+  -- each STREAM and RESET_STREAM frame in the datagram takes its stream no farther than the limit of that stream
+  pub stream_bytes : (id end : ℕ) → TakesTo id_length (datagram ∷ []) side id end
+      → end ≤ greatest (stream_given id) (first_stream_limit side (peer_of config.limits) id) given
+  -- Whatever STREAM and RESET_STREAM frames one takes from it and from all that this side sent before, one of each stream, the offsets
+  -- up to which they take their streams come to no more in sum than the limit of all streams. So neither do the greatest of these
+  -- offsets on each stream.
+  pub all_bytes : (ends : List (ℕ × ℕ)) → Distinct (map (λ (e : ℕ × ℕ). e.0) ends)
+      → ((e : ℕ × ℕ) → In e ends → TakesTo id_length (sent_by side before ++ datagram ∷ []) side e.0 e.1)
+      → sum_by (λ (e : ℕ × ℕ). e.1) ends ≤ greatest data_given (peer_of config.limits).max_data given
+  -- each stream of this side's that a STREAM or RESET_STREAM frame in the datagram names is one of those that the peer permits
+  pub count : (id end : ℕ) → TakesTo id_length (datagram ∷ []) side id end → is_own side id ≡ true
+      → index_of id < greatest (count_given (is_bi id)) (first_stream_count (peer_of config.limits) (is_bi id)) given

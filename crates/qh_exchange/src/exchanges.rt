@@ -47,8 +47,8 @@ pub fn exchange<V: Service, L: Link>(
     // Over a fresh honest link no connection is lost but by its idle time, and by that only where nothing that counts came for as long.
     ensures fair { (events : List Event) → L.events link.old ≡ Some [] → L.events link.new ≡ Some events → IsHonest events
         → EndsFairly config.now.local_id_len (conn_config config.now).idle events result }
-    // Whatever is answered, over any link, each datagram that an end sent kept within the limits that it was given before, as far as
-    // STREAM frames go.
+    // Whatever is answered, over any link, the STREAM and RESET_STREAM frames of each datagram that an end sent kept within the limits
+    // that it was given before.
     ensures within_announced { (before more : List Event) → L.events link.old ≡ Some before → L.events link.new ≡ Some (before ++ more)
         → KeepWithin config.now.local_id_len (conn_config config.now) more }
     // A link that told its events tells them still.

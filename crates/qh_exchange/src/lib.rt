@@ -1,6 +1,7 @@
 //! An exchange of requests for answers between two ends over a link, and the program round it.
 #![tactic(auto)]
 
+mod ending;
 mod ends;
 mod error;
 mod exchanges;

@@ -61,7 +61,7 @@ impl Model for Pair {
 }
 
 /// What a pair that stands where these events and entries leave it means: over an honest link what it served and what it holds,
-/// and over any link that what it sent kept within the limits that it was given before, as far as STREAM frames go.
+/// and over any link that what it sent in STREAM and RESET_STREAM frames kept within the limits that it was given before.
 pub fn pairs()
     ensures honest { (p : PairState) (events : List Event) (before entries : List PlainEntry) → IsHonest events → Running p events entries
         → Means p events before entries }

@@ -1,18 +1,17 @@
-ghost use Rattle.std.specs.Prelude.{◌≡◌, ◌⊎◌, ◌<◌, ◌^◌, ◌++◌, [], ℕ, List, Result, map, string_bytes, All, IfOk, IfErr};
-ghost use Rattle.qh_exchange.specs.declared.error.ExchangeError.{ExchangeError as AnError};
+ghost use Rattle.std.specs.Prelude.{◌≡◌, ◌⊎◌, ◌<◌, ◌^◌, [], ℕ, List, map, string_bytes, All, IfOk, IfErr};
 ghost use Rattle.qh_link.specs.ScriptLink.{PlainLink};
-ghost use Rattle.qh_spec.specs.Message.{PlainMessage};
 ghost use Rattle.qh_spec.specs.Record.{PlainEntry};
 ghost use Rattle.qh_spec.specs.Config.{Fits};
 ghost use Rattle.qh_spec.specs.Echoed.{HasMaps};
 ghost use Rattle.qh_spec.specs.Script.{Script as PlainScript, IsScript, IsRefusedAt, rounds_of};
 ghost use Rattle.qh_spec.specs.Words.{Exchange, IsCommand};
+ghost use Rattle.qh_exchange.specs.Ending.{status_of, text_of};
 ghost use Rattle.qh_exchange.specs.Endings.{EndsAnswered, EndsFailed, IsRunAs};
-ghost use Rattle.qh_exchange.specs.Program.{AreLookedAt, Ends, HasEnded, HasRun, IsAnswered, IsAsAtEntry, IsLastLine, IsWanting, IsWantingText, LeavesWanting, ScriptEnds, TextEnds, refused_line};
-ghost use Rattle.qh_exchange.specs.Reading.{IsWritten};
+ghost use Rattle.qh_exchange.specs.Program.{AreLookedAt, Ends, HasEnded, IsAnswered, IsAsAtEntry, ScriptEnds, TextEnds};
 
+use crate::ending::{Ending, Outcome};
 use crate::input::read_text;
-use crate::output::write_text;
+use crate::output::write_ending;
 use crate::script::unbuilt_line;
 use crate::tokens::run_tokens;
 use crate::{Config, Echo, ExchangeError, Message, ScriptLink, enough, exchange};
@@ -27,23 +26,14 @@ pub struct Bench<V, L> {
     pub link: L,
 }
 
-const USAGE: &str = "usage: h3run exchange, make N SEED, workers N, tokens\n";
-
 // One more than the greatest number of rounds.
 const MAX_ROUNDS: u64 = 1 << 48;
-
-/// A run's status, and what it writes.
-#[derive(Drop)]
-pub(crate) struct Ending {
-    pub(crate) status: u8,
-    pub(crate) text: Vec<u8>,
-}
 
 /// Does what the program's words ask for, with its input and its output, and answers its status: 0 where every request
 /// has its answer, or where each token was looked at, 2 for other words, 3 for a script or for commands that are refused,
 /// 4 to 8 for an exchange that failed, 9 for want of memory, 10 and 11 for a fault of the input and of the output, 12 for
 /// what isn't built yet. Before the last line of status 0 stands the report, or the line of each token, before that of 4
-/// to 8 the entries of the record, and before that of 9 too if there is memory for them.
+/// to 9 the entries of the record, or the line `unlisted` in their place: no clause says that memory was wanting for them then.
 ///
 /// The service has served nothing. `exchange` puts a new link into the bench for a script that is taken; else the bench stays as it is.
 pub fn run<S: Source, K: Sink>(
@@ -65,20 +55,8 @@ pub fn run<S: Source, K: Sink>(
         ⊎ AreLookedAt (map string_bytes words.now) (S.left source.old) (S.left source.new) (K.written sink.old) (K.written sink.new) }
     ensures unused { (IsCommand (map string_bytes words.now) Exchange → ⊥) → bench.new ≡ bench.old }
 {
-    match ending_of(alloc, words, source, bench) {
-        Ok(ending) => write_text(sink, &ending.text, ending.status),
-        Err(Memory) => write_wanting(alloc, sink, &bench.service),
-    }
-}
-
-// Writes the entries of the record and the line of status 9, or that line alone where there is no memory for the entries.
-fn write_wanting<K: Sink>(alloc: Global, sink: &mut K, service: &Echo) -> u8
-    ensures { (text : List ℕ) × IsWantingText service.now text × IsWritten 9 text (K.written sink.old) (K.written sink.new) (K.faults sink.old) (K.faults sink.new) result }
-{
-    match failure(alloc, ExchangeError::Memory, service) {
-        Ok(ending) => write_text(sink, &ending.text, 9),
-        Err(Memory) => write_text(sink, b"memory\n", 9),
-    }
+    let ending = ending_of(alloc, words, source, bench);
+    write_ending(sink, &ending)
 }
 
 fn ending_of<S: Source>(
@@ -86,19 +64,18 @@ fn ending_of<S: Source>(
     words: &[String],
     source: &mut S,
     bench: &mut Bench<Echo, ScriptLink>,
-) -> Result<Ending, Memory>
+) -> Ending
     requires { bench.old.service ≡ [] }
-    ensures ends { IfOk result (λ e. Ends (map string_bytes words.now) (S.left source.old) (S.left source.new) (S.faults source.old) (S.faults source.new) bench.old.link bench.new.link bench.new.service
-        e.status e.text.items) }
-    ensures wanting { IfErr result (λ _. LeavesWanting (map string_bytes words.now) (S.left source.old) (S.left source.new) bench.old.link bench.new.link bench.new.service) }
+    ensures ends { Ends (map string_bytes words.now) (S.left source.old) (S.left source.new) (S.faults source.old) (S.faults source.new) bench.old.link bench.new.link bench.new.service
+        (status_of result.last) (text_of result) }
     ensures unused { (IsCommand (map string_bytes words.now) Exchange → ⊥) → bench.new ≡ bench.old }
 {
     match read_command(words) {
         Some(Command::Exchange) => run_exchange(alloc, source, bench),
-        Some(Command::Make { .. }) => line(alloc, 12, "unbuilt\n"),
-        Some(Command::Workers { .. }) => line(alloc, 12, "unbuilt\n"),
+        Some(Command::Make { .. }) => Ending::bare(alloc, Outcome::Unbuilt),
+        Some(Command::Workers { .. }) => Ending::bare(alloc, Outcome::Unbuilt),
         Some(Command::Tokens) => run_tokens(alloc, source),
-        None => line(alloc, 2, USAGE),
+        None => Ending::bare(alloc, Outcome::Unknown),
     }
 }
 
@@ -106,51 +83,50 @@ fn run_exchange<S: Source>(
     alloc: Global,
     source: &mut S,
     bench: &mut Bench<Echo, ScriptLink>,
-) -> Result<Ending, Memory>
+) -> Ending
     requires { bench.old.service ≡ [] }
-    ensures ends { (words : List (List ℕ)) → IsCommand words Exchange → IfOk result (λ e. Ends words (S.left source.old) (S.left source.new) (S.faults source.old) (S.faults source.new)
-        bench.old.link bench.new.link bench.new.service e.status e.text.items) }
-    ensures wanting { (words : List (List ℕ)) → IsCommand words Exchange → IfErr result (λ _. LeavesWanting words (S.left source.old) (S.left source.new) bench.old.link bench.new.link bench.new.service) }
+    ensures { (words : List (List ℕ)) → IsCommand words Exchange → Ends words (S.left source.old) (S.left source.new) (S.faults source.old) (S.faults source.new)
+        bench.old.link bench.new.link bench.new.service (status_of result.last) (text_of result) }
 {
-    match read_text(alloc, source)? {
-        Some(text) => run_text(alloc, &text, bench),
-        None => line(alloc, 10, "read fault\n"),
+    match read_text(alloc, source) {
+        Ok(Some(text)) => run_text(alloc, &text, bench),
+        Ok(None) => Ending::bare(alloc, Outcome::ReadFault),
+        Err(Memory) => Ending::bare(alloc, Outcome::Failed(ExchangeError::Memory)),
     }
 }
 
-fn run_text(
-    alloc: Global,
-    text: &[u8],
-    bench: &mut Bench<Echo, ScriptLink>,
-) -> Result<Ending, Memory>
+fn run_text(alloc: Global, text: &[u8], bench: &mut Bench<Echo, ScriptLink>) -> Ending
     requires { bench.old.service ≡ [] }
-    ensures ends { IfOk result (λ e. TextEnds text.now bench.old.link bench.new.link bench.new.service e.status e.text.items) }
-    ensures wanting { IfErr result (λ _. IsWanting text.now bench.old.link bench.new.link bench.new.service) }
+    ensures { TextEnds text.now bench.old.link bench.new.link bench.new.service (status_of result.last) (text_of result) }
 {
     match read_script(alloc, text) {
         Ok(script) => run_built(alloc, text, script, bench),
         Err(ScriptError::Refused(number)) => refusal(alloc, text, number),
-        Err(ScriptError::Memory) => Err(Memory),
+        Err(ScriptError::Memory) => unread(alloc, text),
     }
 }
 
 // The line that is refused, unless one before it, or itself, isn't built.
-fn refusal(alloc: Global, text: &[u8], number: usize) -> Result<Ending, Memory>
+fn refusal(alloc: Global, text: &[u8], number: usize) -> Ending
     requires { IsRefusedAt text.now number }
-    ensures { (link_before link : PlainLink) (served : List PlainEntry) → IsAsAtEntry link_before link served → IfOk result (λ e. TextEnds text.now link_before link served e.status e.text.items) }
+    ensures { (link_before link : PlainLink) (served : List PlainEntry) → IsAsAtEntry link_before link served → TextEnds text.now link_before link served (status_of result.last) (text_of result) }
 {
     match unbuilt_line(text) {
-        Some(unbuilt) if unbuilt <= number => line(alloc, 12, "unbuilt\n"),
-        Some(_) => refused(alloc, number),
-        None => refused(alloc, number),
+        Some(unbuilt) if unbuilt <= number => Ending::bare(alloc, Outcome::Unbuilt),
+        Some(_) => Ending::bare(alloc, Outcome::Refused(number)),
+        None => Ending::bare(alloc, Outcome::Refused(number)),
     }
 }
 
-/// The line that says which line of the input is refused.
-pub(crate) fn refused(alloc: Global, number: usize) -> Result<Ending, Memory>
-    ensures { IfOk result (λ e. (e.status ≡ 3) × (e.text.items ≡ refused_line number)) }
+// A script that there is no memory for, unless a line of it isn't built.
+fn unread(alloc: Global, text: &[u8]) -> Ending
+    requires { (script : PlainScript) × IsScript text.now script }
+    ensures { (link_before link : PlainLink) (served : List PlainEntry) → IsAsAtEntry link_before link served → TextEnds text.now link_before link served (status_of result.last) (text_of result) }
 {
-    line(alloc, 3, format!(in alloc; "line {number}\n")?.as_str())
+    match unbuilt_line(text) {
+        Some(_) => Ending::bare(alloc, Outcome::Unbuilt),
+        None => Ending::bare(alloc, Outcome::Failed(ExchangeError::Memory)),
+    }
 }
 
 // Runs a script, unless a line of it isn't built.
@@ -159,28 +135,22 @@ fn run_built(
     text: &[u8],
     script: Script,
     bench: &mut Bench<Echo, ScriptLink>,
-) -> Result<Ending, Memory>
+) -> Ending
     requires served { bench.old.service ≡ [] }
     requires script { IsScript text.now script }
-    ensures ends { IfOk result (λ e. TextEnds text.now bench.old.link bench.new.link bench.new.service e.status e.text.items) }
-    ensures wanting { IfErr result (λ _. IsWanting text.now bench.old.link bench.new.link bench.new.service) }
+    ensures { TextEnds text.now bench.old.link bench.new.link bench.new.service (status_of result.last) (text_of result) }
 {
     match unbuilt_line(text) {
-        Some(_) => line(alloc, 12, "unbuilt\n"),
+        Some(_) => Ending::bare(alloc, Outcome::Unbuilt),
         None => run_script(alloc, script, bench),
     }
 }
 
 // Exchanges the requests of a script over a new link with its step and its schedule.
-fn run_script(
-    alloc: Global,
-    script: Script,
-    bench: &mut Bench<Echo, ScriptLink>,
-) -> Result<Ending, Memory>
+fn run_script(alloc: Global, script: Script, bench: &mut Bench<Echo, ScriptLink>) -> Ending
     requires served { bench.old.service ≡ [] }
     requires script { (text : List ℕ) × IsScript text script }
-    ensures ends { IfOk result (λ e. ScriptEnds script bench.new.link bench.new.service e.status e.text.items) }
-    ensures wanting { IfErr result (λ _. (ended : Result (List PlainMessage) AnError) × HasRun script bench.new.link bench.new.service ended) }
+    ensures { ScriptEnds script bench.new.link bench.new.service (status_of result.last) (text_of result) }
 {
     let rounds = rounds_for(&script);
     let Script {
@@ -211,15 +181,14 @@ fn run_requests(
     requests: &[Message],
     rounds: u64,
     bench: &mut Bench<Echo, ScriptLink>,
-) -> Result<Ending, Memory>
+) -> Ending
     requires served { bench.old.service ≡ [] }
     requires events { bench.old.link.events ≡ [] }
     requires faults { bench.old.link.faults ≡ 0 }
     requires fits { Fits config.now }
     requires rounds { rounds < 2 ^ 48 }
     requires maps { All HasMaps requests.now }
-    ensures ends { (s : PlainScript) → IsRunAs s config.now requests.now rounds bench.old.link → IfOk result (λ e. ScriptEnds s bench.new.link bench.new.service e.status e.text.items) }
-    ensures wanting { (s : PlainScript) → IsRunAs s config.now requests.now rounds bench.old.link → (ended : Result (List PlainMessage) AnError) × HasRun s bench.new.link bench.new.service ended }
+    ensures { (s : PlainScript) → IsRunAs s config.now requests.now rounds bench.old.link → ScriptEnds s bench.new.link bench.new.service (status_of result.last) (text_of result) }
 {
     let ended = exchange(
         alloc,
@@ -233,59 +202,41 @@ fn run_requests(
     conclude(alloc, ended, &bench.service)
 }
 
-// The status and the text by how an exchange ended: the report, or the entries of the record and the line of the error.
-fn conclude(
-    alloc: Global,
-    ended: Result<Vec<Message>, ExchangeError>,
-    service: &Echo,
-) -> Result<Ending, Memory>
-    ensures answered { IfOk ended (λ answers. IfOk result (λ e. EndsAnswered service.now answers.items e.status e.text.items)) }
-    ensures failed { IfErr ended (λ error. IfOk result (λ e. EndsFailed service.now error e.status e.text.items)) }
+// The report, or what was served and the error, by how an exchange ended.
+fn conclude(alloc: Global, ended: Result<Vec<Message>, ExchangeError>, service: &Echo) -> Ending
+    ensures answered { IfOk ended (λ answers. EndsAnswered service.now answers.items result) }
+    ensures failed { IfErr ended (λ error. EndsFailed service.now error result) }
 {
     match ended {
-        Ok(answers) => {
-            let mut text = Vec::new(alloc);
-            put_report(alloc, &mut text, service.served(), &answers)?;
-            Ok(Ending { status: 0, text })
-        }
+        Ok(answers) => report(alloc, &answers, service),
         Err(error) => failure(alloc, error, service),
     }
 }
 
-// The entries of the record, and the line of the error.
-fn failure(alloc: Global, error: ExchangeError, service: &Echo) -> Result<Ending, Memory>
-    ensures { IfOk result (λ e. EndsFailed service.now error e.status e.text.items) }
+// The report, or want of memory for it.
+fn report(alloc: Global, answers: &[Message], service: &Echo) -> Ending
+    ensures { EndsAnswered service.now answers.now result }
 {
     let mut text = Vec::new(alloc);
-    put_entries(alloc, &mut text, service.served())?;
-    let last = last_line(alloc, error)?;
-    text.extend_from_slice(&last.text)?;
-    Ok(Ending {
-        status: last.status,
-        text,
-    })
-}
-
-// The status of an error, and its line.
-fn last_line(alloc: Global, error: ExchangeError) -> Result<Ending, Memory>
-    ensures { IfOk result (λ e. IsLastLine error e.status e.text.items) }
-{
-    match error {
-        ExchangeError::Invalid { index } => {
-            line(alloc, 4, format!(in alloc; "invalid {index}\n")?.as_str())
-        }
-        ExchangeError::TimedOut => line(alloc, 5, "timed out\n"),
-        ExchangeError::OutOfRounds => line(alloc, 6, "out of rounds\n"),
-        ExchangeError::Link => line(alloc, 7, "link\n"),
-        ExchangeError::Protocol(_) => line(alloc, 8, "protocol\n"),
-        ExchangeError::Memory => line(alloc, 9, "memory\n"),
+    match put_report(alloc, &mut text, service.served(), answers) {
+        Ok(()) => Ending {
+            text,
+            last: Outcome::Done,
+        },
+        Err(Memory) => failure(alloc, ExchangeError::Memory, service),
     }
 }
 
-/// An ending with this text.
-pub(crate) fn line(alloc: Global, status: u8, text: &str) -> Result<Ending, Memory>
-    ensures { IfOk result (λ e. (e.status ≡ status) × (e.text.items ≡ text.now)) }
+// The entries of the record where there is memory for them, and the error.
+fn failure(alloc: Global, error: ExchangeError, service: &Echo) -> Ending
+    ensures { EndsFailed service.now error result }
 {
-    let text = text.as_bytes().to_vec(alloc)?;
-    Ok(Ending { status, text })
+    let mut text = Vec::new(alloc);
+    match put_entries(alloc, &mut text, service.served()) {
+        Ok(()) => Ending {
+            text,
+            last: Outcome::Failed(error),
+        },
+        Err(Memory) => Ending::bare(alloc, Outcome::Unlisted(error)),
+    }
 }

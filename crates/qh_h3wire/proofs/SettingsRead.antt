@@ -2,6 +2,7 @@
 use Rattle.std.proofs.Common.{◌≡◌, ◌≢◌, ℕ, zero, suc, ◌+◌, ◌<◌, ◌≤◌, ◌==◌, nat_lt, nat_le, true, false, List, [], ◌∷◌, ◌++◌, length, drop, refl, sym, ap, ◌∙◌, arith, inl, inr, Option, Some, None, Result, Ok, Err, subst, append_assoc, append-nil, length-append}
 use Rattle.std.proofs.lemmas.Bool.{cases_Bool, cases_lt, lt-ltb, le-ltb, le-leb, leb-true, eqb-true, eq-eqb, and_parts, or_cases, false_from_ne_true}
 use Rattle.std.proofs.lemmas.List.{drop_at}
+use Rattle.std.specs.List.{AllByRecursion}
 use Rattle.qh_base.proofs.Varints.{IsBytes}
 use Rattle.qh_spec.proofs.Cuts.{inner, varints_agree}
 use Rattle.qh_spec.specs.Lists.{In}
@@ -437,3 +438,15 @@ pub means_or_fault : (payload : List ℕ) (s : PlainSettings) (e : SettingsError
 means_or_fault payload s e p q =
     let both : ◌≡◌ {A = Result PlainSettings SettingsError} (Ok s) (Err e) = one_outcome payload (Ok s) (Err e) (means_outcome payload s p) (fault_outcome payload e q) in
     cc
+
+-- bytes one by one
+each_byte : (payload : List ℕ) → AllByRecursion (λ (b : ℕ). b < 256) payload → IsBytes payload
+each_byte [] all i = omega arith
+each_byte (b ∷ bs) all zero = all.0
+each_byte (b ∷ bs) all (suc i) = each_byte bs all.1 i
+
+pub no_fault_means : (payload : List ℕ) → AllByRecursion (λ (b : ℕ). b < 256) payload → ((e : SettingsError) → IsSettingsFault payload e → ⊥) → (s : PlainSettings) × MeansSettings payload s
+no_fault_means payload all none = by_answer (settings_at payload) refl where
+  by_answer : (o : Result PlainSettings SettingsError) → settings_at payload ≡ o → (s : PlainSettings) × MeansSettings payload s
+  by_answer (Ok s) h = (s, at_means payload s (each_byte payload all) h)
+  by_answer (Err e) h = absurd (none e (at_fault payload e (each_byte payload all) h))

@@ -1,4 +1,5 @@
 ghost use Rattle.std.specs.Prelude.{◌≡◌, ℕ, ◌<◌, ◌^◌, ◌++◌, List, length, flat_map, MatchOption, MatchResult, OnOk, OnErr};
+ghost use Rattle.std.specs.List.{AllByRecursion};
 ghost use Rattle.qh_h3wire.specs.Settings.{Entry, PlainSettings, AreEntries, MeansSettings, IsSettingsFault, HasNoFault, AreWritable, entry_bytes, limited, switched, settings_bytes};
 ghost use Rattle.qh_h3wire.specs.Grown.{HasGrown};
 ghost use Rattle.qh_h3wire.specs.SettingsAt.{entry_of, has_id, own_fault};
@@ -280,8 +281,9 @@ fn write_switch(out: &mut Vec<u8>, id: u64, on: bool) -> Result<(), Memory>
     if on { Pair::write(out, id, 1) } else { Ok(()) }
 }
 
-/// The payload of a SETTINGS frame has one fault at most, and none where it means settings.
+/// The payload of a SETTINGS frame has one fault at most. It means settings exactly if it has none.
 pub fn settings_faults()
     ensures one { (payload : List ℕ) (e f : AnError) → IsSettingsFault payload e → IsSettingsFault payload f → e ≡ f }
     ensures none { (payload : List ℕ) (s : PlainSettings) → MeansSettings payload s → HasNoFault payload }
+    ensures means { (payload : List ℕ) → AllByRecursion (λ (b : ℕ). b < 256) payload → HasNoFault payload → (s : PlainSettings) × MeansSettings payload s }
 {}

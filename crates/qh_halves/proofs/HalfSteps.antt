@@ -58,6 +58,9 @@ write_holds h next bytes limit n none fits is =
     let after = ready_holds h.state (length (h.buffer.bytes ++ take n bytes)) ready in
     rw is (omega (arith, before, after, length-append h.buffer.bytes (take n bytes), length-take-le n bytes fits))
 
+pub write_spans : (h next : PlainSend) (bytes : List ℕ) → next ≡ with_bytes h bytes → (frame : Outgoing) → half_is_span (Some h) frame → half_is_span (Some next) frame
+write_spans h next bytes is frame span = rw is (λ ready. let before = span ready in record { order = before.order; is_cut_from = before.is_cut_from; is_cut_to = before.is_cut_to })
+
 -- ---- what bounds the half changes
 
 pub bounds_go : (h next : PlainSend) (max_data : ℕ) (stop : Option ℕ) → is_done h ≡ false → next ≡ record h { max_data = max_data; stop_reason = stop }

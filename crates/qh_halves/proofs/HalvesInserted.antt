@@ -1,5 +1,5 @@
 -- A half is put in for a stream that has none: the entries by a stream's id then, and once it is taken back.
-use Rattle.std.proofs.Common.{◌≡◌, ◌⊎◌, ℕ, ◌+◌, ◌<◌, ◌≤◌, ◌==◌, Bool, true, false, cond, List, [], ◌∷◌, length, Option, Some, None, unwrap_or, if◌then◌else◌, nat_cmp, Ordering, Less, Greater, refl, sym, ap, ◌∙◌, arith, inl, inr}
+use Rattle.std.proofs.Common.{◌≡◌, ◌⊎◌, ℕ, ℤ, ◌+◌, ◌<◌, ◌==◌, Bool, true, false, not, ◌&&◌, ◌||◌, cond, List, [], ◌∷◌, Option, Some, None, is_some, unwrap_or, if◌then◌else◌, nat_cmp, Ordering, Less, Greater, refl, sym, ap, ◌∙◌, arith, inl, inr}
 use Rattle.std.specs.BTreeMap.{is_at, insert_entry}
 use Rattle.std.specs.Map.{lookup, remove_entry}
 use Rattle.std.specs.Ordering.{match_ordering}
@@ -7,8 +7,7 @@ use Rattle.std.proofs.lemmas.Bool.{cases_order, eq-eqb, eqb-true, ne_eqb, false�
 use Rattle.std.proofs.lemmas.Bool.Decides.{eqb_tells}
 use Rattle.qh_buffers.specs.declared.send_buffer.Mark.TheVariants.{Acked}
 use Rattle.qh_buffers.specs.SendBuffer.{waits as byte_waits}
-use Rattle.qh_halves.specs.declared.pending.PendingStream.{PendingStream}
-use Rattle.qh_halves.specs.Pending.{PlainPending, has}
+use Rattle.qh_halves.specs.Pending.{PlainPending, has_room, waits}
 use Rattle.qh_half.specs.Send.{PlainSend, held, Waits, new_send}
 use Rattle.qh_halves.specs.SendHalves.{IsHalf, held_of, half_in, half_priority, unacked, AreSendHalves}
 
@@ -89,6 +88,16 @@ unacked_inserted (e ∷ es) id h none = elim (goes id h e es none) [
   | later above is rest ↦ rw is (omega (arith, unacked_inserted es id h rest))
 ]
 
+-- a stream that has a half has room
+pub room_put : {X : Type 0} (here room : Bool) (x : X) (o : Option X) → room ≡ is_some o → (here || room) ≡ is_some (if here then Some x else o)
+room_put true room x o e = refl
+room_put false room x o e = e
+
+-- room that is taken and left again
+pub room_again : (here room again : Bool) → again ≡ (here || room) → (here ≡ true → room ≡ false) → (not here && again) ≡ room
+room_again true room again e fresh = sym (fresh refl)
+room_again false room again e fresh = e
+
 -- nothing waits in a new half
 new_waits_not : (limit : ℕ) → Waits (new_send limit) → ⊥
 new_waits_not limit (inl pending) = false≢true (pending.1 (λ k. ap (λ (b : Bool). byte_waits (if b then Some Acked else None) b) (le-ltb k 0 (omega arith))))
@@ -106,22 +115,19 @@ module _ (es : List (ℕ × PlainSend)) (pending : PlainPending) (max_data data_
     | inr apart ↦ inr (sym (ap (λ (b : Bool). if b then Some (new_send limit) else half_in es k) apart.0) ∙ sym (value_inserted es id (new_send limit) k none) ∙ e)
   ]
 
-  live_still : (q : PendingStream) → has pending.streams q ≡ true → half_priority (half_in entries q.id) ≡ Some q.priority
-  live_still q there = elim (eqb_tells q.id id) [
-    | inl same ↦ absurd (let is = ok.live q there in let missing = ap half_priority (ap (half_in es) same.1 ∙ none) in cc)
-    | inr apart ↦ ap half_priority (value_inserted es id (new_send limit) q.id none ∙ ap (λ (b : Bool). if b then Some (new_send limit) else half_in es q.id) apart.0) ∙ ok.live q there
-  ]
-
-  -- the halves with a new one, for which there is room in the queue
-  pub put_in : (new : List (ℕ × PlainSend)) (queue : PlainPending) → new ≡ entries → queue.streams ≡ pending.streams → length new ≤ queue.room → AreSendHalves new queue max_data data_sent count
+  -- the halves with a new one, which has room in the queue
+  pub put_in : (new : List (ℕ × PlainSend)) (queue : PlainPending) → new ≡ entries → ((k : ℕ) → waits queue k ≡ waits pending k) → ((k : ℕ) → has_room queue k ≡ (k == id || has_room pending k))
+      → AreSendHalves new queue max_data data_sent count
   put_in new queue new_is same room = record {
-    live = λ q there. rw new_is (live_still q (rw same at there));
-    listed = λ k h e waits. elim (new_or_old k h (rw new_is at e)) [
-      | inl is ↦ absurd (new_waits_not limit (rw is at waits))
-      | inr old ↦ rw same (ok.listed k h old waits)
+    live = λ k n there. rw new_is (elim (eqb_tells k id) [
+      | inl other ↦ absurd (let is = ok.live k n (sym (same k) ∙ there) in let missing = ap half_priority (ap (half_in es) other.1 ∙ none) in cc)
+      | inr apart ↦ ap half_priority (value_inserted es id (new_send limit) k none ∙ ap (λ (b : Bool). if b then Some (new_send limit) else half_in es k) apart.0) ∙ ok.live k n (sym (same k) ∙ there)
+    ]);
+    listed = λ k h e waiting. elim (new_or_old k h (rw new_is at e)) [
+      | inl is ↦ absurd (new_waits_not limit (rw is at waiting))
+      | inr old ↦ same k ∙ ok.listed k h old waiting
     ];
-    in_order = rw same ok.in_order;
-    room = room;
+    room = λ k. room k ∙ room_put (k == id) (has_room pending k) (new_send limit) (half_in es k) (ok.room k) ∙ ap (λ (o : Option PlainSend). is_some o) (sym (ap (λ (l : List (ℕ × PlainSend)). half_in l k) new_is ∙ value_inserted es id (new_send limit) k none));
     counted = rw new_is (omega (arith, ok.counted, unacked_inserted es id (new_send limit) none));
     undone = λ k h e. elim (new_or_old k h (rw new_is at e)) [
       | inl is ↦ rw is refl
@@ -129,6 +135,28 @@ module _ (es : List (ℕ × PlainSend)) (pending : PlainPending) (max_data data_
     ];
     credit = ok.credit;
   }
+
+  -- the stream doesn't wait before it has a half
+  unwaited : (o : Option ℤ) → waits pending id ≡ o → o ≡ None
+  unwaited None e = refl
+  unwaited (Some n) e = absurd (let live = ok.live id n e in let missing = ap half_priority none in cc)
+
+  -- the halves as before, where the stream left the queue again
+  pub put_back : (new : List (ℕ × PlainSend)) (queue after : PlainPending) → new ≡ es → ((k : ℕ) → waits queue k ≡ waits pending k) → ((k : ℕ) → has_room queue k ≡ (k == id || has_room pending k))
+      → ((k : ℕ) → waits after k ≡ (if k == id then None else waits queue k)) → ((k : ℕ) → has_room after k ≡ (not (k == id) && has_room queue k)) → AreSendHalves new after max_data data_sent count
+  put_back new queue after new_is same room left room_left =
+      let as_before : (k : ℕ) → waits after k ≡ waits pending k = λ k. left k ∙ (elim (eqb_tells k id) [
+        | inl here ↦ rw (here.0, here.1) (sym (unwaited (waits pending id) refl))
+        | inr apart ↦ rw apart.0 (same k)
+      ]) in
+      record {
+        live = λ k n there. rw new_is (ok.live k n (sym (as_before k) ∙ there));
+        listed = λ k h e waiting. as_before k ∙ ok.listed k h (rw new_is at e) waiting;
+        room = λ k. room_left k ∙ room_again (k == id) (has_room pending k) (has_room queue k) (room k) (λ here. ap (has_room pending) (eqb-true k id here) ∙ ok.room id ∙ ap (λ (o : Option PlainSend). is_some o) none) ∙ ok.room k ∙ ap (λ (l : List (ℕ × PlainSend)). is_some (half_in l k)) (sym new_is);
+        counted = rw new_is ok.counted;
+        undone = λ k h e. ok.undone k h (rw new_is at e);
+        credit = ok.credit;
+      }
 
 -- what is told of it
 pub is_put_in : (es : List (ℕ × PlainSend)) (max_data data_sent send_window id limit : ℕ) → half_in es id ≡ None → (new : List (ℕ × PlainSend)) → new ≡ insert_entry nat_cmp es id (new_send limit)

@@ -1,12 +1,12 @@
 -- What a step of one sending half leaves of all that the sending halves keep.
-use Rattle.std.proofs.Common.{◌≡◌, ◌⊎◌, ℕ, ℤ, ◌+◌, ◌<◌, ◌≤◌, ◌==◌, Bool, true, false, ◌&&◌, ◌||◌, not, List, [], ◌∷◌, length, Option, Some, None, is_some, if◌then◌else◌, refl, sym, ap, ap₂, ◌∙◌, arith, inl, inr}
+use Rattle.std.proofs.Common.{◌≡◌, ◌⊎◌, ℕ, ℤ, ◌+◌, ◌≤◌, ◌==◌, Bool, true, false, ◌&&◌, not, List, [], ◌∷◌, length, Option, Some, None, is_some, unwrap_or, if◌then◌else◌, refl, sym, ap, ◌∙◌, arith, inl, inr}
 use Rattle.std.specs.Option.{IsSome}
-use Rattle.std.specs.Ordering.{nat_cmp, eq_by_cmp, int_eq}
+use Rattle.std.specs.Ordering.{nat_cmp, eq_by_cmp}
 use Rattle.std.specs.BTreeMap.{is_at}
 use Rattle.std.specs.Map.{lookup, set_value, remove_entry, keys_of, values_of}
 use Rattle.std.specs.List.{sum_by}
 use Rattle.std.specs.List.Sorted.{IsStrictlySortedBy}
-use Rattle.std.proofs.lemmas.Bool.{cases_Bool, eq-eqb, eqb-true, false≢true, or_cases, or_left, and_right, and_parts, both_ways}
+use Rattle.std.proofs.lemmas.Bool.{cases_Bool, eq-eqb, eqb-true, false≢true}
 use Rattle.std.proofs.lemmas.Bool.Decides.{eqb_tells}
 use Rattle.std.proofs.lemmas.Cmp.{eq_by_cmp_equiv, nat_cmp_total}
 use Rattle.std.proofs.lemmas.Map.{lookup-set_value, lookup-remove_entry, keys-set_value, length-set_value}
@@ -14,18 +14,15 @@ use Rattle.std.proofs.lemmas.Map.Steps.{set_value_same}
 use Rattle.std.proofs.lemmas.Map.Entries.{sum_by-set_value, sum_by-remove_entry}
 use Rattle.std.proofs.lemmas.Map.Keys.{IsDistinct-from_sorted}
 use Rattle.std.proofs.lemmas.List.Sums.{sum_by-cons}
-use Rattle.qh_halves.specs.declared.pending.PendingStream.{PendingStream}
 use Rattle.qh_halves.specs.declared.send_halves.SendHalves.TheInside.{Inside}
-use Rattle.qh_halves.specs.Pending.{PlainPending, is_same, has, AreInOrder}
+use Rattle.qh_halves.specs.Pending.{PlainPending, has_room, waits}
 use Rattle.qh_buffers.specs.declared.send_buffer.Mark.TheVariants.{Sent, Queued, Acked}
 use Rattle.qh_half.specs.declared.send.SendState.{SendState}
 use Rattle.qh_half.specs.declared.send.SendState.TheVariants.{Ready, DataSent, ResetSent}
 use Rattle.qh_half.specs.declared.send.Outgoing.{Outgoing}
 use Rattle.qh_half.specs.Send.{PlainSend, is_done, is_done_in, is_reset, held, Waits}
-use Rattle.qh_halves.specs.SendHalves.{PlainSendHalves, IsStep, IsLast, IsAbsent, half_is_span, half_in, half_priority, held_of, unacked, entry_of, AreSendHalves}
-use Rattle.qh_halves.proofs.PendingOrder.{same_is, same_itself}
-use Rattle.qh_halves.proofs.PendingRoom.{there_is_room}
-use Rattle.qh_halves.proofs.HalvesWithdrawn.{unacked_removed}
+use Rattle.qh_halves.specs.SendHalves.{PlainSendHalves, IsStep, IsLast, IsAbsent, half_is_span, half_in, half_priority, held_of, unacked, AreSendHalves}
+use Rattle.qh_halves.proofs.HalvesWithdrawn.{room_left, unacked_removed}
 
 at_key : (id k : ℕ) → is_at (nat_cmp id) k ≡ (k == id)
 at_key id k = grind arith
@@ -64,13 +61,6 @@ one_fewer test (e ∷ es) there = elim (cases_Bool (test e.0)) [
   | inr later ↦ let rest = one_fewer test es (rw later at there) in rw later (omega (arith, rest))
 ]
 
-fewer : (test : ℕ → Bool) (es : List (ℕ × PlainSend)) → length (remove_entry test es) ≤ length es
-fewer test [] = omega arith
-fewer test (e ∷ es) = elim (cases_Bool (test e.0)) [
-  | inl here ↦ rw here (omega arith)
-  | inr later ↦ rw later (let rest = fewer test es in omega (arith, rest))
-]
-
 -- the bytes that one half holds are among those of all
 pub held_within : (es : List (ℕ × PlainSend)) (id : ℕ) (h : PlainSend) → half_in es id ≡ Some h → held h ≤ unacked es
 held_within es id h was =
@@ -85,43 +75,25 @@ done_holds_none (DataSent Queued) n e = absurd (false≢true e)
 done_holds_none (DataSent Acked) n e = eqb-true n 0 e
 done_holds_none (ResetSent code mark) n e = refl
 
--- The queue may have gained or lost a stream, and no other.
-pub record IsQueueAfter (old new : PlainPending) (id : ℕ) : Type 0 where
-  pub others : (q : PendingStream) → (q.id == id) ≡ false → has new.streams q ≡ has old.streams q
-  pub room_is : new.room ≡ old.room
-  pub in_order : AreInOrder new.streams
+-- The stream waits with this priority, or not; the others wait as before, and the same streams have room.
+pub record IsQueueAfter (old new : PlainPending) (id : ℕ) (priority : Option ℤ) : Type 0 where
+  pub here : waits new id ≡ priority
+  pub others : (k : ℕ) → (k == id) ≡ false → waits new k ≡ waits old k
+  pub room_is : (k : ℕ) → has_room new k ≡ has_room old k
 
--- the stream stands in the queue with no other priority
-abbrev pub StandsOnlyAt : PlainPending → (id : ℕ) → (priority : ℤ) → Type 0
-StandsOnlyAt p id priority = (q : PendingStream) → has p.streams q ≡ true → q.id ≡ id → q.priority ≡ priority
+-- a stream waits with this priority from now on, or no more
+abbrev pub IsWaitSet : (old new : PlainPending) → (id : ℕ) → Option ℤ → Type 0
+IsWaitSet old new id priority = (k : ℕ) → waits new k ≡ (if k == id then priority else waits old k)
 
--- a stream was put into the queue
-abbrev pub IsPutIn : (old new : PlainPending) → PendingStream → Type 0
-IsPutIn old new p = (q : PendingStream) → has new.streams q ≡ (is_same p q || has old.streams q)
+abbrev pub IsRoomKept : (old new : PlainPending) → Type 0
+IsRoomKept old new = (k : ℕ) → has_room new k ≡ has_room old k
 
--- a stream was taken out of the queue
-abbrev pub IsTakenOut : (old new : PlainPending) → PendingStream → Type 0
-IsTakenOut old new p = (q : PendingStream) → has new.streams q ≡ (not (is_same p q) && has old.streams q)
-
-other_stream : (p q : PendingStream) → (q.id == p.id) ≡ false → is_same p q ≡ false
-other_stream p q apart = and_right (int_eq p.priority q.priority) (p.id == q.id) (grind (arith, apart))
-
-put_after : (old new : PlainPending) (p : PendingStream) → IsPutIn old new p → new.room ≡ old.room → AreInOrder new.streams → IsQueueAfter old new p.id
-put_after old new p put room_is in_order = record {
-  others = λ q apart. put q ∙ ap (λ (b : Bool). b || has old.streams q) (other_stream p q apart);
+set_after : (old new : PlainPending) (id : ℕ) (priority : Option ℤ) → IsWaitSet old new id priority → IsRoomKept old new → IsQueueAfter old new id priority
+set_after old new id priority set room_is = record {
+  here = set id ∙ ap (λ (b : Bool). if b then priority else waits old id) (eq-eqb id id refl);
+  others = λ k apart. set k ∙ ap (λ (b : Bool). if b then priority else waits old k) apart;
   room_is = room_is;
-  in_order = in_order;
 }
-
-taken_after : (old new : PlainPending) (p : PendingStream) → IsTakenOut old new p → new.room ≡ old.room → AreInOrder new.streams → IsQueueAfter old new p.id
-taken_after old new p taken room_is in_order = record {
-  others = λ q apart. taken q ∙ ap (λ (b : Bool). not b && has old.streams q) (other_stream p q apart);
-  room_is = room_is;
-  in_order = in_order;
-}
-
-put_there : (old new : PlainPending) (p : PendingStream) → IsPutIn old new p → has new.streams p ≡ true
-put_there old new p put = put p ∙ or_left (is_same p p) (has old.streams p) (same_itself p)
 
 -- where a stream has no half nothing changes
 pub is_absent : (s : Inside) (id : ℕ) (new : List (ℕ × PlainSend)) → None ≡ half_in s.halves.entries id → new ≡ s.halves.entries
@@ -161,33 +133,38 @@ module _ (s : Inside) (ok : AreSendHalves s.halves.entries s.pending s.max_data 
     | inr apart ↦ inr (apart.0, sym (half_apart k apart.0) ∙ e)
   ]
 
-  -- the stream stands in the queue with the priority of its half
-  stands_only : StandsOnlyAt pending id h.priority
-  stands_only q there is =
-      let live = rw is at (ok.live q there) in
+  -- the stream waits in the queue with the priority of its half
+  waits_only : (priority : ℤ) → waits pending id ≡ Some priority → priority ≡ h.priority
+  waits_only priority is =
+      let live = ok.live id priority is in
       let here = ap half_priority (sym was) in
       cc
 
-  -- there is room in the queue for the stream
-  pub room_for : (priority : ℤ) → priority ≡ h.priority → has pending.streams (record { priority = priority; id = id }) ≡ false → length pending.streams < pending.room
-  room_for priority is absent = there_is_room es pending (record { priority = priority; id = id }) ok.live ok.in_order ok.room (ap half_priority (sym was) ∙ ap (λ (n : ℤ). Some n) (sym is)) absent
+  -- the stream has room in the queue
+  pub room_for : has_room pending id ≡ true
+  room_for = ok.room id ∙ ap (λ (o : Option PlainSend). is_some o) (sym was)
+
+  there_still : (k : ℕ) → is_some (half_in es k) ≡ is_some (half_in written k)
+  there_still k = elim (eqb_tells k id) [
+    | inl same ↦ rw (same.1, half_here, sym was) refl
+    | inr apart ↦ ap (λ (o : Option PlainSend). is_some o) (sym (half_apart k apart.0))
+  ]
 
   -- the half goes on
-  stepped : (queue : PlainPending) (sent' count' : ℕ)
-      → IsQueueAfter pending queue id → StandsOnlyAt queue id next.priority → (Waits next → has queue.streams (entry_of next id) ≡ true)
+  stepped : (queue : PlainPending) (priority : Option ℤ) (sent' count' : ℕ)
+      → IsQueueAfter pending queue id priority → ((n : ℤ) → priority ≡ Some n → n ≡ next.priority) → (Waits next → priority ≡ Some next.priority)
       → is_done next ≡ false → count' + held h ≡ s.unacked_data + held next → sent' ≤ s.max_data
       → AreSendHalves written queue s.max_data sent' count'
-  stepped queue sent' count' after own waits undone counted credit = record {
-    live = λ q there. elim (eqb_tells q.id id) [
-      | inl same ↦ ap half_priority (ap (λ (k : ℕ). half_in written k) same.1 ∙ half_here) ∙ ap (λ (n : ℤ). Some n) (sym (own q there same.1))
-      | inr apart ↦ ap half_priority (half_apart q.id apart.0) ∙ ok.live q (sym (after.others q apart.0) ∙ there)
+  stepped queue priority sent' count' after own waiting undone counted credit = record {
+    live = λ k n there. elim (eqb_tells k id) [
+      | inl same ↦ ap half_priority (ap (λ (k : ℕ). half_in written k) same.1 ∙ half_here) ∙ ap (λ (n : ℤ). Some n) (sym (own n (sym after.here ∙ sym (ap (waits queue) same.1) ∙ there)))
+      | inr apart ↦ ap half_priority (half_apart k apart.0) ∙ ok.live k n (sym (after.others k apart.0) ∙ there)
     ];
     listed = λ k g e w. elim (half_after k g e) [
-      | inl here ↦ let here_waits = rw here.1 at w in rw (here.0, here.1) (waits here_waits)
-      | inr apart ↦ after.others (entry_of g k) apart.0 ∙ ok.listed k g apart.1 w
+      | inl here ↦ let here_waits = rw here.1 at w in rw (here.0, here.1) (after.here ∙ waiting here_waits)
+      | inr apart ↦ after.others k apart.0 ∙ ok.listed k g apart.1 w
     ];
-    in_order = after.in_order;
-    room = rw (length-set_value (is_at (nat_cmp id)) es next, after.room_is) ok.room;
+    room = λ k. after.room_is k ∙ ok.room k ∙ there_still k;
     counted = omega (arith, ok.counted, counted, unacked_set es id h next (sym was));
     undone = λ k g e. elim (half_after k g e) [
       | inl here ↦ rw here.1 undone
@@ -196,35 +173,37 @@ module _ (s : Inside) (ok : AreSendHalves s.halves.entries s.pending s.max_data 
     credit = credit;
   }
 
-  -- the half goes on, and the stream is put into the queue
+  -- the half goes on, and the stream waits in the queue from now on
+  pub moved_stepped : (queue : PlainPending) (priority : ℤ) (sent' count' : ℕ)
+      → IsWaitSet pending queue id (Some priority) → IsRoomKept pending queue
+      → priority ≡ next.priority → is_done next ≡ false → count' + held h ≡ s.unacked_data + held next → sent' ≤ s.max_data
+      → AreSendHalves written queue s.max_data sent' count'
+  moved_stepped queue priority sent' count' put room_is is undone counted credit =
+      stepped queue (Some priority) sent' count' (set_after pending queue id (Some priority) put room_is)
+      (λ n e. ap (λ (o : Option ℤ). unwrap_or o n) (sym e) ∙ is) (λ w. ap (λ (n : ℤ). Some n) is) undone counted credit
+
   pub put_stepped : (queue : PlainPending) (priority : ℤ) (sent' count' : ℕ)
-      → IsPutIn pending queue (record { priority = priority; id = id }) → queue.room ≡ pending.room → AreInOrder queue.streams
+      → IsWaitSet pending queue id (Some priority) → IsRoomKept pending queue
       → priority ≡ next.priority → GoesOn h next → count' + held h ≡ s.unacked_data + held next → sent' ≤ s.max_data
       → AreSendHalves written queue s.max_data sent' count'
-  put_stepped queue priority sent' count' put room_is in_order is on counted credit =
-      let put' : IsPutIn pending queue (entry_of next id) = rw (sym is) put in
-      stepped queue sent' count' (put_after pending queue (entry_of next id) put' room_is in_order)
-      (λ q there here. elim (or_cases (is_same (entry_of next id) q) (has pending.streams q) (sym (put' q) ∙ there)) [
-        | inl now ↦ ap (λ (x : PendingStream). x.priority) (sym (same_is (entry_of next id) q now))
-        | inr before ↦ stands_only q before here ∙ sym on.priority_is
-      ])
-      (λ w. put_there pending queue (entry_of next id) put') on.undone counted credit
+  put_stepped queue priority sent' count' put room_is is on counted credit = moved_stepped queue priority sent' count' put room_is is on.undone counted credit
+
+  -- the half goes on, and nothing waits in it
+  pub taken_stepped : (queue : PlainPending)
+      → IsWaitSet pending queue id None → IsRoomKept pending queue → (Waits next → ⊥) → is_done next ≡ false → held next ≡ held h
+      → AreSendHalves written queue s.max_data s.data_sent s.unacked_data
+  taken_stepped queue taken room_is waiting undone same =
+      stepped queue None s.data_sent s.unacked_data (set_after pending queue id None taken room_is)
+      (λ n e. absurd (cc)) (λ w. absurd (waiting w)) undone (omega (arith, same)) ok.credit
 
   -- the half goes on with its priority, and nothing waits in it that didn't
   pub kept_stepped : (count' : ℕ) → GoesOn h next → (Waits next → Waits h) → count' + held h ≡ s.unacked_data + held next
       → AreSendHalves written pending s.max_data s.data_sent count'
-  kept_stepped count' on waits counted =
-      stepped pending s.data_sent count' (record { others = λ q apart. refl; room_is = refl; in_order = ok.in_order })
-      (λ q there here. stands_only q there here ∙ sym on.priority_is)
-      (λ w. rw on.priority_is (ok.listed id h (sym was) (waits w)))
+  kept_stepped count' on waiting counted =
+      stepped pending (waits pending id) s.data_sent count' (record { here = refl; others = λ k apart. refl; room_is = λ k. refl })
+      (λ n e. waits_only n e ∙ sym on.priority_is)
+      (λ w. ok.listed id h (sym was) (waiting w) ∙ ap (λ (n : ℤ). Some n) (sym on.priority_is))
       on.undone counted ok.credit
-
-  -- once it was taken out with that priority, the stream doesn't stand in the queue
-  not_there : (queue : PlainPending) → IsTakenOut pending queue (entry_of h id) → (q : PendingStream) → has queue.streams q ≡ true → q.id ≡ id → ⊥
-  not_there queue taken q there here =
-      let parts = and_parts (not (is_same (entry_of h id) q)) (has pending.streams q) (sym (taken q) ∙ there) in
-      let is : q ≡ entry_of h id = ap₂ (λ (n : ℤ) (k : ℕ). record { priority = n; id = k }) (stands_only q parts.1 here) here in
-      both_ways (not (is_same (entry_of h id) q)) (ap not (ap (is_same (entry_of h id)) is ∙ same_itself (entry_of h id))) parts.0
 
   -- ---- the half that is done leaves
 
@@ -251,24 +230,22 @@ module _ (s : Inside) (ok : AreSendHalves s.halves.entries s.pending s.max_data 
       let sum = rw half_here at (sum_by-remove_entry held (is_at (nat_cmp id)) written) in
       omega (arith, sum, unacked_sum written, unacked_sum (remove_entry (is_at (nat_cmp id)) written), done_holds_none next.state (length next.buffer.bytes) done)
 
-  pub left_stepped : (left : List (ℕ × PlainSend)) (queue : PlainPending) (priority : ℤ) (count' : ℕ)
+  pub left_stepped : (left : List (ℕ × PlainSend)) (queue : PlainPending) (count' : ℕ)
       → IsStrictlySortedBy nat_cmp (keys_of es) → left ≡ remove_entry (is_at (nat_cmp id)) written
-      → priority ≡ h.priority → IsTakenOut pending queue (record { priority = priority; id = id }) → queue.room ≡ pending.room → AreInOrder queue.streams
+      → IsWaitSet pending queue id None → ((k : ℕ) → has_room queue k ≡ (not (k == id) && has_room pending k))
       → is_done next ≡ true → count' + held h ≡ s.unacked_data + held next
       → AreSendHalves left queue s.max_data s.data_sent count'
-  left_stepped left queue priority count' sorted left_is is taken room_is in_order done counted =
-      let taken' : IsTakenOut pending queue (entry_of h id) = rw (sym is) taken in
-      let after = taken_after pending queue (entry_of h id) taken' room_is in_order in
+  left_stepped left queue count' sorted left_is taken room_is done counted =
+      let out : (k : ℕ) → half_in left k ≡ (if k == id then None else half_in es k) = λ k. ap (λ (l : List (ℕ × PlainSend)). half_in l k) left_is ∙ half_left k sorted in
       record {
-        live = λ q there. elim (eqb_tells q.id id) [
-          | inl same ↦ absurd (not_there queue taken' q there same.1)
-          | inr apart ↦ ap half_priority (ap (λ (l : List (ℕ × PlainSend)). half_in l q.id) left_is ∙ half_left q.id sorted ∙ ap (λ (b : Bool). if b then None else half_in es q.id) apart.0)
-              ∙ ok.live q (sym (after.others q apart.0) ∙ there)
+        live = λ k n there. elim (eqb_tells k id) [
+          | inl same ↦ absurd (let gone = taken k ∙ ap (λ (b : Bool). if b then None else waits pending k) same.0 in cc)
+          | inr apart ↦ ap half_priority (out k ∙ ap (λ (b : Bool). if b then None else half_in es k) apart.0)
+              ∙ ok.live k n (sym (taken k ∙ ap (λ (b : Bool). if b then None else waits pending k) apart.0) ∙ there)
         ];
         listed = λ k g e w. let stays = half_stays k g sorted (sym (ap (λ (l : List (ℕ × PlainSend)). half_in l k) left_is) ∙ e) in
-            after.others (entry_of g k) stays.0 ∙ ok.listed k g stays.1 w;
-        in_order = after.in_order;
-        room = omega (arith, ok.room, fewer (is_at (nat_cmp id)) written, ap (λ (l : List (ℕ × PlainSend)). length l) left_is, length-set_value (is_at (nat_cmp id)) es next, after.room_is);
+            taken k ∙ ap (λ (b : Bool). if b then None else waits pending k) stays.0 ∙ ok.listed k g stays.1 w;
+        room = λ k. room_is k ∙ room_left (k == id) (has_room pending k) (half_in es k) (ok.room k) ∙ ap (λ (o : Option PlainSend). is_some o) (sym (out k));
         counted = omega (arith, ok.counted, counted, unacked_set es id h next (sym was), unacked_left done, ap unacked left_is);
         undone = λ k g e. ok.undone k g (half_stays k g sorted (sym (ap (λ (l : List (ℕ × PlainSend)). half_in l k) left_is) ∙ e)).1;
         credit = ok.credit;
@@ -280,45 +257,6 @@ module _ (s : Inside) (ok : AreSendHalves s.halves.entries s.pending s.max_data 
     | inl same ↦ rw (same.1, half_here) (stays frame (rw (same.1, sym was) at span))
     | inr apart ↦ rw (half_apart k apart.0) span
   ]
-
-  -- ---- the priority changes: the stream is taken out, and put in again where something waits
-
-  -- there is room in the queue once the stream was taken out
-  pub room_again : (queue : PlainPending) (priority : ℤ) → priority ≡ h.priority → IsTakenOut pending queue (record { priority = priority; id = id }) → queue.room ≡ pending.room → AreInOrder queue.streams
-      → length queue.streams < queue.room
-  room_again queue priority is taken room_is in_order =
-      let taken' : IsTakenOut pending queue (entry_of h id) = rw (sym is) taken in
-      let gone : has queue.streams (entry_of h id) ≡ false = taken' (entry_of h id) ∙ ap (λ (b : Bool). not b && has pending.streams (entry_of h id)) (same_itself (entry_of h id)) in
-      there_is_room es queue (entry_of h id)
-      (λ q there. ok.live q (and_parts (not (is_same (entry_of h id) q)) (has pending.streams q) (sym (taken' q) ∙ there)).1)
-      in_order (rw room_is ok.room) (ap half_priority (sym was)) gone
-
-  pub taken_stepped : (queue : PlainPending) (priority : ℤ)
-      → priority ≡ h.priority → IsTakenOut pending queue (record { priority = priority; id = id }) → queue.room ≡ pending.room → AreInOrder queue.streams
-      → (Waits next → ⊥) → is_done next ≡ false → held next ≡ held h
-      → AreSendHalves written queue s.max_data s.data_sent s.unacked_data
-  taken_stepped queue priority is taken room_is in_order waits undone same =
-      let taken' : IsTakenOut pending queue (entry_of h id) = rw (sym is) taken in
-      stepped queue s.data_sent s.unacked_data (taken_after pending queue (entry_of h id) taken' room_is in_order)
-      (λ q there here. absurd (not_there queue taken' q there here)) (λ w. absurd (waits w)) undone (omega (arith, same)) ok.credit
-
-  pub moved_stepped : (without queue : PlainPending) (before priority : ℤ)
-      → before ≡ h.priority → IsTakenOut pending without (record { priority = before; id = id }) → without.room ≡ pending.room → AreInOrder without.streams
-      → priority ≡ next.priority → IsPutIn without queue (record { priority = priority; id = id }) → queue.room ≡ without.room → AreInOrder queue.streams
-      → is_done next ≡ false → held next ≡ held h
-      → AreSendHalves written queue s.max_data s.data_sent s.unacked_data
-  moved_stepped without queue before priority was_at taken room_without order_without is_at_now put room_is in_order undone same =
-      let taken' : IsTakenOut pending without (entry_of h id) = rw (sym was_at) taken in
-      let put' : IsPutIn without queue (entry_of next id) = rw (sym is_at_now) put in
-      let first = taken_after pending without (entry_of h id) taken' room_without order_without in
-      let second = put_after without queue (entry_of next id) put' room_is in_order in
-      stepped queue s.data_sent s.unacked_data
-      (record { others = λ q apart. second.others q apart ∙ first.others q apart; room_is = room_is ∙ room_without; in_order = in_order })
-      (λ q there here. elim (or_cases (is_same (entry_of next id) q) (has without.streams q) (sym (put' q) ∙ there)) [
-        | inl now ↦ ap (λ (x : PendingStream). x.priority) (sym (same_is (entry_of next id) q now))
-        | inr left ↦ absurd (not_there without taken' q left here)
-      ])
-      (λ w. put_there without queue (entry_of next id) put') undone (omega (arith, same)) ok.credit
 
   -- ---- what is told of the step
 

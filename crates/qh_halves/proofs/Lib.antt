@@ -7,8 +7,8 @@ pub mod HalvesStepped
 pub mod HalvesWithdrawn
 pub mod MapWritten
 pub mod PendingOrder
-pub mod PendingPlaces
-pub mod PendingRoom
+pub mod PendingSeats
 pub mod RecvHalvesInserted
 pub mod RecvHalvesStepped
 pub mod RecvSteps
+pub mod WinnerTrees

@@ -9,7 +9,7 @@ use Rattle.std.proofs.lemmas.Cmp.{eq_by_cmp_equiv, nat_cmp_total}
 use Rattle.std.proofs.lemmas.Map.{lookup-set_value}
 use Rattle.std.proofs.lemmas.Map.Steps.{set_value_same}
 
-at_key : (id k : ℕ) → is_at (nat_cmp id) k ≡ (k == id)
+pub at_key : (id k : ℕ) → is_at (nat_cmp id) k ≡ (k == id)
 at_key id k = grind arith
 
 same_key : (id k : ℕ) → is_at (nat_cmp id) k ≡ true → k ≡ id

@@ -2,11 +2,15 @@
 use Rattle.std.proofs.Common.{◌≡◌, Bool, true, false, cond, ◌&&◌, ◌||◌, nat_lt, ◌==◌, int_lt, int_eq, int_cmp, nat_cmp, is_eq, is_lt, Ordering, Less, Equal, Greater, ℤ, ℕ, refl, sym, ap, ap₂, ◌∙◌, arith}
 use Rattle.std.specs.Ordering.{on, then_cmp, flip_args, ordering_then, ordering_reverse}
 use Rattle.std.specs.Cmp.{IsTotalOrder}
-use Rattle.std.proofs.lemmas.Cmp.{then_total, on_total, back_total, nat_cmp_total, int_cmp_total, int_eq_equiv, tied_itself}
-use Rattle.std.proofs.lemmas.Bool.{eqb-true, eq-eqb, and_parts, and_from, both_ways}
+use Rattle.std.proofs.lemmas.Cmp.{then_total, on_total, back_total, nat_cmp_total, int_cmp_total, tied_itself}
+use Rattle.std.proofs.lemmas.Bool.{eqb-true, and_parts, both_ways}
 use Rattle.std.proofs.lemmas.Bool.Decides.{Decides-int_eq}
 use Rattle.qh_halves.specs.declared.pending.PendingStream.{PendingStream}
-use Rattle.qh_halves.specs.Pending.{is_same, goes_before}
+use Rattle.qh_halves.specs.Pending.{goes_before}
+
+-- the same id and priority
+abbrev pub is_same : PendingStream → PendingStream → Bool
+is_same p q = int_eq p.priority q.priority && p.id == q.id
 
 -- by priority, then by id
 abbrev rank : PendingStream → PendingStream → Ordering
@@ -62,9 +66,6 @@ pub same_is : (p q : PendingStream) → is_same p q ≡ true → p ≡ q
 same_is p q h =
     let parts = and_parts (int_eq p.priority q.priority) (p.id == q.id) h in
     same_parts p q ((Decides-int_eq p.priority q.priority).0 parts.0) (eqb-true p.id q.id parts.1)
-
-pub same_itself : (p : PendingStream) → is_same p p ≡ true
-same_itself p = and_from (int_eq p.priority p.priority) (p.id == p.id) (int_eq_equiv.refl p.priority) (eq-eqb p.id p.id refl)
 
 same_cases : (above below less same : Bool) → (less ≡ true → same ≡ false)
     → (is_eq (cond below Less (cond above Greater Equal)) && same) ≡ is_eq (ordering_then (cond above Less (cond below Greater Equal)) (cond less Less (cond same Equal Greater)))

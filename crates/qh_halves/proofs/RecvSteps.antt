@@ -1,5 +1,5 @@
 -- What counts as read never falls by a step of a receiving half, and few steps make a frame due.
-use Rattle.std.proofs.Common.{◌≡◌, ℕ, ◌+◌, ◌≤◌, ◌==◌, nat_lt, max, length, Bool, true, false, ◌&&◌, ◌||◌, not, Option, Some, None, is_some, Result, if◌then◌else◌, refl, sym, ap, ◌∙◌, arith, inl, inr}
+use Rattle.std.proofs.Common.{◌≡◌, ℕ, ◌+◌, ◌≤◌, ◌==◌, nat_lt, max, length, Bool, true, false, ◌&&◌, ◌||◌, not, Option, Some, None, is_some, Result, Ok, Err, OnOk, IfErr, if◌then◌else◌, refl, sym, ap, ◌∙◌, arith, inl, inr}
 use Rattle.std.proofs.lemmas.Bool.{cases_Bool, both_ways, or_left, or_right}
 use Rattle.std.specs.Option.{option_map}
 use Rattle.qh_buffers.specs.declared.assembler.Chunk.{Chunk}
@@ -8,9 +8,10 @@ use Rattle.qh_buffers.specs.declared.send_buffer.Mark.TheVariants.{Acked}
 use Rattle.qh_half.specs.declared.recv.StopFrame.{StopFrame}
 use Rattle.qh_buffers.specs.Assembler.{PlainAssembler}
 use Rattle.qh_half.specs.declared.fault.ReadFault.{ReadFault}
+use Rattle.qh_half.specs.declared.fault.ReadableFault.{ReadableFault}
 use Rattle.qh_half.specs.declared.recv.RecvState.{RecvState}
 use Rattle.qh_half.specs.declared.recv.RecvState.TheVariants.{Recv, ResetRecvd}
-use Rattle.qh_half.specs.Recv.{PlainRecv, IsIngested, IsResetBy, IsReadAnswer, IsStopped, bytes, nothing, end, reset, blocked, memory, bytes_read, counted, keeps_bytes, is_reset, reset_code, final_size, with_size, is_done, is_stop_due, is_limit_due, is_frame_due, frame_is, is_queued_mark, acked_stop, wants_more, limit_of, passes_limit, ingest_fault}
+use Rattle.qh_half.specs.Recv.{PlainRecv, IsIngested, IsResetBy, IsReadAnswer, IsStopped, bytes, nothing, end, reset, blocked, memory, bytes_read, counted, keeps_bytes, is_reset, reset_code, final_size, with_size, is_done, is_stop_due, is_limit_due, is_frame_due, frame_is, is_queued_mark, acked_stop, wants_more, limit_of, passes_limit, ingest_fault, readable_fault, with_order}
 use Rattle.qh_halves.specs.declared.recv_halves.StreamControl.{StreamControl}
 use Rattle.qh_halves.specs.declared.recv_halves.StreamControl.TheVariants.{StopSending, MaxStreamData}
 use Rattle.qh_halves.specs.RecvHalves.{GivesControl}
@@ -121,6 +122,12 @@ acked_limit_due false true true mark rose e = or_right (is_queued_mark mark) ros
 pub due_at_limit_acked : (r : PlainRecv) (limit window : ℕ) → is_frame_due (record r { limit_mark = (if limit == r.sent_max_stream_data then Acked else r.limit_mark) }) window ≡ true → is_frame_due r window ≡ true
 due_at_limit_acked r limit window frame =
     acked_limit_due (is_stop_due r) (wants_more r) (limit == r.sent_max_stream_data) r.limit_mark (nat_lt r.sent_max_stream_data (limit_of r window)) frame
+
+-- a read that begins leaves the half as done as it was, and makes no frame due
+pub begun_keeps : {T : Type 0} (h next : PlainRecv) (ordered : Bool) (window : ℕ) (result : Result T ReadableFault) → OnOk result ((readable_fault h ordered ≡ None) × (next ≡ with_order h ordered))
+    → IfErr result (λ e. (readable_fault h ordered ≡ Some e) × (next ≡ h)) → (is_done next ≡ is_done h) × (is_frame_due next window ≡ true → is_frame_due h window ≡ true)
+begun_keeps h next ordered window (Ok x) ok err = rw ok.1 (refl, λ frame. frame)
+begun_keeps h next ordered window (Err e) ok err = rw err.1 (refl, λ frame. frame)
 
 -- ---- the connection's limit
 

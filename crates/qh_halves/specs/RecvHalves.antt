@@ -1,5 +1,5 @@
 -- The receiving halves of a connection's streams by their ids, and what they share: the connection's limit.
-use Rattle.std.specs.Prelude.{◌≡◌, ℕ, ◌+◌, ◌-◌, ◌<◌, ◌≤◌, ◌^◌, ◌==◌, min, max, Bool, true, false, ◌&&◌, ◌||◌, not, List, length, Option, Some, None, IsSome, pos, Result, Err, if◌then◌else◌}
+use Rattle.std.specs.Prelude.{◌≡◌, ℕ, ◌+◌, ◌-◌, ◌<◌, ◌≤◌, ◌^◌, ◌==◌, min, max, Bool, true, false, ◌&&◌, ◌||◌, not, List, Option, Some, None, is_some, pos, Result, Err, if◌then◌else◌}
 use Rattle.std.specs.Ordering.{nat_cmp}
 use Rattle.std.specs.BTreeMap.{is_at}
 use Rattle.std.specs.Map.{lookup, set_value}
@@ -16,7 +16,7 @@ use Rattle.qh_halves.specs.declared.recv_halves.StreamControl.{StreamControl}
 use Rattle.qh_halves.specs.declared.recv_halves.StreamControl.TheVariants.{StopSending, MaxStreamData}
 use Rattle.qh_halves.specs.Counts.{is_in_range}
 use Rattle.qh_halves.specs.Limit.{is_due}
-use Rattle.qh_halves.specs.Pending.{PlainPending, has, AreInOrder, is_same}
+use Rattle.qh_halves.specs.Pending.{PlainPending, has_room, waits}
 use Rattle.qh_half.specs.Recv.{PlainRecv, new_recv, ingest_fault, readable_fault, with_order, IsIngested, IsResetBy, IsReadAnswer, IsStopped, with_reset_given, reset_code, is_closed, is_done, counted, limit_of, is_limit_due, owes_limit, is_stop_due, owes_stop, is_frame_due, acked_stop, lost_stop}
 use Rattle.qh_buffers.specs.SendBuffer.{lost_mark}
 use Rattle.qh_halves.specs.declared.limit.AnnouncedLimit.{AnnouncedLimit}
@@ -189,13 +189,11 @@ is_credit_due s id = half_is_limit_due (recv_at s id) s.stream_window || is_due 
 abbrev pub due_entry : (id : ℕ) → PendingStream
 due_entry id = record { priority = pos 0; id = id }
 
--- The queue has the streams of which a frame is due, and no stream without a half; each half has its room in it; no half is
--- done; no byte came past the limit.
+-- In the queue wait the streams of which a frame is due; exactly the streams with a half have room in it; no half is done; no
+-- byte came past the limit.
 pub record AreRecvHalves (halves : List (ℕ × PlainRecv)) (due : PlainPending) (received stream_window : ℕ) (announced : AnnouncedLimit) : Type 0 where
-  pub live : (q : PendingStream) → has due.streams q ≡ true → (q.priority ≡ pos 0) × IsSome (recv_half_in halves q.id)
-  pub listed : (k : ℕ) (r : PlainRecv) → recv_half_in halves k ≡ Some r → is_frame_due r stream_window ≡ true → has due.streams (due_entry k) ≡ true
-  pub in_order : AreInOrder due.streams
-  pub room : length halves ≤ due.room
+  pub listed : (k : ℕ) (r : PlainRecv) → recv_half_in halves k ≡ Some r → is_frame_due r stream_window ≡ true → waits due k ≡ Some (pos 0)
+  pub room : (k : ℕ) → has_room due k ≡ is_some (recv_half_in halves k)
   pub undone : (k : ℕ) (r : PlainRecv) → recv_half_in halves k ≡ Some r → is_done r ≡ false
   pub received_below : received ≤ announced.value
   pub bound : announced.value < 2 ^ 62
@@ -203,10 +201,9 @@ pub record AreRecvHalves (halves : List (ℕ × PlainRecv)) (due : PlainPending)
 -- A half that is done leaves, with what it had to send. Of one that isn't a frame may be due.
 pub record IsSettled (old new : List (ℕ × PlainRecv)) (due after : PlainPending) (id : ℕ) (is_done is_due : Bool) : Type 0 where
   pub halves_are : (k : ℕ) → recv_half_in new k ≡ (if is_done && k == id then None else recv_half_in old k)
-  pub fewer : length new ≤ length old
-  pub due_are : (q : PendingStream) → has after.streams q ≡ (if is_done then not (is_same (due_entry id) q) && has due.streams q else (is_due && is_same (due_entry id) q) || has due.streams q)
-  pub room_is : after.room ≡ due.room
-  pub in_order : AreInOrder after.streams
+  pub others : (k : ℕ) → (k == id) ≡ false → waits after k ≡ waits due k
+  pub here : is_done ≡ false → waits after id ≡ (if is_due then Some (pos 0) else waits due id)
+  pub room_is : (k : ℕ) → has_room after k ≡ (not (is_done && k == id) && has_room due k)
 
 -- one half was written, and no other
 pub record IsHalfWritten (P : PlainRecv → PlainRecv → Type 0) (old new : List (ℕ × PlainRecv)) (id : ℕ) : Type 0 where

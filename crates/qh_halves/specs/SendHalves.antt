@@ -1,6 +1,6 @@
 -- The sending halves of a connection's streams by their ids, and what they share: the peer's limit on the connection and the
 -- send window.
-use Rattle.std.specs.Prelude.{◌≡◌, ◌⊎◌, ℕ, ℤ, ◌+◌, ◌-◌, ◌<◌, ◌≤◌, ◌^◌, ◌==◌, min, max, Bool, true, false, List, [], ◌∷◌, length, Option, Some, None, IsSomeAnd, if◌then◌else◌}
+use Rattle.std.specs.Prelude.{◌≡◌, ◌⊎◌, ℕ, ℤ, ◌+◌, ◌-◌, ◌<◌, ◌≤◌, ◌^◌, ◌==◌, min, max, Bool, true, false, List, [], ◌∷◌, length, Option, Some, None, IsSomeAnd, is_some, if◌then◌else◌}
 use Rattle.std.specs.Ordering.{nat_cmp}
 use Rattle.std.specs.BTreeMap.{is_at}
 use Rattle.std.specs.Map.{lookup}
@@ -18,7 +18,7 @@ use Rattle.qh_halves.specs.declared.pending.PendingStream.{PendingStream}
 use Rattle.qh_halves.specs.declared.send_halves.Transmission.{Transmission}
 use Rattle.qh_halves.specs.declared.send_halves.Transmission.TheVariants.{Stream, Reset}
 use Rattle.qh_halves.specs.Counts.{is_in_range}
-use Rattle.qh_halves.specs.Pending.{PlainPending, has, goes_before, AreInOrder}
+use Rattle.qh_halves.specs.Pending.{PlainPending, has_room, waits, goes_before}
 use Rattle.qh_half.specs.Send.{PlainSend, new_send, is_reset, is_done, write_fault, finish_fault, is_reset_refused, IsPieceOut, IsEndOut, IsPieceAcked, IsPieceQueued, IsSettled, with_reset_mark, with_reset_lost, with_bytes, owes_reset, held, Waits, is_writable, IsHeld}
 
 pub record PlainSendHalves : Type 0 where
@@ -248,13 +248,13 @@ half_is_writable (Some h) = is_writable h
 abbrev pub half_priority : Option PlainSend → Option ℤ
 half_priority o = option_map (λ (h : PlainSend). h.priority) o
 
--- The queue has the streams in which something waits, and no stream without a half; each half has its room in it; what
--- is counted are the bytes held; no half is done; nothing was taken past the limit.
+-- In the queue wait the streams in which something waits, each with its half's priority, and no stream without a half; exactly
+-- the streams with a half have room in it; what is counted are the bytes held; no half is done; nothing was taken past the
+-- limit.
 pub record AreSendHalves (halves : List (ℕ × PlainSend)) (pending : PlainPending) (max_data data_sent unacked_data : ℕ) : Type 0 where
-  pub live : (q : PendingStream) → has pending.streams q ≡ true → half_priority (half_in halves q.id) ≡ Some q.priority
-  pub listed : (k : ℕ) (h : PlainSend) → half_in halves k ≡ Some h → Waits h → has pending.streams (entry_of h k) ≡ true
-  pub in_order : AreInOrder pending.streams
-  pub room : length halves ≤ pending.room
+  pub live : (k : ℕ) (priority : ℤ) → waits pending k ≡ Some priority → half_priority (half_in halves k) ≡ Some priority
+  pub listed : (k : ℕ) (h : PlainSend) → half_in halves k ≡ Some h → Waits h → waits pending k ≡ Some h.priority
+  pub room : (k : ℕ) → has_room pending k ≡ is_some (half_in halves k)
   pub counted : unacked_data ≡ unacked halves
   pub undone : (k : ℕ) (h : PlainSend) → half_in halves k ≡ Some h → is_done h ≡ false
   pub credit : data_sent ≤ max_data

@@ -1,9 +1,14 @@
-ghost use Rattle.std.specs.Prelude.{◌≡◌, ◌<◌, ◌≤◌, ◌&&◌, ◌||◌, not, length, slice_get, MatchOption, OnOk, OnErr, [], false, true};
-ghost use Rattle.qh_halves.specs.Pending.{is_same, goes_before, has, AreInOrder, IsFirst, IsPlace, is_same_as};
+ghost use Rattle.std.specs.Prelude.{◌≡◌, ◌<◌, ◌==◌, ◌&&◌, ◌||◌, ℕ, ℤ, not, true, false, Some, None, MatchOption, IsOk, OnOk, OnErr, if◌then◌else◌};
+ghost use Rattle.qh_halves.specs.Pending.{goes_before, has_room, waits, waiting, IsFirst};
+
+mod winner_tree;
 
 use qh_base::Memory;
+use slab::Slab;
 use std::alloc::Global;
+use std::collections::BTreeMap;
 use std::marker::Model;
+use winner_tree::WinnerTree;
 
 /// A stream that waits for something to be sent.
 #[derive(Clone, Copy, PartialEq)]
@@ -23,94 +28,104 @@ impl PendingStream {
     }
 }
 
-/// Streams that wait for something to be sent, in the order in which they are served. A stream stands in it once. Its room is
-/// taken before: to put a stream in takes no memory.
+/// Streams that wait for something to be sent, in the order in which they are served. A stream waits once, with one priority,
+/// and gets room before that: so no memory is taken where it waits. A call costs O(log n), `first` O(1), and `admit` O(log n)
+/// amortized, with the n streams that had room at once at most so far. Each of them takes about 100 to 200 bytes: what a stream leaves
+/// is given to the next one, and is never given back to the allocator.
 #[derive(Drop)]
 pub struct PendingStreamsQueue {
-    streams: Vec<PendingStream>,
+    // the place of each stream that has room
+    seats: BTreeMap<u64, usize>,
+    // which stream has a place, and which place is free
+    ids: Slab<u64>,
+    // the streams that wait, each at its place
+    tree: WinnerTree,
 }
 
 impl Model for PendingStreamsQueue {
-    ghost use Rattle.std.specs.Vec.{vec_capacity};
-    ghost use Rattle.qh_halves.specs.Pending.{PlainPending, AreInOrder};
+    ghost use Rattle.qh_halves.specs.Pending.{PlainPending};
+    ghost use Rattle.qh_halves.specs.Seats.{with_priorities, AreSeated};
 
     ghost Value = { PlainPending };
 
-    ghost view = { λ q. record { streams = q.streams.items; room = vec_capacity q.streams } };
+    ghost view = { λ q. record { streams = with_priorities q.tree q.seats.entries } };
 
-    ghost invariant = { λ q. AreInOrder q.streams.items };
+    ghost invariant = { λ q. AreSeated q.seats.entries q.ids q.tree };
 }
 
 impl PendingStreamsQueue {
-    /// A queue without room.
+    /// A queue in which no stream has room.
     pub fn new(alloc: Global) -> PendingStreamsQueue
-        ensures { result.streams ≡ [] }
+        ensures room { (k : ℕ) → has_room result k ≡ false }
+        ensures waits { (k : ℕ) → waits result k ≡ None }
     {
         PendingStreamsQueue {
-            streams: Vec::new(alloc),
+            seats: BTreeMap::new(alloc),
+            ids: Slab::new(alloc),
+            tree: WinnerTree::new(alloc),
         }
     }
 
-    /// Takes room for so many streams in all.
-    pub fn reserve(&mut self, count: usize) -> Result<(), Memory>
-        ensures streams { self.new.streams ≡ self.old.streams }
-        ensures room { self.old.room ≤ self.new.room }
-        ensures ok { OnOk result (count ≤ self.new.room) }
+    /// Takes room for a stream, unless it has it. For want of memory nothing changes.
+    pub fn admit(&mut self, id: u64) -> Result<(), Memory>
+        ensures room { OnOk result ((k : ℕ) → has_room self.new k ≡ (k == id || has_room self.old k)) }
+        ensures waits { OnOk result ((k : ℕ) → waits self.new k ≡ waits self.old k) }
+        ensures again { has_room self.old id ≡ true → IsOk result × (self.new ≡ self.old) }
+        ensures err { OnErr result (self.new ≡ self.old) }
     {
-        let more = count.saturating_sub(self.streams.len());
-        self.streams.reserve(more)?;
-        Ok(())
+        if self.seats.contains_key(&id) {
+            return Ok(());
+        }
+        self.ids.reserve(1)?;
+        let place = self.ids.vacant_key();
+        self.tree.reserve(place)?;
+        match self.seats.insert(id, place) {
+            Ok(_) => {
+                let _ = self.ids.insert_reserved(id);
+                Ok(())
+            }
+            Err(_) => Err(Memory),
+        }
+    }
+
+    /// Gives up the room of a stream, which waits no more.
+    pub fn leave(&mut self, id: u64)
+        ensures room { (k : ℕ) → has_room self.new k ≡ (not (k == id) && has_room self.old k) }
+        ensures waits { (k : ℕ) → waits self.new k ≡ (if k == id then None else waits self.old k) }
+    {
+        let Some(place) = self.seats.remove(&id) else {
+            return;
+        };
+        self.tree.set(place, None);
+        self.ids.remove(place);
     }
 
     /// The stream that is served first, None where none waits.
     pub fn first(&self) -> Option<PendingStream>
-        ensures first { MatchOption result (self.now.streams ≡ []) (IsFirst self.now.streams) }
-        ensures in_order { AreInOrder self.now.streams }
+        ensures { MatchOption result ((k : ℕ) → waits self.now k ≡ None) (IsFirst self.now) }
     {
-        self.streams.first().copied()
+        self.tree.first()
     }
 
-    /// Puts a stream in, where it isn't there.
+    /// Lets a stream wait that has room. Where it waits with another priority it waits with this one from now on.
     pub fn insert(&mut self, stream: PendingStream)
-        requires { has self.old.streams stream ≡ false → length self.old.streams < self.old.room }
-        ensures streams { (q : PendingStream) → has self.new.streams q ≡ (is_same stream q || has self.old.streams q) }
-        ensures room { self.new.room ≡ self.old.room }
-        ensures in_order { AreInOrder self.new.streams }
+        requires { has_room self.old stream.id ≡ true }
+        ensures waits { (k : ℕ) → waits self.new k ≡ (if k == stream.id then Some stream.priority else waits self.old k) }
+        ensures room { (k : ℕ) → has_room self.new k ≡ has_room self.old k }
     {
-        let place = self.place(stream);
-        if self.stands_at(place, stream) {
-            return;
-        }
-        let _ = self.streams.insert(place, stream);
-    }
-
-    /// Takes a stream out, where it is there.
-    pub fn remove(&mut self, stream: PendingStream)
-        ensures streams { (q : PendingStream) → has self.new.streams q ≡ (not (is_same stream q) && has self.old.streams q) }
-        ensures room { self.new.room ≡ self.old.room }
-        ensures shorter { has self.old.streams stream ≡ true → length self.new.streams < length self.old.streams }
-        ensures in_order { AreInOrder self.new.streams }
-    {
-        let place = self.place(stream);
-        if self.stands_at(place, stream) {
-            self.streams.remove(place);
+        if let Some(place) = self.seats.get(&stream.id).copied() {
+            self.tree.set(place, Some(stream));
         }
     }
 
-    // How many of those that wait go before a stream.
-    fn place(&self, stream: PendingStream) -> usize
-        ensures { IsPlace self.now.streams stream result }
+    /// Lets a stream wait no more. It keeps its room.
+    pub fn remove(&mut self, id: u64)
+        ensures waits { (k : ℕ) → waits self.new k ≡ (if k == id then None else waits self.old k) }
+        ensures room { (k : ℕ) → has_room self.new k ≡ has_room self.old k }
+        ensures fewer { (priority : ℤ) → waits self.old id ≡ Some priority → waiting self.new < waiting self.old }
     {
-        self.streams.partition_point(|p| p.goes_before(&stream))
-    }
-
-    // Whether a stream stands at this place.
-    fn stands_at(&self, place: usize, stream: PendingStream) -> bool
-        ensures { result ≡ is_same_as stream (slice_get self.now.streams place) }
-    {
-        match self.streams.get(place) {
-            Some(other) => *other == stream,
-            None => false,
+        if let Some(place) = self.seats.get(&id).copied() {
+            self.tree.set(place, None);
         }
     }
 }

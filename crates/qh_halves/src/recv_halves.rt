@@ -9,7 +9,7 @@ ghost use Rattle.qh_halves.specs.Limit.{is_due, acked_at, lost_at, owes_value};
 ghost use Rattle.qh_half.specs.Recv.{PlainRecv, new_recv, ingest_fault, is_frame_due, IsFaultOf};
 ghost use Rattle.qh_halves.specs.RecvHalves.{recv_at, recv_half_in, data_limit, IsRecvHalf, IsRecvStep, IsRecvAbsent, ingest_fault_at, IsPieceTaken, IsResetTaken, readable_fault_at, is_closed_at, Reads, Begins, IsBegunRead, is_wanting, Stops, TakesReset, NoneIsDue, GivesControl, IsLimitAcked, IsLimitLost, IsStopAcked, IsStopLost, half_owes_limit, half_owes_stop, half_is_wanted, due_entry, is_credit_due, AreRecvAdded, PlainRecvHalves, IsSettled, IsHalfWritten, IsNoneDue};
 ghost use Rattle.qh_halves.specs.Counts.{is_in_range};
-ghost use Rattle.qh_halves.specs.Pending.{has, AreInOrder};
+ghost use Rattle.qh_halves.specs.Pending.{has_room};
 
 use crate::{AnnouncedLimit, PendingStream, PendingStreamsQueue};
 use qh_base::{Memory, VarInt};
@@ -92,6 +92,13 @@ impl RecvHalves {
         }
     }
 
+    // The halves stand in order of their ids. It does nothing: its contract says so.
+    fn are_sorted(&self)
+        ensures { IsStrictlySortedBy nat_cmp (keys_of self.now.halves) }
+    {
+        let _ = self.halves.len();
+    }
+
     /// A stream gets its half, with the first limit on it, which the peer knows: the window, at most 2^62 - 1. It gets room for
     /// all that it may have to send.
     pub fn insert(&mut self, alloc: Global, id: u64) -> Result<(), Memory>
@@ -100,11 +107,14 @@ impl RecvHalves {
         ensures entries { OnOk result (self.new.halves ≡ insert_entry nat_cmp self.old.halves id (new_recv (min self.old.stream_window (2 ^ 62 - 1)))) }
         ensures err { OnErr result (self.new ≡ self.old) }
     {
-        self.due.reserve(self.halves.len() + 1)?;
+        self.due.admit(id)?;
         let half = Recv::new(alloc, first_limit(self.stream_window));
         match self.halves.insert(id, half) {
             Ok(_) => Ok(()),
-            Err(_) => Err(Memory),
+            Err(_) => {
+                self.due.leave(id);
+                Err(Memory)
+            }
         }
     }
 
@@ -116,17 +126,8 @@ impl RecvHalves {
         ensures rest { self.new ≡ record self.old { halves = self.new.halves } }
         ensures sorted { IsStrictlySortedBy nat_cmp (keys_of self.new.halves) }
     {
-        self.due.remove(due_entry(id));
+        self.due.leave(id);
         let _ = self.halves.remove(&id);
-    }
-
-    // Takes room for what so many halves more may have to send.
-    fn reserve(&mut self, count: usize) -> Result<(), Memory>
-        requires { count < 2 ^ 62 }
-        ensures same { self.new ≡ self.old }
-        ensures sorted { IsStrictlySortedBy nat_cmp (keys_of self.old.halves) }
-    {
-        self.due.reserve(self.halves.len() + count)
     }
 
     /// Streams get their halves, so many, each fourth id from the first on.
@@ -137,7 +138,7 @@ impl RecvHalves {
         ensures err { OnErr result (self.new ≡ self.old) }
         ensures sorted { IsStrictlySortedBy nat_cmp (keys_of self.old.halves) }
     {
-        self.reserve(count as usize)?;
+        self.are_sorted();
         for i in 0..count {
             if self.insert(alloc, first + 4 * i).is_err() {
                 self.withdraw_range(first, i);
@@ -350,7 +351,7 @@ impl RecvHalves {
             if let Some(control) = control(&mut self.halves, first.id, self.stream_window) {
                 return Some((first.id, control));
             }
-            self.due.remove(first);
+            self.due.remove(first.id);
         }
         None
     }
@@ -502,12 +503,11 @@ fn settle(
     is_done: bool,
     is_due: bool,
 )
-    requires in_order { AreInOrder due.old.streams }
-    requires room { has due.old.streams (due_entry id) ≡ false → length due.old.streams < due.old.room }
+    requires { has_room due.old id ≡ true }
     ensures { IsSettled halves.old.entries halves.new.entries due.old due.new id is_done is_due }
 {
     if is_done {
-        due.remove(due_entry(id));
+        due.leave(id);
         let _ = halves.remove(&id);
         return;
     }

@@ -118,6 +118,13 @@ impl SendHalves {
         credit.min(self.send_window.saturating_sub(self.unacked_data))
     }
 
+    // The halves stand in order of their ids. It does nothing: its contract says so.
+    fn are_sorted(&self)
+        ensures { IsStrictlySortedBy nat_cmp (keys_of self.now.halves) }
+    {
+        let _ = self.halves.len();
+    }
+
     /// A stream gets its half, with the peer's limit on it, and with room for all that it may have to send.
     pub fn insert(&mut self, alloc: Global, id: u64, max_data: VarInt) -> Result<(), Memory>
         requires { send_at self.old id ≡ None }
@@ -127,10 +134,14 @@ impl SendHalves {
         ensures sorted { IsStrictlySortedBy nat_cmp (keys_of self.old.halves) }
         ensures err { OnErr result (self.new ≡ self.old) }
     {
-        self.pending.reserve(self.halves.len() + 1)?;
+        self.are_sorted();
+        self.pending.admit(id)?;
         match self.halves.insert(id, Send::new(alloc, max_data)) {
             Ok(_) => Ok(()),
-            Err(_) => Err(Memory),
+            Err(_) => {
+                self.pending.leave(id);
+                Err(Memory)
+            }
         }
     }
 
@@ -146,18 +157,8 @@ impl SendHalves {
         let Some(half) = self.halves.remove(&id) else {
             return;
         };
-        let priority = half.rank();
         self.unacked_data -= half.held();
-        self.pending.remove(PendingStream { priority, id });
-    }
-
-    // Takes room for what so many halves more may have to send.
-    fn reserve(&mut self, count: usize) -> Result<(), Memory>
-        requires { count < 2 ^ 62 }
-        ensures same { self.new ≡ self.old }
-        ensures sorted { IsStrictlySortedBy nat_cmp (keys_of self.old.halves) }
-    {
-        self.pending.reserve(self.halves.len() + count)
+        self.pending.leave(id);
     }
 
     /// Streams get their halves, so many, each fourth id from the first on, with the peer's limit on each.
@@ -175,7 +176,7 @@ impl SendHalves {
         ensures err { OnErr result (self.new ≡ self.old) }
         ensures sorted { IsStrictlySortedBy nat_cmp (keys_of self.old.halves) }
     {
-        self.reserve(count as usize)?;
+        self.are_sorted();
         for i in 0..count {
             if self.insert(alloc, first + 4 * i, max_data).is_err() {
                 self.withdraw_range(first, i);
@@ -332,15 +333,11 @@ impl SendHalves {
         let Some(half) = self.halves.get_mut(&id) else {
             return Err(ClosedStream);
         };
-        let before = half.rank();
         half.set_priority(priority)?;
-        let waits = half.waits();
-        self.pending.remove(PendingStream {
-            priority: before,
-            id,
-        });
-        if waits {
+        if half.waits() {
             self.pending.insert(PendingStream { priority, id });
+        } else {
+            self.pending.remove(id);
         }
         Ok(())
     }
@@ -399,7 +396,7 @@ impl SendHalves {
             if waits_in(&self.halves, first.id) {
                 return Some(first.id);
             }
-            self.pending.remove(first);
+            self.pending.remove(first.id);
         }
         None
     }
@@ -443,12 +440,11 @@ impl SendHalves {
         };
         let before = half.held();
         half.ack(frame);
-        let priority = half.rank();
         let is_done = half.is_done();
         self.unacked_data -= before - half.held();
         if is_done {
             self.halves.remove(&id);
-            self.pending.remove(PendingStream { priority, id });
+            self.pending.leave(id);
         }
         is_done
     }
@@ -488,11 +484,10 @@ impl SendHalves {
             return false;
         };
         half.ack_reset();
-        let priority = half.rank();
         let is_done = half.is_done();
         if is_done {
             self.halves.remove(&id);
-            self.pending.remove(PendingStream { priority, id });
+            self.pending.leave(id);
         }
         is_done
     }

@@ -35,11 +35,11 @@ use Rattle.qh_half.specs.Send.{PlainSend}
 use Rattle.qh_streams.proofs.StreamsTrackedCalls.{opened_keeps, sending_keeps}
 use Rattle.qh_streams.specs.Tracked.IsSendingStep.{takes, finishes, resets, priority as priority_set}
 use Rattle.qh_owing.proofs.KeptStreams.{finish, kept, prioritized, reads_nothing, reset_by, restated, wrote}
-use Rattle.qh_owing.proofs.OwingConnections.{nothing_more, on, same, without_more}
+use Rattle.qh_owing.proofs.OwingConnections.{none_come, nothing_more, on, same, without_more}
 use Rattle.qh_owing.proofs.OwingDatagrams.{carried_more, kept_more, out_before}
 use Rattle.qh_owing.specs.Owing.{AcceptsTag, AreKept, IsByteAcknowledged, IsEndAcknowledged, Owes}
 use Rattle.qh_spec.specs.StreamId.{stream_id}
-use Rattle.qh_spec.specs.Transcript.{Act, Finished, ReadReset, Reset, Stopped, Wrote, handed_out, was_reset, written}
+use Rattle.qh_spec.specs.Transcript.{Act, Finished, ReadReset, Reset, Stopped, Wrote, handed_in, handed_out, was_reset, written}
 use Rattle.qh_spec.specs.declared.sides.Dir.{Dir}
 use Rattle.qh_spec.proofs.TranscriptLaws.{written-append}
 use Rattle.qh_streams.proofs.StreamsSettled.{closed_alone, counts_alone}
@@ -56,23 +56,24 @@ use Rattle.qh_transcript.specs.Receiving.{piece_acts, read_acts, reset_acts}
 record AreOfReaders (u : List Act) : Type 0 where
   writes : WriteNothing u
   resets : (id : ℕ) → was_reset u id ≡ false
+  comes : handed_in u ≡ []
 
 no_acts : AreOfReaders []
-no_acts = record { writes = record { bytes = λ id. refl; ends = λ id. refl }; resets = λ id. refl }
+no_acts = record { writes = record { bytes = λ id. refl; ends = λ id. refl }; resets = λ id. refl; comes = refl }
 
 stop_reads : (id code : ℕ) → AreOfReaders (Stopped id code ∷ [])
-stop_reads id code = record { writes = record { bytes = λ id. refl; ends = λ id. refl }; resets = λ id. refl }
+stop_reads id code = record { writes = record { bytes = λ id. refl; ends = λ id. refl }; resets = λ id. refl; comes = refl }
 
 piece_reads : (id offset : ℕ) (bytes : List ℕ) → AreOfReaders (piece_acts id offset bytes)
 piece_reads id offset [] = no_acts
-piece_reads id offset (b ∷ bytes) = record { writes = record { bytes = λ id. refl; ends = λ id. refl }; resets = λ id. refl }
+piece_reads id offset (b ∷ bytes) = record { writes = record { bytes = λ id. refl; ends = λ id. refl }; resets = λ id. refl; comes = refl }
 
 told_reset : (id code : ℕ) → AreOfReaders (ReadReset id code ∷ [])
-told_reset id code = record { writes = record { bytes = λ id. refl; ends = λ id. refl }; resets = λ id. refl }
+told_reset id code = record { writes = record { bytes = λ id. refl; ends = λ id. refl }; resets = λ id. refl; comes = refl }
 
 read_reads : (id : ℕ) (answer : Result (Option Chunk) ReadFault) → AreOfReaders (read_acts id answer)
 read_reads id (Ok (Some c)) = piece_reads id c.offset c.bytes
-read_reads id (Ok None) = record { writes = record { bytes = λ id. refl; ends = λ id. refl }; resets = λ id. refl }
+read_reads id (Ok None) = record { writes = record { bytes = λ id. refl; ends = λ id. refl }; resets = λ id. refl; comes = refl }
 read_reads id (Err (read_fault.Reset code)) = told_reset id code
 read_reads id (Err read_fault.Blocked) = no_acts
 read_reads id (Err read_fault.Memory) = no_acts
@@ -146,10 +147,10 @@ module _ {S : Type 0} (accepts : AcceptsTag) where
   -- ---- the streams alone go on
 
   module _ (old : Inner S) (s : PlainStreams) (t u : List Act) where
-    called : ((Byte : ℕ → ℕ → Type 0) (End : ℕ → Type 0) → AreKept Byte End t old.space.streams → AreKept Byte End (t ++ u) s) → SendsNoMore old.space.streams s → Owes accepts old t → Owes accepts (with_streams old s) (t ++ u)
-    called go less o =
+    called : handed_in u ≡ [] → ((Byte : ℕ → ℕ → Type 0) (End : ℕ → Type 0) → AreKept Byte End t old.space.streams → AreKept Byte End (t ++ u) s) → SendsNoMore old.space.streams s → Owes accepts old t → Owes accepts (with_streams old s) (t ++ u)
+    called none go less o =
         let id_length = length old.remote_id in
-        on accepts old (with_streams old s) t u (record { side = refl; local = refl; remote = refl; opens = λ e. e; numbers = λ up. refl })
+        on accepts old (with_streams old s) t u (record { side = refl; local = refl; remote = refl; opens = λ e. e; numbers = λ up. refl }) (none_come accepts old (with_streams old s) t u none)
         (λ accepted up p. record {
           kept = kept_more id_length old.side (handed_out t) (handed_out (t ++ u)) accepted accepted (t ++ u) (t ++ u) s (out_before t u) (λ x is. is) (λ k. (refl, refl, refl))
               (go (IsByteAcknowledged id_length (handed_out t) accepted old.side) (IsEndAcknowledged id_length (handed_out t) accepted old.side) p.kept);
@@ -158,7 +159,7 @@ module _ {S : Type 0} (accepts : AcceptsTag) where
         }) o
 
     silent : AreOfReaders u → IsBeside old.space.streams s → Owes accepts old t → Owes accepts (with_streams old s) (t ++ u)
-    silent readers b o = called (λ Byte End p. kept Byte End old.space.streams s (t ++ u) b.halves b.opened
+    silent readers b o = called readers.comes (λ Byte End p. kept Byte End old.space.streams s (t ++ u) b.halves b.opened
         (restated Byte Byte End End (λ id k b. b) (λ id b. b) t (t ++ u) old.space.streams (reads_nothing t u readers.writes readers.resets) p)) (beside_sends old.space.streams s b) o
 
   -- a call that does nothing of its own
@@ -179,7 +180,7 @@ module _ {S : Type 0} (accepts : AcceptsTag) where
       → new ≡ with_streams old (record old.space.streams { send = new.space.streams.send }) → Owes accepts old t → Owes accepts new (t ++ Wrote id bytes ∷ [])
   wrote_call id taken bytes old new t step e o =
       let s : PlainStreams = record old.space.streams { send = new.space.streams.send } in
-      subst (λ (c : Inner S). Owes accepts c (t ++ Wrote id bytes ∷ [])) (sym e) (called old s t (Wrote id bytes ∷ []) (λ Byte End p. wrote Byte End old.space.streams s t id taken bytes step refl p) (no_more old.space.streams s (sending_keeps old.space.streams s id (takes taken bytes step) refl (λ dir. refl))) o)
+      subst (λ (c : Inner S). Owes accepts c (t ++ Wrote id bytes ∷ [])) (sym e) (called old s t (Wrote id bytes ∷ []) refl (λ Byte End p. wrote Byte End old.space.streams s t id taken bytes step refl p) (no_more old.space.streams s (sending_keeps old.space.streams s id (takes taken bytes step) refl (λ dir. refl))) o)
 
   pub write_owes : (id : ℕ) (payload : List ℕ) (answer : Result ℕ WriteFault) (old new : Inner S) (t : List Act)
       → IfOk answer (λ n. (is_open old.state ≡ true) × IsStep (Takes (take n payload)) old.space.streams.send new.space.streams.send id n
@@ -200,7 +201,7 @@ module _ {S : Type 0} (accepts : AcceptsTag) where
       → IfErr answer (λ e. (finish_fault_at old.space.streams.send id ≡ Some e) × (new ≡ old)) → Owes accepts old t → Owes accepts new (t ++ finish_acts id answer)
   finish_owes id (Ok done) old new t ok err o =
       let s : PlainStreams = record old.space.streams { send = new.space.streams.send } in
-      subst (λ (c : Inner S). Owes accepts c (t ++ Finished id ∷ [])) (sym ok.1) (called old s t (Finished id ∷ []) (λ Byte End p. finish Byte End old.space.streams s t id ok.0 refl p) (no_more old.space.streams s (sending_keeps old.space.streams s id (finishes ok.0) refl (λ dir. refl))) o)
+      subst (λ (c : Inner S). Owes accepts c (t ++ Finished id ∷ [])) (sym ok.1) (called old s t (Finished id ∷ []) refl (λ Byte End p. finish Byte End old.space.streams s t id ok.0 refl p) (no_more old.space.streams s (sending_keeps old.space.streams s id (finishes ok.0) refl (λ dir. refl))) o)
   finish_owes id (Err e) old new t ok err o = nothing_more accepts new t (kept_call old new t err.1 o)
 
   pub reset_owes : (id code : ℕ) (answer : Result Unit ClosedStream) (old new : Inner S) (t : List Act)
@@ -208,7 +209,7 @@ module _ {S : Type 0} (accepts : AcceptsTag) where
       → OnErr answer ((is_reset_refused_at old.space.streams.send id ≡ true) × (new ≡ old)) → Owes accepts old t → Owes accepts new (t ++ reset_by_acts id code answer)
   reset_owes id code (Ok done) old new t ok err o =
       let s : PlainStreams = record old.space.streams { send = new.space.streams.send } in
-      subst (λ (c : Inner S). Owes accepts c (t ++ Reset id code ∷ [])) (sym ok.1) (called old s t (Reset id code ∷ []) (λ Byte End p. reset_by Byte End old.space.streams s t id code ok.0 refl p) (no_more old.space.streams s (sending_keeps old.space.streams s id (resets code ok.0) refl (λ dir. refl))) o)
+      subst (λ (c : Inner S). Owes accepts c (t ++ Reset id code ∷ [])) (sym ok.1) (called old s t (Reset id code ∷ []) refl (λ Byte End p. reset_by Byte End old.space.streams s t id code ok.0 refl p) (no_more old.space.streams s (sending_keeps old.space.streams s id (resets code ok.0) refl (λ dir. refl))) o)
   reset_owes id code (Err e) old new t ok err o = nothing_more accepts new t (kept_call old new t err.1 o)
 
   pub priority_owes : (id : ℕ) (priority : ℤ) (answer : Result Unit ClosedStream) (old new : Inner S) (t : List Act)
@@ -216,7 +217,7 @@ module _ {S : Type 0} (accepts : AcceptsTag) where
       → OnErr answer ((send_at old.space.streams.send id ≡ None) × (new ≡ old)) → Owes accepts old t → Owes accepts new t
   priority_owes id priority (Ok done) old new t ok err o =
       let s : PlainStreams = record old.space.streams { send = new.space.streams.send } in
-      subst (λ (c : Inner S). Owes accepts c t) (sym ok.1) (without_more accepts (with_streams old s) t (called old s t []
+      subst (λ (c : Inner S). Owes accepts c t) (sym ok.1) (without_more accepts (with_streams old s) t (called old s t [] refl
       (λ Byte End p. subst (λ (z : List Act). AreKept Byte End z s) (sym (append-nil t)) (prioritized Byte End old.space.streams s t id priority ok.0 refl p)) (no_more old.space.streams s (sending_keeps old.space.streams s id (priority_set priority ok.0) refl (λ dir. refl))) o))
   priority_owes id priority (Err e) old new t ok err o = kept_call old new t err.1 o
 
@@ -230,7 +231,7 @@ module _ {S : Type 0} (accepts : AcceptsTag) where
       × ((is_open old.state ≡ false) ⊎ ((counts_of old.space.streams (is_two_way dir)).opened ≡ (counts_of old.space.streams (is_two_way dir)).max_opened)))
       → OnErr answer (new ≡ old) → Owes accepts old t → Owes accepts new t
   open_owes dir (Ok (Some id)) old new t some none err o =
-      subst (λ (c : Inner S). Owes accepts c t) (sym some.4) (without_more accepts (with_streams old new.space.streams) t (called old new.space.streams t []
+      subst (λ (c : Inner S). Owes accepts c t) (sym some.4) (without_more accepts (with_streams old new.space.streams) t (called old new.space.streams t [] refl
       (λ Byte End p. subst (λ (z : List Act). AreKept Byte End z new.space.streams) (sym (append-nil t)) (opened Byte End t old.space.streams new.space.streams id.0 dir some.1 some.3 p)) (no_more old.space.streams new.space.streams (opened_keeps old.space.streams new.space.streams id.0 some.3)) o))
   open_owes dir (Ok None) old new t some none err o = kept_call old new t (none refl).0 o
   open_owes dir (Err e) old new t some none err o = kept_call old new t err o

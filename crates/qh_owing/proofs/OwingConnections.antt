@@ -10,11 +10,12 @@ use Rattle.qh_base.specs.declared.path.Transmit.{Transmit}
 use Rattle.qh_base.specs.declared.time.Moment.{Moment}
 use Rattle.qh_base.specs.declared.transport_error.TransportError.{TransportError}
 use Rattle.qh_conn.proofs.Ends.{ended_with, goes_on_open}
+use Rattle.qh_conn.proofs.ExpectedNumbers.{expected_of}
 use Rattle.qh_conn.specs.Follows.{event_acts, transmit_acts}
 use Rattle.qh_conn.specs.Inner.{IsFailedBy, IsSameEnd, is_open, with_space}
-use Rattle.qh_conn.specs.Receiving.{AreFramesTaken, GoesOnWith, IsAccepted, IsClosedWith, IsDatagramTaken, IsEventTaken, IsFaulted, IsNewTo, IsOpenedBy, IsPacketHandled, IsPacketTaken, received}
+use Rattle.qh_conn.specs.Receiving.{AreFramesTaken, GoesOnWith, IsAccepted, IsClosedWith, IsDatagramTaken, IsEventTaken, IsFaulted, IsNewTo, IsOldTo, IsOpenedBy, IsPacketHandled, IsPacketTaken, received}
 use Rattle.qh_conn.specs.Receiving.IsDatagramTaken.{dropped as dropped_datagram, handled as handled_datagram, told_again, closed_too, draining as draining_datagram, drained as drained_datagram}
-use Rattle.qh_conn.specs.Receiving.IsPacketHandled.{repeated, empty, faulty, taken as taken_packet}
+use Rattle.qh_conn.specs.Receiving.IsPacketHandled.{repeated, empty, faulty, unnoted, taken as taken_packet}
 use Rattle.qh_conn.specs.Sending.{AreFramesMade, IsDatagramMade, NothingIsSent, datagram_of, overhead}
 use Rattle.qh_conn.specs.Sending.AreFramesMade.{packet as packet_frames, close as close_frames}
 use Rattle.qh_conn.specs.Timers.{AreLostByAge, IsProbed, IsTimedOut, restarted}
@@ -30,9 +31,11 @@ use Rattle.qh_owing.proofs.NumbersKept.{HasSameNumbers, aged_same, frames_same, 
 use Rattle.qh_owing.proofs.OwingAcks.{aged_owing, frames_owing, probed_owing}
 use Rattle.qh_owing.proofs.OwingDatagrams.{come_more, in_before, out_before, owing_more}
 use Rattle.qh_owing.proofs.OwingPackets.{low_value, made_owing}
-use Rattle.qh_owing.specs.Owing.{AcceptsTag, AreKept, AreOutCarried, IsByteAcknowledged, IsEndAcknowledged, IsOwing, MakesTags, NamesTags, Owes, Owing, WasAccepted, numbers_of}
+use Rattle.qh_owing.specs.Owing.{AcceptsTag, AreAccepted, AreKept, AreOutCarried, IsByteAcknowledged, IsEndAcknowledged, IsOwing, MakesTags, NamesTags, Owes, Owing, WasAccepted, numbers_of}
+use Rattle.qh_owing.specs.Owing.AreAccepted.{dropped as brings_none, repeated as brings_old, taken as brings_one}
 use Rattle.qh_packet.proofs.Packets.{has_packet}
 use Rattle.qh_packet.specs.Packet.{header_bytes, low_bytes, short_of}
+use Rattle.qh_recovery.specs.Accepted.{Remembers}
 use Rattle.qh_recovery.specs.declared.sent_packets.SentPacket.{SentPacket}
 use Rattle.qh_space.specs.declared.data_space.DataSpace.{DataSpace}
 use Rattle.qh_spec.proofs.Members.{in_last}
@@ -58,6 +61,9 @@ reads_in t d k = reads_nothing t (HandedIn d ∷ []) (in_writes_nothing d) (λ i
 last_in : (t : List Act) (d : List ℕ) → In d (handed_in (t ++ HandedIn d ∷ []))
 last_in t d = subst (λ (z : List (List ℕ)). In d z) (sym (handed_in-append t (HandedIn d ∷ []))) (in_last d (handed_in t))
 
+one_come : (t : List Act) (d : List ℕ) → handed_in (t ++ HandedIn d ∷ []) ≡ handed_in t ++ d ∷ []
+one_come t d = handed_in-append t (HandedIn d ∷ [])
+
 -- the space that took a packet owes what it owed, but what the packet acknowledges
 taken_space : (id_length : ℕ) (side : Side) (accepted : List Packet) (t : List Act) (now number : ℕ) (is_eliciting : Bool) (bytes : List ℕ) (old mid space : DataSpace) (taken : List Frame) (packet : Packet)
     → In packet accepted → packet.space ≡ Data → IsAccepted number is_eliciting old mid → AreFramesTaken now bytes mid space taken None → AreQuicFrames bytes packet.frames
@@ -77,22 +83,34 @@ module _ {S : Type 0} (accepts : AcceptsTag) where
     pub opens : is_open new.state ≡ true → is_open old.state ≡ true
     pub numbers : is_open new.state ≡ true → HasSameNumbers old.space new.space
 
+  -- while it is open, what it accepted in all is what it accepted before: what comes brings no packet
+  abbrev pub BringsNone : Inner S → Inner S → (t u : List Act) → Type 0
+  BringsNone old new t u = (accepted : List Packet) → is_open new.state ≡ true → Remembers (numbers_of accepted) old.space.dedup
+      → AreAccepted accepts old.local_id (other old.side) (handed_in t) accepted → AreAccepted accepts old.local_id (other old.side) (handed_in (t ++ u)) accepted
+
+  pub none_come : (old new : Inner S) (t u : List Act) → handed_in u ≡ [] → BringsNone old new t u
+  none_come old new t u e = λ accepted up known are.
+      subst (λ (z : List (List ℕ)). AreAccepted accepts old.local_id (other old.side) z accepted)
+      (sym (handed_in-append t u ∙ (ap (λ (z : List (List ℕ)). handed_in t ++ z) e ∙ append-nil (handed_in t)))) are
+
   abbrev pub OwesIn : Inner S → Inner S → List Packet → List Act → Type 0
   OwesIn old c accepted t = IsOwing (length old.remote_id) old.side accepted t c.space
 
-  going_on : (old new : Inner S) (accepted : List Packet) (t u : List Act) → GoesOn old new → (is_open new.state ≡ true → OwesIn old old accepted t → OwesIn old new accepted (t ++ u))
+  going_on : (old new : Inner S) (accepted : List Packet) (t u : List Act) → GoesOn old new → BringsNone old new t u → (is_open new.state ≡ true → OwesIn old old accepted t → OwesIn old new accepted (t ++ u))
       → Owing accepts old accepted t → Owing accepts new accepted (t ++ u)
-  going_on old new accepted t u g step o = record {
+  going_on old new accepted t u g comes step o = record {
     come = λ p is. rw (g.local, g.side) (come_more accepts old.local_id (handed_in t) (handed_in (t ++ u)) (other old.side) p (in_before t u) (o.come p is));
     once = o.once;
+    are = λ up. rw (g.local, g.side) (comes accepted up (o.remembers (g.opens up)) (o.are (g.opens up)));
     remembers = λ up. rw (g.numbers up) (o.remembers (g.opens up));
     space = λ up. rw (g.remote, g.side) (step up (o.space (g.opens up)));
   }
 
   -- what is owed goes on so where the space does
-  pub on : (old new : Inner S) (t u : List Act) → GoesOn old new → ((accepted : List Packet) → is_open new.state ≡ true → OwesIn old old accepted t → OwesIn old new accepted (t ++ u)) → Owes accepts old t → Owes accepts new (t ++ u)
+  pub on : (old new : Inner S) (t u : List Act) → GoesOn old new → BringsNone old new t u → ((accepted : List Packet) → is_open new.state ≡ true → OwesIn old old accepted t → OwesIn old new accepted (t ++ u))
+      → Owes accepts old t → Owes accepts new (t ++ u)
   unfolding Owes
-  on old new t u g step (accepted, o) = (accepted, going_on old new accepted t u g (step accepted) o)
+  on old new t u g comes step (accepted, o) = (accepted, going_on old new accepted t u g comes (step accepted) o)
 
   pub nothing_more : (c : Inner S) (t : List Act) → Owes accepts c t → Owes accepts c (t ++ [])
   nothing_more c t o = subst (λ (z : List Act). Owes accepts c z) (sym (append-nil t)) o
@@ -104,12 +122,13 @@ module _ {S : Type 0} (accepts : AcceptsTag) where
   pub shut : (old new : Inner S) (t u : List Act) → new.side ≡ old.side → new.local_id ≡ old.local_id → new.remote_id ≡ old.remote_id → is_open new.state ≡ false → Owes accepts old t → Owes accepts new (t ++ u)
   shut old new t u side local remote closed o =
       on old new t u (record { side = side; local = local; remote = remote; opens = λ up. absurd (both_ways (is_open new.state) closed up); numbers = λ up. absurd (both_ways (is_open new.state) closed up) })
+      (λ accepted up known are. absurd (both_ways (is_open new.state) closed up))
       (λ accepted up p. absurd (both_ways (is_open new.state) closed up)) o
 
   -- it is as it was, but for what nothing of this speaks of
   pub same : (old new : Inner S) (t : List Act) → GoesOn old new → new.space ≡ old.space → Owes accepts old t → Owes accepts new t
   same old new t g e o =
-      without_more new t (on old new t [] g (λ accepted up p. subst (λ (s : DataSpace). IsOwing (length old.remote_id) old.side accepted (t ++ []) s) (sym e)
+      without_more new t (on old new t [] g (none_come old new t [] refl) (λ accepted up p. subst (λ (s : DataSpace). IsOwing (length old.remote_id) old.side accepted (t ++ []) s) (sym e)
       (subst (λ (z : List Act). IsOwing (length old.remote_id) old.side accepted z old.space) (sym (append-nil t)) p)) o)
 
   stays : (c : Inner S) → GoesOn c c
@@ -117,9 +136,26 @@ module _ {S : Type 0} (accepts : AcceptsTag) where
 
   -- ---- a datagram comes
 
-  dropped : (c : Inner S) (t : List Act) (d : List ℕ) → Owes accepts c t → Owes accepts c (t ++ HandedIn d ∷ [])
-  dropped c t d o = on c c t (HandedIn d ∷ []) (stays c)
+  dropped : (c : Inner S) (t : List Act) (d : List ℕ) → BringsNone c c t (HandedIn d ∷ []) → Owes accepts c t → Owes accepts c (t ++ HandedIn d ∷ [])
+  dropped c t d comes o = on c c t (HandedIn d ∷ []) (stays c) comes
       (λ accepted up p. owing_more (length c.remote_id) c.side accepted accepted t (t ++ HandedIn d ∷ []) c.space (λ x is. is) (out_before t (HandedIn d ∷ [])) (reads_in t d) p) o
+
+  -- a datagram that is no packet for this end brings none
+  unopened : (c : Inner S) (t : List Act) (d : List ℕ) → ((number : ℕ) (bytes : List ℕ) → IsOpenedBy accepts c d number bytes → ⊥) → BringsNone c c t (HandedIn d ∷ [])
+  unopened c t d never = λ accepted up known are.
+      let e = expected_of c.space in
+      subst (λ (z : List (List ℕ)). AreAccepted accepts c.local_id (other c.side) z accepted) (sym (one_come t d))
+      (brings_none (handed_in t) d accepted e.0 are (e.1 (numbers_of accepted) known) (λ number bytes is. never number bytes (record { expected = e.0; is_expected = e.1; is = is })))
+
+  -- nor one whose number isn't new
+  not_new : (c : Inner S) (t : List Act) (d : List ℕ) (number : ℕ) (bytes : List ℕ) → IsOpenedBy accepts c d number bytes → IsOldTo c.space number → BringsNone c c t (HandedIn d ∷ [])
+  not_new c t d number bytes o known_already = λ accepted up known are.
+      subst (λ (z : List (List ℕ)). AreAccepted accepts c.local_id (other c.side) z accepted) (sym (one_come t d))
+      (brings_old (handed_in t) d accepted o.expected number bytes are (o.is_expected (numbers_of accepted) known) o.is (known_already (numbers_of accepted) known))
+
+  -- nothing comes to an end that isn't open
+  shut_out : (c : Inner S) (t u : List Act) → is_open c.state ≡ false → BringsNone c c t u
+  shut_out c t u closed = λ accepted up known are. absurd (both_ways (is_open c.state) closed up)
 
   module _ (names : NamesTags accepts) where
     -- a packet that opens is one of its datagram's
@@ -162,6 +198,9 @@ module _ {S : Type 0} (accepts : AcceptsTag) where
               | inr earlier ↦ come_more accepts old.local_id (handed_in t) (handed_in (t ++ u)) (other old.side) q (in_before t u) (o.come q earlier)
             ];
             once = ((is_new (numbers_of accepted) known).is_unseen, o.once);
+            are = λ up.
+                subst (λ (z : List (List ℕ)). AreAccepted accepts old.local_id (other old.side) z more) (sym (one_come t d))
+                (brings_one (handed_in t) d accepted p opened.expected bytes (o.are was) (opened.is_expected (numbers_of accepted) known) opened.is taken.surveyed.are refl refl (is_new (numbers_of accepted) known));
             remembers = λ up. rw no_more (taken.accepted.remembers (numbers_of accepted) known);
             space = λ up. after;
           }),
@@ -183,21 +222,22 @@ module _ {S : Type 0} (accepts : AcceptsTag) where
 
     handled : (now : Moment) (number : ℕ) (bytes d : List ℕ) (old new : Inner S) (t : List Act) → is_open old.state ≡ true → IsOpenedBy accepts old d number bytes → IsPacketHandled now number bytes old new
         → Owes accepts old t → Owes accepts new (t ++ HandedIn d ∷ [])
-    handled now number bytes d old new t was opened (repeated known e) o = subst (λ (c : Inner S). Owes accepts c (t ++ HandedIn d ∷ [])) (sym e) (dropped old t d o)
+    handled now number bytes d old new t was opened (repeated known e) o = subst (λ (c : Inner S). Owes accepts c (t ++ HandedIn d ∷ [])) (sym e) (dropped old t d (not_new old t d number bytes opened known) o)
     handled now number bytes d old new t was opened (empty e fresh none fault f) o = faulted now e old new t (HandedIn d ∷ []) f o
     handled now number bytes d old new t was opened (faulty e kind fresh bad fault f) o = faulted now e old new t (HandedIn d ∷ []) f o
+    handled now number bytes d old new t was opened (unnoted e eliciting fresh read at f) o = faulted now e old new t (HandedIn d ∷ []) f o
     handled now number bytes d old new t was opened (taken_packet fresh taken) o = elim (cases_Bool (is_open new.state)) [
       | inl still ↦ taken_open now number bytes d old new t opened fresh taken still was o
       | inr closed ↦ let e = taken_end now number bytes old new taken in shut old new t (HandedIn d ∷ []) e.side e.local_id e.remote_id closed o
     ]
 
     datagram_taken : (now : Moment) (d : List ℕ) (old new : Inner S) (t : List Act) → IsDatagramTaken accepts now d old new → Owes accepts old t → Owes accepts new (t ++ HandedIn d ∷ [])
-    datagram_taken now d old new t (dropped_datagram was none e) o = subst (λ (c : Inner S). Owes accepts c (t ++ HandedIn d ∷ [])) (sym e) (dropped old t d o)
+    datagram_taken now d old new t (dropped_datagram was none e) o = subst (λ (c : Inner S). Owes accepts c (t ++ HandedIn d ∷ [])) (sym e) (dropped old t d (unopened old t d none) o)
     datagram_taken now d old new t (handled_datagram number bytes was opened h) o = handled now number bytes d old new t was opened h o
     datagram_taken now d old new t (told_again reason due until is quiet e) o = subst (λ (c : Inner S). Owes accepts c (t ++ HandedIn d ∷ [])) (sym e) (shut old _ t (HandedIn d ∷ []) refl refl refl refl o)
     datagram_taken now d old new t (closed_too reason due until is closes e) o = subst (λ (c : Inner S). Owes accepts c (t ++ HandedIn d ∷ [])) (sym e) (shut old _ t (HandedIn d ∷ []) refl refl refl refl o)
-    datagram_taken now d old new t (draining_datagram until is e) o = subst (λ (c : Inner S). Owes accepts c (t ++ HandedIn d ∷ [])) (sym e) (dropped old t d o)
-    datagram_taken now d old new t (drained_datagram is e) o = subst (λ (c : Inner S). Owes accepts c (t ++ HandedIn d ∷ [])) (sym e) (dropped old t d o)
+    datagram_taken now d old new t (draining_datagram until is e) o = subst (λ (c : Inner S). Owes accepts c (t ++ HandedIn d ∷ [])) (sym e) (dropped old t d (shut_out old t (HandedIn d ∷ []) (ap is_open is)) o)
+    datagram_taken now d old new t (drained_datagram is e) o = subst (λ (c : Inner S). Owes accepts c (t ++ HandedIn d ∷ [])) (sym e) (dropped old t d (shut_out old t (HandedIn d ∷ []) (ap is_open is)) o)
 
   closed_by : (now : Moment) (reason : CloseReason) (error : ConnectionError) (old new : Inner S) (t : List Act) → IsClosedWith now reason error old new → Owes accepts old t → Owes accepts new t
   closed_by now reason error old new t c o = subst (λ (n : Inner S). Owes accepts n t) (sym c.rest_is) (without_more _ t (shut old _ t [] refl refl refl refl o))
@@ -253,6 +293,7 @@ module _ {S : Type 0} (accepts : AcceptsTag) where
   frames_made sealed now old new header bytes t makes below (packet_frames opened packet_made e) o =
       let u = HandedOut (datagram_of sealed old bytes) ∷ [] in
       on old new t u (record { side = ap (λ (c : Inner S). c.side) e; local = ap (λ (c : Inner S). c.local_id) e; remote = ap (λ (c : Inner S). c.remote_id) e; opens = λ up. opened; numbers = λ up. made_same now.0 (overhead old) (1200 - overhead old) old.space new.space header (header ++ bytes) packet_made })
+      (none_come old new t u refl)
       (λ accepted up p.
       let m = made_owing (length old.remote_id) old.side accepted t now.0 (overhead old) (1200 - overhead old) old.space new.space header (header ++ bytes) packet_made p in
       let same_bytes : m.bytes ≡ bytes = sym (append_cancel_left header bytes m.bytes m.appended) in
@@ -282,6 +323,7 @@ module _ {S : Type 0} (accepts : AcceptsTag) where
   recovered : (now : ℕ) (old : Inner S) (mid space : DataSpace) (t : List Act) → AreLostByAge now old.space mid → IsProbed now mid space → Owes accepts old t → Owes accepts (with_space old space) t
   recovered now old mid space t aged probed o =
       without_more _ t (on old (with_space old space) t [] (record { side = refl; local = refl; remote = refl; opens = λ e. e; numbers = λ up. probed_same now mid space probed ∙ aged_same now old.space mid aged })
+      (none_come old (with_space old space) t [] refl)
       (λ accepted up p. subst (λ (z : List Act). IsOwing (length old.remote_id) old.side accepted z space) (sym (append-nil t))
       (probed_owing (length old.remote_id) old.side t accepted now mid space probed (aged_owing (length old.remote_id) old.side t accepted now old.space mid aged p))) o)
 

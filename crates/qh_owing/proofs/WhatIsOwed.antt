@@ -13,6 +13,7 @@ use Rattle.qh_half.specs.declared.send.SendState.TheVariants.{Ready, DataSent, R
 use Rattle.qh_halves.specs.SendHalves.{half_in, send_at}
 use Rattle.qh_owing.proofs.NumbersKept.{none_accepted}
 use Rattle.qh_owing.specs.Owing.{AcceptsTag, AreInPackets, AreOutCarried, IsByteOut, IsEndOut, IsFrameCarried, IsInPacket, IsByteKept, IsByteToCome, IsEndKept, IsEndToCome, KeepsStream, KeepsWhatIsOwed, Owes}
+use Rattle.qh_owing.specs.Owing.AreAccepted.{none as none_at_first}
 use Rattle.qh_recovery.specs.SentPackets.{packet_at}
 use Rattle.qh_recovery.specs.declared.sent_packets.SentPacket.{SentPacket}
 use Rattle.qh_space.specs.declared.data_space.DataSpace.{DataSpace}
@@ -120,6 +121,7 @@ module _ {S : Type 0} (accepts : AcceptsTag) where
         record {
           come = λ p among. absurd among;
           once = tt;
+          are = λ up. none_at_first;
           remembers = λ up. none_accepted c fine follows;
           space = λ up. record {
             kept = record {
@@ -143,6 +145,7 @@ module _ {S : Type 0} (accepts : AcceptsTag) where
       let p = o.space up in
       record {
         accepted = accepted;
+        are = o.are up;
         come = o.come;
         once = o.once;
         bytes = λ stream offset byte w.

@@ -1,6 +1,6 @@
 -- What a connection owes to its peer: how its space of application data stands to the bytes and ends that were written and that no
 -- accepted ACK covers, by the datagrams that went both ways (RFC 9000, sections 2.2 and 13.3).
-use Rattle.std.specs.Prelude.{◌≡◌, ◌⊎◌, ℕ, ◌+◌, ◌^◌, ◌<◌, ◌≤◌, Bool, true, false, List, [], length, map, Option, Some, None}
+use Rattle.std.specs.Prelude.{◌≡◌, ◌⊎◌, ℕ, ◌+◌, ◌^◌, ◌<◌, ◌≤◌, Bool, true, false, List, [], ◌∷◌, ◌++◌, length, map, Option, Some, None}
 use Rattle.qh_buffers.specs.SendBuffer.{taken_to, mark_at, is_queued}
 use Rattle.qh_buffers.specs.declared.send_buffer.Mark.TheVariants.{Acked, Sent}
 use Rattle.qh_conn.specs.Inner.{is_open}
@@ -10,7 +10,7 @@ use Rattle.qh_half.specs.declared.send.Outgoing.{Outgoing}
 use Rattle.qh_half.specs.declared.send.SendState.TheVariants.{DataSent, ResetSent}
 use Rattle.qh_halves.specs.SendHalves.{send_at}
 use Rattle.qh_packet.specs.Packet.{IsOpened}
-use Rattle.qh_recovery.specs.Accepted.{Remembers}
+use Rattle.qh_recovery.specs.Accepted.{IsNew, IsNextOf, Remembers}
 use Rattle.qh_recovery.specs.SentPackets.{packet_at, IsNext}
 use Rattle.qh_recovery.specs.declared.sent_packets.SentPacket.{SentPacket}
 use Rattle.qh_space.specs.declared.data_space.DataSpace.{DataSpace}
@@ -62,6 +62,22 @@ pub record WasAccepted (accepts : AcceptsTag) (local_id : List ℕ) (datagrams :
 -- their packet numbers
 abbrev pub numbers_of : List Packet → List ℕ
 numbers_of packets = map (λ (p : Packet). p.number) packets
+
+-- The packets that the end accepted while these datagrams came in this order, the last one first. A datagram brings the packet that
+-- it is, if the session accepts its tag and its number is new then (RFC 9000, sections 12.2 and 12.3); one that isn't a packet for
+-- the end, or whose number isn't new, brings none. Its number is read by the one that is expected next (section 17.1).
+pub data AreAccepted (accepts : AcceptsTag) (local_id : List ℕ) (sender : Side) : (datagrams : List (List ℕ)) → List Packet → Type 0 where
+  none : AreAccepted accepts local_id sender [] []
+  taken : (datagrams : List (List ℕ)) (datagram : List ℕ) (packets : List Packet) (packet : Packet) (expected : ℕ) (bytes : List ℕ)
+      → AreAccepted accepts local_id sender datagrams packets → IsNextOf (numbers_of packets) expected
+      → IsOpened accepts local_id sender expected datagram packet.number bytes → AreQuicFrames bytes packet.frames → packet.space ≡ Data → packet.sender ≡ sender
+      → IsNew (numbers_of packets) packet.number → AreAccepted accepts local_id sender (datagrams ++ datagram ∷ []) (packet ∷ packets)
+  repeated : (datagrams : List (List ℕ)) (datagram : List ℕ) (packets : List Packet) (expected number : ℕ) (bytes : List ℕ)
+      → AreAccepted accepts local_id sender datagrams packets → IsNextOf (numbers_of packets) expected
+      → IsOpened accepts local_id sender expected datagram number bytes → (IsNew (numbers_of packets) number → ⊥) → AreAccepted accepts local_id sender (datagrams ++ datagram ∷ []) packets
+  dropped : (datagrams : List (List ℕ)) (datagram : List ℕ) (packets : List Packet) (expected : ℕ)
+      → AreAccepted accepts local_id sender datagrams packets → IsNextOf (numbers_of packets) expected
+      → ((number : ℕ) (bytes : List ℕ) → IsOpened accepts local_id sender expected datagram number bytes → ⊥) → AreAccepted accepts local_id sender (datagrams ++ datagram ∷ []) packets
 
 -- ---- what the peer acknowledged
 
@@ -204,18 +220,21 @@ pub record IsEndToCome (id_length : ℕ) (side : Side) (t : List Act) (s : DataS
 
 module _ {S : Type 0} (accepts : AcceptsTag) where
   -- The connection stands so to what was done with it, where it accepted these packets: it accepted each of them, and no number twice
-  -- (RFC 9000, section 12.3). While it is open it remembers their numbers, and nothing is forgotten that they don't acknowledge.
+  -- (RFC 9000, section 12.3). While it is open they are all that it accepted, it remembers their numbers, and nothing is forgotten that
+  -- they don't acknowledge.
   pub record Owing (c : Inner S) (accepted : List Packet) (t : List Act) : Type 0 where
     pub come : (p : Packet) → In p accepted → WasAccepted accepts c.local_id (handed_in t) (other c.side) p
     pub once : Distinct (numbers_of accepted)
+    pub are : is_open c.state ≡ true → AreAccepted accepts c.local_id (other c.side) (handed_in t) accepted
     pub remembers : is_open c.state ≡ true → Remembers (numbers_of accepted) c.space.dedup
     pub space : is_open c.state ≡ true → IsOwing (length c.remote_id) c.side accepted t c.space
 
-  -- Of an open connection: it accepted some packets, each with a tag that its session accepts and with a number of its own. Each byte and
-  -- each end that is owed, since no ACK in them covers a packet that carried it, waits to be sent or is out. Packets that are out carried
-  -- what their frames say.
+  -- Of an open connection: the packets that it accepted are those of what it was handed in, each with a tag that its session accepts and
+  -- with a number that was new. Each byte and each end that is owed, since no ACK in them covers a packet that carried it, waits to be
+  -- sent or is out. Packets that are out carried what their frames say.
   pub record KeepsWhatIsOwed (c : Inner S) (t : List Act) : Type 0 where
     pub accepted : List Packet
+    pub are : AreAccepted accepts c.local_id (other c.side) (handed_in t) accepted
     pub come : (p : Packet) → In p accepted → WasAccepted accepts c.local_id (handed_in t) (other c.side) p
     pub once : Distinct (numbers_of accepted)
     pub bytes : (stream offset byte : ℕ) → IsOwed (length c.remote_id) (handed_out t) accepted c.side t stream offset byte → IsByteToCome (length c.remote_id) c.side t c.space stream offset

@@ -45,10 +45,10 @@ pub fn plain_tags()
 
 /// What is owed isn't forgotten (RFC 9000, sections 2.2 and 13.3). While a connection is open, each byte that was written on a stream
 /// that wasn't reset, and each end of one that was finished, waits to be sent or is out in a packet, unless an accepted ACK covers a
-/// packet that carried it: all that is told by the datagrams that were handed in and out. The accepted packets are among the datagrams
-/// that were handed in, with a tag that the session accepts for the peer and the packet's number, each with a number of its own
-/// (section 12.3); that the number was new to the end then isn't said of them. Each call carries that on, as its contract says what it
-/// does; the tags of the session have to be tags.
+/// packet that carried it: all that is told by the datagrams that were handed in and out. The accepted packets are those of the datagrams
+/// that were handed in: of each datagram the packet that it is, if the session accepts its tag for the peer and the packet's number, and
+/// the number was new then (section 12.3). Each call carries that on, as its contract says what it does; the tags of the session have to
+/// be tags.
 pub fn owing<S>()
     ensures owed { (accepts : AcceptsTag) (c : AnInner S) (t : List Act) → is_open c.state ≡ true → Owes accepts c t → KeepsWhatIsOwed accepts c t }
     ensures fresh { (accepts : AcceptsTag) (c : AnInner S) → IsNewSpace c.config c.side c.space → c.error ≡ None → Follows c [] → Owes accepts c [] }

@@ -13,4 +13,4 @@ pub use congestion::{ControllerMetrics, WindowController};
 pub use packet_number::{expand, one_number};
 pub use paths::RttEstimator;
 pub use sent_packets::{SentPacket, SentPackets, packet_is_among};
-pub use spaces::{Dedup, PendingAcks};
+pub use spaces::{Dedup, PendingAcks, insert_received};

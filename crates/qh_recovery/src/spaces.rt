@@ -2,6 +2,8 @@
 
 mod dedup;
 mod pending_acks;
+mod received;
 
 pub use dedup::Dedup;
 pub use pending_acks::PendingAcks;
+pub use received::insert_received;

@@ -18,12 +18,13 @@ use qh_base::{
 };
 use qh_frame::{Ack, Frame};
 use qh_loss::{detect_lost_packets, on_ack_received};
+use qh_recovery::insert_received;
 use qh_streams::{StreamFault, StreamFrame};
 use std::alloc::Global;
 
 impl DataSpace {
     /// A packet with this number is taken, which is new (RFC 9000, section 12.3). It is to be acknowledged at once where it wants
-    /// that.
+    /// that. After want of memory the space is as it was.
     pub fn accept(&mut self, number: u64, is_ack_eliciting: bool) -> Result<(), Memory>
         requires number { number < 2 ^ 62 }
         requires space { IsSpace self.old }
@@ -31,10 +32,10 @@ impl DataSpace {
         ensures acks { OnOk result ((bound : ℕ) × IsJoined self.old.acks.ranges self.new.acks.ranges number bound) }
         ensures due { OnOk result (self.new.acks.is_due ≡ (self.old.acks.is_due || is_ack_eliciting)) }
         ensures rest { self.new ≡ record self.old { dedup = self.new.dedup; acks = self.new.acks } }
+        ensures err { OnErr result (self.new ≡ self.old) }
         ensures space { IsSpace self.new }
     {
-        self.dedup.insert(number)?;
-        self.acks.insert_one(number, is_ack_eliciting)
+        insert_received(&mut self.dedup, &mut self.acks, number, is_ack_eliciting)
     }
 
     /// Takes a frame of the peer's. Answers the error with which the peer closes by it, where it does. A fault says why it is

@@ -30,7 +30,7 @@ impl<R: Read> Source for StdSource<R> {
 
     ghost faults = { λ s. s.faults };
 
-    /// The whole slice is lent to the reader, and its bytes are handed on.
+    /// Reads from the reader and hands on what its contract tells. No clause says when a call fails.
     fn read(&mut self, buf: &mut [u8]) -> Result<usize, Failed>
         ensures fits { IfOk result (λ n. n ≤ length buf.new) }
         ensures reader { ReadConsumes (R.remaining (reader_of self.old)) (R.remaining (reader_of self.new)) result buf.new }
@@ -82,7 +82,7 @@ impl<W: Write> Sink for StdSink<W> {
 
     ghost faults = { λ s. s.faults };
 
-    /// The whole piece is handed to the writer.
+    /// Writes to the writer and hands on what its contract tells. No clause says when a call fails or writes nothing.
     fn write(&mut self, piece: &[u8]) -> Result<usize, Failed>
         ensures fits { IfOk result (λ n. n ≤ length piece.now) }
         ensures writer { WriteAppends (W.contents (writer_of self.old)) (W.contents (writer_of self.new)) result piece.now }

@@ -1,4 +1,5 @@
-ghost use Rattle.std.specs.Prelude.{◌≡◌, ℕ, ◌+◌, ◌<◌, ◌≤◌, ◌++◌, ◌&&◌, ◌||◌, ◌==◌, not, true, false, [], ◌∷◌, length, take, drop, slice_get, Some, OnOk, OnErr, MatchOption, vec_len};
+ghost use Rattle.std.specs.Prelude.{◌≡◌, ℕ, ◌+◌, ◌<◌, ◌≤◌, ◌++◌, ◌&&◌, ◌||◌, ◌==◌, not, true, false, [], ◌∷◌, length, take, drop, slice_get, Some, OnOk, OnErr, IsOk, MatchOption, vec_len};
+ghost use Rattle.std.specs.Vec.{vec_capacity};
 ghost use Rattle.qh_buffers.specs.Ranges.{has, is_in, front_of, plain, kept, AreApart, AreNear, IsAdded, IsTakenOut, IsLeast, IsGreatest};
 
 use qh_base::Memory;
@@ -122,6 +123,25 @@ impl ArrayRangeSet {
         insert_into(&mut self.ranges, range)
     }
 
+    /// Adds the numbers of a range to this set and to another one, or, after want of memory, to neither.
+    pub fn insert_both(
+        &mut self,
+        other: &mut ArrayRangeSet,
+        range: Range<u64>,
+    ) -> Result<(), Memory>
+        ensures ok { OnOk result ((k : ℕ) → has self.new k ≡ (is_in (record { start = range.start; end = range.end }) k || has self.old k)) }
+        ensures other_ok { OnOk result ((k : ℕ) → has other.new k ≡ (is_in (record { start = range.start; end = range.end }) k || has other.old k)) }
+        ensures err { OnErr result ((self.new ≡ self.old) × (other.new ≡ other.old)) }
+    {
+        if range.end <= range.start {
+            return Ok(());
+        }
+        self.ranges.reserve(1)?;
+        insert_into(&mut other.ranges, range.start..range.end)?;
+        let _ = insert_into(&mut self.ranges, range);
+        Ok(())
+    }
+
     /// Takes the numbers of a range out.
     pub fn remove(&mut self, range: Range<u64>) -> Result<(), Memory>
         ensures ok { OnOk result ((k : ℕ) → has self.new k ≡ (not (is_in (record { start = range.start; end = range.end }) k) && has self.old k)) }
@@ -174,6 +194,7 @@ fn insert_into(ranges: &mut Vec<Range<u64>>, range: Range<u64>) -> Result<(), Me
     requires apart { AreApart 0 (plain ranges.old.items) }
     requires some { range.start < range.end }
     ensures ok { OnOk result (IsAdded (plain ranges.old.items) (plain ranges.new.items) (record { start = range.start; end = range.end })) }
+    ensures room { length ranges.old.items < vec_capacity ranges.old → IsOk result }
     ensures err { OnErr result (ranges.new.items ≡ ranges.old.items) }
 {
     let near = near(ranges, range.start, range.end);

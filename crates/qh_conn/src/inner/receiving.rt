@@ -4,7 +4,7 @@ ghost use Rattle.qh_base.specs.declared.connection_error.ConnectionError.TheVari
 ghost use Rattle.qh_base.specs.declared.time.Moment.{Moment as AMoment};
 ghost use Rattle.qh_base.specs.declared.transport_error.TransportError.{TransportError as ATransportError};
 ghost use Rattle.qh_conn.specs.Inner.{IsConnection, IsFailedBy, is_open};
-ghost use Rattle.qh_conn.specs.Receiving.{AreFramesTaken, BringsClose, GoesOnWith, HasContent, HasWhatOpens, IsAccepted, IsDatagramTaken, IsExpectedOf, IsFault, IsNewTo, IsOpenedBy, IsPacketHandled, is_close};
+ghost use Rattle.qh_conn.specs.Receiving.{AreFramesTaken, BringsClose, GoesOnWith, HasContent, HasWhatOpens, IsAccepted, IsDatagramTaken, IsDatagramUnread, IsExpectedOf, IsFault, IsFaulted, IsNewTo, IsOpenedBy, IsPacketHandled, IsPacketUnread, StopsUnrefused, is_close};
 ghost use Rattle.qh_frame.specs.Plain.{plain_of};
 ghost use Rattle.qh_frame.specs.Range.{IsInRange};
 ghost use Rattle.qh_frame.specs.TypeOf.{named};
@@ -16,7 +16,7 @@ ghost use Rattle.qh_space.specs.Space.{IsSpace};
 ghost use Rattle.qh_spec.specs.Codes as codes;
 ghost use Rattle.qh_spec.specs.Link.{other};
 ghost use Rattle.qh_spec.specs.QuicFrames.{QuicFrame, AreQuicFrames};
-ghost use Rattle.qh_streams.specs.declared.fault.StreamFault.TheVariants.{Transport};
+ghost use Rattle.qh_streams.specs.declared.fault.StreamFault.TheVariants.{Transport, Memory as Wanting};
 ghost use Rattle.std.specs.List.{AllByRecursion, list_any};
 
 use crate::{Inner, Session, State};
@@ -39,6 +39,7 @@ impl<S: Session> Inner<S> {
         ensures ok { OnOk result (IsDatagramTaken (S.accepts self.old.session) now datagram.now self.old self.new) }
         ensures has { is_open self.old.state ≡ true → HasWhatOpens (S.accepts self.old.session) self.old datagram.now }
         ensures err { OnErr result (IsFailedBy self.old self.new) }
+        ensures wanting { OnErr result (IsDatagramUnread (S.accepts self.old.session) now datagram.now self.old) }
         ensures connection { IsConnection self.new }
     {
         match self.state {
@@ -126,6 +127,7 @@ impl<S> Inner<S> {
         requires number { number < 2 ^ 62 }
         ensures ok { OnOk result (IsPacketHandled now number frames.now self.old self.new) }
         ensures err { OnErr result (self.new ≡ record self.old { space = self.new.space; idle = self.new.idle }) }
+        ensures wanting { OnErr result (IsPacketUnread now number frames.now self.old) }
         ensures connection { OnOk result (IsConnection self.new) }
     {
         if !self.space.dedup.is_new(number) {
@@ -138,12 +140,40 @@ impl<S> Inner<S> {
                 return Ok(());
             }
         };
-        self.space.accept(number, surveyed.is_ack_eliciting)?;
+        if self
+            .space
+            .accept(number, surveyed.is_ack_eliciting)
+            .is_err()
+        {
+            return self.refuse_unnoted(alloc, now, frames);
+        }
         self.idle.on_accepted(now);
         if let Some(error) = take_frames(&mut self.space, alloc, now, frames)? {
             self.end_by(now, error);
         }
         Ok(())
+    }
+
+    // Memory is wanting to note the number of a packet. A fault of its first frame closes all the same.
+    fn refuse_unnoted(&mut self, alloc: Global, now: Moment, frames: &[u8]) -> Result<(), Memory>
+        requires whole { IsConnection self.old }
+        requires valid { (is_eliciting : Bool) × AreValidFrames frames.now is_eliciting }
+        ensures ok { OnOk result ((e : ATransportError) × AreFramesTaken now.0 frames.now self.old.space self.old.space [] (Some (Fault e)) × IsFaulted now e self.old self.new) }
+        ensures err { OnErr result (self.new ≡ record self.old { space = self.new.space }) }
+        ensures wanting { OnErr result (StopsUnrefused now.0 frames.now self.old.space) }
+        ensures connection { OnOk result (IsConnection self.new) }
+    {
+        let Ok((frame, _)) = get_frame(frames) else {
+            return Err(Memory);
+        };
+        match self.space.take_frame(alloc, &frame, now) {
+            Err(StreamFault::Transport(error)) => {
+                self.close_by_fault(now, error);
+                Ok(())
+            }
+            Err(StreamFault::Memory) => Err(Memory),
+            Ok(_) => Err(Memory),
+        }
     }
 
     // A frame closed the connection, or was refused.
@@ -167,6 +197,7 @@ fn take_frames(
     requires space { IsSpace space.old }
     requires surveyed { (is_eliciting : Bool) × AreValidFrames frames.now is_eliciting }
     ensures ok { IfOk result (λ end. (taken : List AFrame) × AreFramesTaken now.0 frames.now space.old space.new taken end) }
+    ensures wanting { OnErr result (StopsUnrefused now.0 frames.now space.old) }
     ensures space { OnOk result (IsSpace space.new) }
 {
     let mut rest = frames;
@@ -182,7 +213,8 @@ fn take_frames(
 
 // The error that ends a connection where a frame is refused.
 fn error_by(fault: StreamFault) -> Result<ConnectionError, Memory>
-    ensures { IfOk result (λ end. (error : ATransportError) × (fault ≡ Transport error) × (end ≡ Fault error)) }
+    ensures ok { IfOk result (λ end. (error : ATransportError) × (fault ≡ Transport error) × (end ≡ Fault error)) }
+    ensures wanting { OnErr result (fault ≡ Wanting) }
 {
     match fault {
         StreamFault::Transport(error) => Ok(ConnectionError::TransportError(error)),

@@ -14,7 +14,7 @@ const WINDOW_SIZE: u64 = 129;
 /// most 128 below the greatest number.
 #[derive(Drop)]
 pub struct Dedup {
-    received: ArrayRangeSet,
+    pub(super) received: ArrayRangeSet,
 }
 
 impl Model for Dedup {
@@ -46,20 +46,6 @@ impl Dedup {
         window_start(next_of(&self.received)) <= number && !self.received.contains(number)
     }
 
-    /// Takes a number, below 2^62. After want of memory it isn't taken.
-    pub fn insert(&mut self, number: u64) -> Result<(), Memory>
-        requires { number < 2 ^ 62 }
-        ensures ok { OnOk result ((accepted : List ℕ) → Remembers accepted self.old → Remembers (number ∷ accepted) self.new) }
-        ensures few { length self.new ≤ 65 }
-        ensures err { OnErr result (self.new ≡ self.old) }
-    {
-        let next = next_of(&self.received).max(number + 1);
-        self.received.insert(number..number + 1)?;
-        self.received.is_apart();
-        forget_below(&mut self.received, window_start(next));
-        Ok(())
-    }
-
     /// The greatest number that came.
     pub fn greatest(&self) -> Option<u64>
         ensures greatest { (accepted : List ℕ) → Remembers accepted self.now → MatchOption result (accepted ≡ []) (IsGreatestOf accepted) }
@@ -78,7 +64,7 @@ impl Dedup {
 }
 
 /// The greatest number plus 1, 0 where there is none.
-fn next_of(received: &ArrayRangeSet) -> u64
+pub(super) fn next_of(received: &ArrayRangeSet) -> u64
     requires { (k : ℕ) → has received.now k ≡ true → k < 2 ^ 62 }
     ensures next { IsNextIn received.now result }
     ensures bound { result ≤ 2 ^ 62 }
@@ -90,14 +76,14 @@ fn next_of(received: &ArrayRangeSet) -> u64
 }
 
 /// The least number that may be new, where the next is expected to be this one.
-fn window_start(next: u64) -> u64
+pub(super) fn window_start(next: u64) -> u64
     ensures { result ≡ next - 129 }
 {
     next.saturating_sub(WINDOW_SIZE)
 }
 
 /// Drops the ranges that lie wholly below a number.
-fn forget_below(ranges: &mut ArrayRangeSet, floor: u64)
+pub(super) fn forget_below(ranges: &mut ArrayRangeSet, floor: u64)
     ensures { ranges.new ≡ without_below floor ranges.old }
 {
     while let Some(range) = ranges.get(0) {

@@ -14,8 +14,8 @@ const MAX_ACK_BLOCKS: usize = 32;
 /// The packet numbers that wait to be acknowledged, at most 32 ranges, and whether an ACK is due (RFC 9000, section 13.2).
 #[derive(Drop)]
 pub struct PendingAcks {
-    ranges: ArrayRangeSet,
-    is_due: bool,
+    pub(super) ranges: ArrayRangeSet,
+    pub(super) is_due: bool,
 }
 
 impl Model for PendingAcks {
@@ -37,21 +37,6 @@ impl PendingAcks {
             ranges: ArrayRangeSet::new(alloc),
             is_due: false,
         }
-    }
-
-    /// Adds the number of a packet, below 2^62. An ack-eliciting one makes an ACK due. Where there are more than 32 ranges, the
-    /// least are forgotten (RFC 9000, section 13.2.3).
-    pub fn insert_one(&mut self, number: u64, is_ack_eliciting: bool) -> Result<(), Memory>
-        requires { number < 2 ^ 62 }
-        ensures numbers { OnOk result ((bound : ℕ) × IsJoined self.old.ranges self.new.ranges number bound) }
-        ensures due { OnOk result (self.new.is_due ≡ (self.old.is_due || is_ack_eliciting)) }
-        ensures err { OnErr result (self.new ≡ self.old) }
-    {
-        self.ranges.insert(number..number + 1)?;
-        self.ranges.is_apart();
-        forget_least(&mut self.ranges);
-        self.is_due = self.is_due || is_ack_eliciting;
-        Ok(())
     }
 
     /// Whether an ack-eliciting packet came and no ACK was sent since.
@@ -93,7 +78,7 @@ impl PendingAcks {
 }
 
 /// Drops the least ranges where there are more than 32.
-fn forget_least(ranges: &mut ArrayRangeSet)
+pub(super) fn forget_least(ranges: &mut ArrayRangeSet)
     ensures { ranges.new ≡ last_ranges ranges.old }
 {
     while MAX_ACK_BLOCKS < ranges.len() {

@@ -21,6 +21,9 @@ returns-clause-none g c = ends.none_behaves
 pub returns-clause-failed : goal.returns-clause-failed
 returns-clause-failed g c = ends.failed_behaves
 
+pub returns-clause-closed : goal.returns-clause-closed
+returns-clause-closed g c = ends.closed_behaves
+
 pub returns-clause-timeout : goal.returns-clause-timeout
 returns-clause-timeout g c = ends.timed_behaves
 

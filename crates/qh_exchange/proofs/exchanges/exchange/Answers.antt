@@ -1,6 +1,5 @@
-use Rattle.std.proofs.Common.{◌∙◌, refl, ap, subst, sym, List, length, arith}
+use Rattle.std.proofs.Common.{refl, subst, sym, List, arith}
 use Rattle.std.proofs.lemmas.Result.{err_from_is_err_and}
-use Rattle.qh_conn.specs.declared.config.ConnConfig.{ConnConfig}
 use Rattle.qh_spec.specs.Headline.{AnsweredOnce}
 use Rattle.qh_spec.specs.Message.{PlainMessage}
 use Rattle.qh_spec.proofs.HeadlineLaws.{served_nothing}
@@ -8,11 +7,7 @@ use Rattle.qh_exchange.proofs.Turns.{grew_same, never_failed}
 use Rattle.qh_exchange.proofs.RoundsFair.{fair_by, list_fairly}
 use Rattle.qh_exchange.proofs.AskedLists.{invalid_still, is_invalid, is_nothing, is_something, list_no_link, list_not_idle, list_not_lost, list_not_out, nothing_valid}
 use Rattle.qh_spec.specs.Fault.{CountsFaults}
-use Rattle.qh_exchange.specs.Exchange.{IfInvalid, IfOutOfRounds, IfProtocol, IfTimedOut}
-use Rattle.qh_exchange.specs.Rounds.{AreFair, IsRoundsError, RoundsMade}
-use Rattle.qh_exchange.specs.Sound.{EndsFairly}
 use Rattle.qh_exchange.specs.Turn.{has_link_failed}
-use Rattle.std.specs.Prelude.{IfErr, IfOk}
 use Rattle.qh_exchange.proofs.ExchangeEnds.{answered_by, count_by, ends_by, held_by, idle_by, invalid_by, lost_by, nothing_asked, out_by, served_once, tells, within_all, within_none}
 use Rattle.qh_exchange.proofs.exchanges.exchange.Goals as goal
 

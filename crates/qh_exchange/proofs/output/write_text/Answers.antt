@@ -4,13 +4,13 @@ use Rattle.qh_exchange.proofs.Unbuilt.{no_length}
 use Rattle.qh_exchange.proofs.output.write_text.Goals as goal
 
 pub returns-then-is_empty : goal.returns-then-is_empty
-returns-then-is_empty g c = written_all _ _ _ _ _ _ _ _ c.loop-piece.invariant (no_length _ c.if-is_empty.ensures)
+returns-then-is_empty g c = written_all _ _ _ _ _ _ _ c.loop-piece.invariant (no_length _ c.if-is_empty.ensures)
 
 pub returns : goal.returns
-returns g c = written_all _ _ _ _ _ _ _ _ c.loop-piece.invariant (let few = c.loop-piece.invariant.few in omega arith)
+returns g c = written_all _ _ _ _ _ _ _ c.loop-piece.invariant (let few = c.loop-piece.invariant.few in omega arith)
 
 pub returns-in_default : goal.returns-in_default
-returns-in_default g c = written_cut _ _ _ _ _ _ _ _ _ _ c.loop-piece.invariant c.in_default.ensures.none c.in_default.ensures.fault
+returns-in_default g c = written_cut _ _ _ _ _ _ _ _ _ c.loop-piece.invariant c.in_default.ensures.none c.in_default.ensures.fault
 
 pub loop-piece-preserved : goal.loop-piece-preserved
 loop-piece-preserved g c =

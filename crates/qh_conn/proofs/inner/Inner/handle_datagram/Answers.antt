@@ -3,6 +3,7 @@ use Rattle.qh_conn.proofs.Opened.{has_opened}
 use Rattle.qh_conn.specs.Receiving.IsDatagramTaken.{draining, drained, handled}
 use Rattle.qh_conn.proofs.inner.Inner.handle_datagram.Goals as goal
 use Rattle.qh_frame.proofs.FramesWritten.{on_ok}
+use Rattle.qh_streams.proofs.PhasesWritten.{when_err}
 
 pub returns-in-Closed-clause-ok : goal.returns-in-Closed-clause-ok
 returns-in-Closed-clause-ok g c = c.hear_closed.ensures.taken c.args.now
@@ -25,3 +26,12 @@ returns-then-is_err-clause-has g c = λ _.
 
 pub returns-in_default-clause-has : goal.returns-in_default-clause-has
 returns-in_default-clause-has g c = λ _ number bytes frames opened are. absurd (c.in_default.ensures.none number bytes opened)
+
+pub returns-then-is_err-clause-wanting : goal.returns-then-is_err-clause-wanting
+returns-then-is_err-clause-wanting g c = record {
+  opened = rw c.in-Established.is refl;
+  number = c.in-Some.packet.number;
+  frames = c.in-Some.packet.frames.now;
+  is = c.in-Some.ensures.some.0;
+  unread = when_err c.handle_packet.result c.if-is_err.ensures.value c.handle_packet.ensures.wanting;
+}

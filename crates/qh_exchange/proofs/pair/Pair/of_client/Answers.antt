@@ -1,4 +1,4 @@
-use Rattle.std.proofs.Common.{[], refl, ap, sym, ◌∙◌, length}
+use Rattle.std.proofs.Common.{[], refl, ap, sym, ◌∙◌}
 use Rattle.qh_roles.specs.Server.{PlainServer}
 use Rattle.qh_spec.specs.Config.{PlainConfig}
 use Rattle.qh_exchange.proofs.PairFirst.{first_running, runs_first, run_first, sound_first}

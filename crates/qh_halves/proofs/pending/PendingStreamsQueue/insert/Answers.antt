@@ -1,35 +1,30 @@
-use Rattle.std.proofs.Common.{◌≡◌, ◌<◌, false, insert, length, slice_get, vec_len, vec_capacity, sym, ap, ◌∙◌, arith}
-use Rattle.qh_halves.specs.Pending.{PlainPending, is_same_as, AreInOrder}
-use Rattle.qh_halves.proofs.PendingPlaces.{absent, has_already, has_inserted, in_order_inserted}
+use Rattle.std.proofs.Common.{◌≡◌, Some, None, sym, ap, ◌∙◌}
+use Rattle.std.proofs.lemmas.Bool.{both_ways}
+use Rattle.qh_halves.specs.Pending.{PlainPending, has_room}
+use Rattle.qh_halves.specs.Seats.{seat_in}
+use Rattle.qh_halves.proofs.PendingSeats.{seated_set, waits_set, room_set, no_room, same_stream}
 use Rattle.qh_halves.proofs.pending.PendingStreamsQueue.insert.Goals as goal
 
-pub returns-then-stands_at-clause-streams : goal.returns-then-stands_at-clause-streams
-returns-then-stands_at-clause-streams c = λ q. has_already c.args.self.now.streams c.args.stream c.place-place.result q (sym c.stands_at.ensures ∙ c.if-stands_at.true)
-
-ordered : (c : goal.After-insert) → AreInOrder c.args.self.now.streams
-ordered c = rw (← c.self.view_is) c.self.invariant
-
-none : (c : goal.After-insert) → is_same_as c.args.stream (slice_get c.args.self.now.streams c.place-place.result) ≡ false
-none c = sym c.stands_at.ensures ∙ c.if-stands_at.false
-
-has_room : (c : goal.After-insert) → vec_len c.self.inside.streams < vec_capacity c.self.inside.streams
-has_room c =
-    let room = c.requires (absent c.args.self.now.streams c.args.stream c.place-place.result (ordered c) c.place-place.ensures (none c)) in
-    let len = ap (λ (p : PlainPending). length p.streams) c.self.view_is in
-    let space = ap (λ (p : PlainPending). p.room) c.self.view_is in
-    omega (arith, room, len, space)
-
-inserted : (c : goal.After-insert) → c.insert.new.self.items ≡ insert c.args.self.now.streams c.place-place.result c.args.stream
-inserted c = rw (← c.self.view_is) (rw (c.insert.ensures.succeeds (has_room c)) at c.insert.ensures.items)
+here : (c : goal.After-set) → seat_in c.self.inside.seats.entries c.args.stream.id ≡ Some c.in-Some.place
+here c = sym c.get.ensures.value ∙ sym c.copied.ensures ∙ c.in-Some.is
 
 pub invariant_of-self : goal.invariant_of-self
-invariant_of-self c = rw (inserted c) (in_order_inserted c.args.self.now.streams c.args.stream c.place-place.result (ordered c) c.place-place.ensures (none c))
+invariant_of-self c =
+    let s = c.self.inside in
+    rw c.set.ensures (seated_set s.seats.entries s.ids s.tree c.self.invariant c.args.stream.id c.in-Some.place (Some c.args.stream) (here c) (λ p e. same_stream c.args.stream p e))
 
-pub returns-clause-streams : goal.returns-clause-streams
-returns-clause-streams c = λ q. rw (inserted c) (has_inserted c.args.self.now.streams c.args.stream c.place-place.result q)
+pub returns-in-Some-clause-waits : goal.returns-in-Some-clause-waits
+returns-in-Some-clause-waits c k =
+    let s = c.self.inside in
+    rw (c.set.ensures, sym c.self.view_is) (waits_set s.seats.entries s.ids s.tree c.self.invariant c.args.stream.id c.in-Some.place (Some c.args.stream) (here c) (λ p e. same_stream c.args.stream p e) k)
 
-pub returns-clause-room : goal.returns-clause-room
-returns-clause-room c = (c.insert.ensures.in_place (has_room c)).1.0 ∙ ap (λ (p : PlainPending). p.room) c.self.view_is
+pub returns-in-Some-clause-room : goal.returns-in-Some-clause-room
+returns-in-Some-clause-room c k =
+    let s = c.self.inside in
+    rw (c.set.ensures, sym c.self.view_is) (room_set s.seats.entries s.ids s.tree c.self.invariant c.args.stream.id c.in-Some.place (Some c.args.stream) (here c) (λ p e. same_stream c.args.stream p e) k)
 
-pub returns-clause-in_order : goal.returns-clause-in_order
-returns-clause-in_order c = rw (inserted c) (in_order_inserted c.args.self.now.streams c.args.stream c.place-place.result (ordered c) c.place-place.ensures (none c))
+pub returns-in_default-clause-waits : goal.returns-in_default-clause-waits
+returns-in_default-clause-waits c =
+    let none : seat_in c.self.inside.seats.entries c.args.stream.id ≡ None = sym c.get.ensures.value ∙ sym c.copied.ensures ∙ c.in_default.is in
+    let room = ap (λ (p : PlainPending). has_room p c.args.stream.id) c.self.view_is ∙ c.requires in
+    absurd (both_ways _ (no_room c.self.inside.tree c.self.inside.seats.entries c.args.stream.id none) room)

@@ -5,8 +5,8 @@ use Rattle.qh_halves.proofs.MapWritten.{same_written}
 use Rattle.qh_halves.proofs.RecvHalvesStepped.{room_for, are_settled, stepped}
 use Rattle.qh_halves.proofs.recv_halves.RecvHalves.ingest.Goals as goal
 
-pub settle-requires-clause-room : goal.settle-requires-clause-room
-settle-requires-clause-room c =
+pub settle-requires : goal.settle-requires
+settle-requires c =
     let half = c.in-Some.ensures in
     room_for _ _ _ _ _ c.self.invariant c.args.id _ (sym half.value)
 

@@ -3,8 +3,8 @@ use Rattle.qh_halves.proofs.RecvSteps.{counted_at_read}
 use Rattle.qh_halves.proofs.RecvHalvesStepped.{room_for, are_settled}
 use Rattle.qh_halves.proofs.recv_halves.RecvHalves.next.Goals as goal
 
-pub settle-requires-clause-room : goal.settle-requires-clause-room
-settle-requires-clause-room c =
+pub settle-requires : goal.settle-requires
+settle-requires c =
     let half = c.in-Some.ensures in
     room_for _ _ _ _ _ c.self.invariant c.args.id _ (sym half.value)
 

@@ -20,10 +20,10 @@ returns-in-Some-control-clause-some c =
     let control = c.in-Some-control.control in
     let same = ap (λ (x : PlainRecvHalves). x.credited) (sym c.loop-first.invariant.1 ∙ sym c.self.view_is) in
     rw c.loop-first.invariant.1
-    (stepped_alone (GivesControl s.stream_window control) _ _ s.due c.in-Some.first.id ok.in_order (omega arith) w
+    (stepped_alone (GivesControl s.stream_window control) _ _ s.due c.in-Some.first.id (omega arith) w
     (done_at_control w.half w.next s.stream_window control w.step ∙ ok.undone c.in-Some.first.id w.half w.was) (counted_at_control w.half w.next s.stream_window control w.step))
 
 pub returns-clause-none : goal.returns-clause-none
 returns-clause-none c = λ _.
-    let empty = rw c.in_default.is at c.first.ensures.first in
+    let empty = rw c.in_default.is at c.first.ensures in
     rw c.loop-first.invariant.1 (refl, none_is_due _ _ _ _ _ c.loop-first.invariant.0 empty)

@@ -1,4 +1,5 @@
-use Rattle.std.proofs.Common.{◌≡◌, length}
+use Rattle.std.proofs.Common.{◌≡◌}
+use Rattle.qh_halves.specs.Pending.{waiting}
 use Rattle.qh_halves.specs.RecvHalves.{AreRecvHalves}
 use Rattle.qh_halves.proofs.recv_halves.RecvHalves.next_control.Given as goal
 
@@ -9,4 +10,4 @@ invariant-loop-first l =
     × (l.fn.self ≡ record { halves = s.halves.entries; received = s.received; credited = s.credited; receive_window = s.receive_window; stream_window = s.stream_window; announced = s.announced })
 
 abbrev pub decreases-loop-first : goal.decreases-loop-first
-decreases-loop-first l = length l.self-inside.due.streams
+decreases-loop-first l = waiting l.self-inside.due

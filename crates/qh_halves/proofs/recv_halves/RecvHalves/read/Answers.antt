@@ -18,8 +18,8 @@ overflow_sub-after c =
     let more : counted c.in-Some.half.now ≤ counted c.read-result.new.self = counted_at_read (with_order c.in-Some.half.now c.args.ordered) c.read-result.new.self c.args.max_length c.read-result.result answer in
     omega (arith, more, c.counted-before.ensures.counted, c.counted-after.ensures.counted)
 
-pub settle-requires-clause-room : goal.settle-requires-clause-room
-settle-requires-clause-room c =
+pub settle-requires : goal.settle-requires
+settle-requires c =
     let half = c.in-Some.ensures in
     room_for _ _ _ _ _ c.self.invariant c.args.id _ (sym half.value)
 
@@ -49,6 +49,6 @@ returns-clause-answer c =
     let some = sym c.is_wanting.ensures.value ∙ c.if-is_wanting.false in
     rw (← c.self.view_is, order_is c.args.ordered c.read-result.result some)
     (begun_read _ c.args.id c.args.max_length c.args.ordered c.read-result.result c.in-Some.half.now next _ _ _ _ c.is_frame_due-is_due.result c.is_done-is_done.result _
-    c.self.invariant.in_order (omega (arith, c.self.ranges)) (c.self.invariant.undone c.args.id c.in-Some.half.now (sym half.value)) (sym half.value)
+    (omega (arith, c.self.ranges)) (c.self.invariant.undone c.args.id c.in-Some.half.now (sym half.value)) (sym half.value)
     (c.read-result.ensures.answer (c.is_wanting.ensures.no c.if-is_wanting.false)) written.0 c.is_done-is_done.ensures c.settle.ensures
     (omega (arith, c.saturating_add-self-inside.ensures, c.counted-before.ensures.counted, c.counted-after.ensures.counted)))

@@ -8,4 +8,4 @@ use Rattle.qh_halves.proofs.recv_halves.RecvHalves.withdraw.Goals as goal
 pub returns-clause-entries : goal.returns-clause-entries
 returns-clause-entries c = λ before r none sorted is.
     let was : c.self.inside.halves.entries ≡ insert_entry nat_cmp before c.args.id r = ap (λ (s : PlainRecvHalves). s.halves) c.self.view_is ∙ is in
-    c.remove-2.ensures.entries ∙ ap (remove_entry (is_at (nat_cmp c.args.id))) was ∙ removed_again c.args.id r before none
+    c.remove.ensures.entries ∙ ap (remove_entry (is_at (nat_cmp c.args.id))) was ∙ removed_again c.args.id r before none

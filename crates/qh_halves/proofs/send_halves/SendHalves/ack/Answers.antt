@@ -1,4 +1,4 @@
-use Rattle.std.proofs.Common.{◌≡◌, ℕ, sym, ap, ◌∙◌, arith, to_z, of_z, w32, rules}
+use Rattle.std.proofs.Common.{ℕ, sym, ap, ◌∙◌, arith}
 use Rattle.std.specs.BTreeMap.{BTreeMap}
 use Rattle.qh_half.specs.Send.{PlainSend}
 use Rattle.qh_halves.specs.SendHalves.{IsAcked}
@@ -19,15 +19,13 @@ overflow_sub-self-2 c =
 
 pub invariant_of-self-then-is_done : goal.invariant_of-self-then-is_done
 invariant_of-self-then-is_done c =
-    let is : to_z w32 (of_z w32 c.rank-priority.result) ≡ c.rank-priority.result = search rules in
     let within = held_within c.self.inside.halves.entries c.args.id c.in-Some.half.now (sym c.in-Some.ensures.value) in
     let less = acked_holds c.in-Some.half.now c.ack.new.self _ _ _ c.ack.ensures in
-    let priority = ap (λ (s : PlainSend). s.priority) c.ack.ensures.rest_is in
     let written = (c.get_mut.follows.holds c.ack.new.self).0 in
     left_stepped c.self.inside c.self.invariant c.args.id c.in-Some.half.now c.ack.new.self c.in-Some.ensures.value
-    c.remove.new.self.entries c.remove-then-is_done.new.self _ _ c.in-Some.ensures.ordered
+    c.remove.new.self.entries c.leave.new.self _ c.in-Some.ensures.ordered
     (rw written at c.remove.ensures.entries)
-    (is ∙ c.rank-priority.ensures ∙ priority) c.remove-then-is_done.ensures.streams c.remove-then-is_done.ensures.room c.remove-then-is_done.ensures.in_order
+    c.leave.ensures.waits c.leave.ensures.room
     (sym c.is_done-is_done.ensures ∙ c.if-is_done.true) (omega (arith, within, less, c.self.invariant.counted, c.held-before.ensures, c.held.ensures))
 
 pub invariant_of-self-else-is_done : goal.invariant_of-self-else-is_done

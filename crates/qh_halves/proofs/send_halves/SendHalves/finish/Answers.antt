@@ -16,10 +16,7 @@ returns-in_err-finish-clause-fault c =
     rw (p.1, p.2, same, sym c.self.view_is, sym c.in-Some.ensures.value) (c.in_err-finish.ensures.fault.0, refl)
 
 pub insert-requires : goal.insert-requires
-insert-requires c =
-    let is : to_z w32 (of_z w32 c.rank-priority.result) ≡ c.rank-priority.result = search rules in
-    let on = finish_goes c.in-Some.half.now c.finish.new.self c.in_ok-finish.ensures.ok.1 in
-    room_for c.self.inside c.self.invariant c.args.id c.in-Some.half.now c.finish.new.self c.in-Some.ensures.value _ (is ∙ c.rank-priority.ensures ∙ on.priority_is)
+insert-requires c = room_for c.self.inside c.self.invariant c.args.id c.in-Some.half.now c.finish.new.self c.in-Some.ensures.value
 
 pub invariant_of-self-2 : goal.invariant_of-self-2
 invariant_of-self-2 c =
@@ -28,7 +25,7 @@ invariant_of-self-2 c =
     let same = finish_holds c.in-Some.half.now c.finish.new.self finished.0 finished.1 in
     rw (c.get_mut.follows.holds c.finish.new.self).0
     (put_stepped c.self.inside c.self.invariant c.args.id c.in-Some.half.now c.finish.new.self c.in-Some.ensures.value c.insert.new.self _ _ _
-    c.insert.ensures.streams c.insert.ensures.room c.insert.ensures.in_order (is ∙ c.rank-priority.ensures)
+    c.insert.ensures.waits c.insert.ensures.room (is ∙ c.rank-priority.ensures)
     (finish_goes c.in-Some.half.now c.finish.new.self finished.1) (omega (arith, same)) c.self.invariant.credit)
 
 pub returns-clause-ok : goal.returns-clause-ok

@@ -1,5 +1,6 @@
-use Rattle.std.proofs.Common.{◌≡◌, length}
+use Rattle.std.proofs.Common.{◌≡◌}
 use Rattle.qh_halves.specs.contracts.send_halves.SendHalves.{the_view}
+use Rattle.qh_halves.specs.Pending.{waiting}
 use Rattle.qh_halves.specs.SendHalves.{AreSendHalves}
 use Rattle.qh_halves.proofs.send_halves.SendHalves.first_waiting.Given as goal
 
@@ -12,4 +13,4 @@ invariant-loop-first l =
     }
 
 abbrev pub decreases-loop-first : goal.decreases-loop-first
-decreases-loop-first l = length l.self-inside.pending.streams
+decreases-loop-first l = waiting l.self-inside.pending

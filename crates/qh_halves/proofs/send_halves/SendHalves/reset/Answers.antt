@@ -22,10 +22,7 @@ overflow_sub-self c =
     omega (arith, bytes.1, within, c.self.invariant.counted, c.unacked.ensures)
 
 pub insert-requires : goal.insert-requires
-insert-requires c =
-    let is : to_z w32 (of_z w32 c.rank-priority.result) ≡ c.rank-priority.result = search rules in
-    let on = reset_goes c.in-Some.half.now c.reset.new.self c.args.code c.in_ok-reset.ensures.ok.1 in
-    room_for c.self.inside c.self.invariant c.args.id c.in-Some.half.now c.reset.new.self c.in-Some.ensures.value _ (is ∙ c.rank-priority.ensures ∙ on.priority_is)
+insert-requires c = room_for c.self.inside c.self.invariant c.args.id c.in-Some.half.now c.reset.new.self c.in-Some.ensures.value
 
 pub invariant_of-self-2 : goal.invariant_of-self-2
 invariant_of-self-2 c =
@@ -35,7 +32,7 @@ invariant_of-self-2 c =
     let within = held_within c.self.inside.halves.entries c.args.id c.in-Some.half.now (sym c.in-Some.ensures.value) in
     rw (c.get_mut.follows.holds c.reset.new.self).0
     (put_stepped c.self.inside c.self.invariant c.args.id c.in-Some.half.now c.reset.new.self c.in-Some.ensures.value c.insert.new.self _ _ _
-    c.insert.ensures.streams c.insert.ensures.room c.insert.ensures.in_order (is ∙ c.rank-priority.ensures)
+    c.insert.ensures.waits c.insert.ensures.room (is ∙ c.rank-priority.ensures)
     (reset_goes c.in-Some.half.now c.reset.new.self c.args.code left.1) (omega (arith, bytes.0, bytes.1, within, c.self.invariant.counted, c.unacked.ensures)) c.self.invariant.credit)
 
 pub returns-clause-ok : goal.returns-clause-ok

@@ -5,11 +5,7 @@ use Rattle.qh_halves.proofs.HalfSteps.{lost_goes, lost_holds, lost_spans}
 use Rattle.qh_halves.proofs.send_halves.SendHalves.retransmit.Goals as goal
 
 pub insert-requires : goal.insert-requires
-insert-requires c =
-    let is : to_z w32 (of_z w32 c.rank-priority.result) ≡ c.rank-priority.result = search rules in
-    let undone = c.self.invariant.undone c.args.id c.in-Some.half.now (sym c.in-Some.ensures.value) in
-    let on = lost_goes c.in-Some.half.now c.retransmit.new.self _ _ _ c.retransmit.ensures undone in
-    room_for c.self.inside c.self.invariant c.args.id c.in-Some.half.now c.retransmit.new.self c.in-Some.ensures.value _ (is ∙ c.rank-priority.ensures ∙ on.priority_is)
+insert-requires c = room_for c.self.inside c.self.invariant c.args.id c.in-Some.half.now c.retransmit.new.self c.in-Some.ensures.value
 
 pub invariant_of-self-2 : goal.invariant_of-self-2
 invariant_of-self-2 c =
@@ -18,7 +14,7 @@ invariant_of-self-2 c =
     let same = lost_holds c.in-Some.half.now c.retransmit.new.self _ _ _ c.retransmit.ensures in
     rw (c.get_mut.follows.holds c.retransmit.new.self).0
     (put_stepped c.self.inside c.self.invariant c.args.id c.in-Some.half.now c.retransmit.new.self c.in-Some.ensures.value c.insert.new.self _ _ _
-    c.insert.ensures.streams c.insert.ensures.room c.insert.ensures.in_order (is ∙ c.rank-priority.ensures)
+    c.insert.ensures.waits c.insert.ensures.room (is ∙ c.rank-priority.ensures)
     (lost_goes c.in-Some.half.now c.retransmit.new.self _ _ _ c.retransmit.ensures undone) (omega (arith, same)) c.self.invariant.credit)
 
 pub returns-clause-spans : goal.returns-clause-spans

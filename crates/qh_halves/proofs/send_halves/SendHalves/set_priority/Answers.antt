@@ -1,36 +1,29 @@
 use Rattle.std.proofs.Common.{◌≡◌, sym, ◌∙◌, arith, to_z, of_z, w32, rules}
 use Rattle.qh_halves.specs.SendHalves.{HasPriority}
-use Rattle.qh_halves.proofs.HalvesStepped.{room_again, moved_stepped, taken_stepped, is_step, spans_stay}
+use Rattle.qh_halves.proofs.HalvesStepped.{room_for, moved_stepped, taken_stepped, is_step, spans_stay}
 use Rattle.qh_halves.proofs.HalfSteps.{ranked_is}
 use Rattle.qh_halves.proofs.send_halves.SendHalves.set_priority.Goals as goal
 
 pub insert-requires : goal.insert-requires
-insert-requires c absent =
-    let was : to_z w32 (of_z w32 c.rank-before.result) ≡ c.rank-before.result = search rules in
-    room_again c.self.inside c.self.invariant c.args.id c.in-Some.half.now c.set_priority.new.self c.in-Some.ensures.value c.remove.new.self _ (was ∙ c.rank-before.ensures)
-    c.remove.ensures.streams c.remove.ensures.room c.remove.ensures.in_order
+insert-requires c = room_for c.self.inside c.self.invariant c.args.id c.in-Some.half.now c.set_priority.new.self c.in-Some.ensures.value
 
 pub invariant_of-self-then-waits : goal.invariant_of-self-then-waits
 invariant_of-self-then-waits c =
-    let was : to_z w32 (of_z w32 c.rank-before.result) ≡ c.rank-before.result = search rules in
     let now : to_z w32 (of_z w32 c.args.priority) ≡ c.args.priority = search rules in
     let set = rw now at c.in_ok-set_priority.ensures.ok.1 in
     let ranked = ranked_is c.in-Some.half.now c.set_priority.new.self c.args.priority c.in_ok-set_priority.ensures.ok.0 set in
     rw (c.get_mut.follows.holds c.set_priority.new.self).0
-    (moved_stepped c.self.inside c.self.invariant c.args.id c.in-Some.half.now c.set_priority.new.self c.in-Some.ensures.value c.remove.new.self c.insert.new.self _ _
-    (was ∙ c.rank-before.ensures) c.remove.ensures.streams c.remove.ensures.room c.remove.ensures.in_order
-    (now ∙ sym ranked.0) c.insert.ensures.streams c.insert.ensures.room c.insert.ensures.in_order ranked.1 ranked.2)
+    (moved_stepped c.self.inside c.self.invariant c.args.id c.in-Some.half.now c.set_priority.new.self c.in-Some.ensures.value c.insert.new.self _ _ _
+    c.insert.ensures.waits c.insert.ensures.room (now ∙ sym ranked.0) ranked.1 (omega (arith, ranked.2)) c.self.invariant.credit)
 
 pub invariant_of-self-else-waits : goal.invariant_of-self-else-waits
 invariant_of-self-else-waits c =
-    let was : to_z w32 (of_z w32 c.rank-before.result) ≡ c.rank-before.result = search rules in
     let now : to_z w32 (of_z w32 c.args.priority) ≡ c.args.priority = search rules in
     let set = rw now at c.in_ok-set_priority.ensures.ok.1 in
     let ranked = ranked_is c.in-Some.half.now c.set_priority.new.self c.args.priority c.in_ok-set_priority.ensures.ok.0 set in
     rw (c.get_mut.follows.holds c.set_priority.new.self).0
-    (taken_stepped c.self.inside c.self.invariant c.args.id c.in-Some.half.now c.set_priority.new.self c.in-Some.ensures.value c.remove.new.self _
-    (was ∙ c.rank-before.ensures) c.remove.ensures.streams c.remove.ensures.room c.remove.ensures.in_order
-    (c.waits-waits.ensures.none c.if-waits.false) ranked.1 ranked.2)
+    (taken_stepped c.self.inside c.self.invariant c.args.id c.in-Some.half.now c.set_priority.new.self c.in-Some.ensures.value c.remove.new.self
+    c.remove.ensures.waits c.remove.ensures.room (c.waits.ensures.none c.if-waits.false) ranked.1 ranked.2)
 
 pub returns-then-waits-clause-ok : goal.returns-then-waits-clause-ok
 returns-then-waits-clause-ok c =

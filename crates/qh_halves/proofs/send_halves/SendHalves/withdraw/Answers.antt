@@ -1,4 +1,4 @@
-use Rattle.std.proofs.Common.{◌≡◌, ◌-◌, sym, ap, ◌∙◌, arith, to_z, of_z, w32, rules}
+use Rattle.std.proofs.Common.{◌-◌, sym, ap, ◌∙◌, arith}
 use Rattle.qh_halves.specs.SendHalves.{PlainSendHalves}
 use Rattle.qh_halves.proofs.HalvesInserted.{inserted_removed}
 use Rattle.qh_halves.proofs.HalvesWithdrawn.{withdrawn, unacked_removed}
@@ -17,12 +17,11 @@ overflow_sub-self c =
 pub invariant_of-self-2 : goal.invariant_of-self-2
 invariant_of-self-2 c =
     let s = c.self.inside in
-    let is : to_z w32 (of_z w32 c.rank-priority.result) ≡ c.rank-priority.result = search rules in
     let was = sym c.in-Some.ensures.value in
     let within = unacked_removed s.halves.entries c.args.id c.in-Some.half was in
-    withdrawn s.halves.entries c.remove.new.self.entries s.pending c.remove-2.new.self s.max_data s.data_sent s.unacked_data c.self.invariant c.args.id c.in-Some.half was
-    (λ k. c.in-Some.ensures.updates.0 k) (to_z w32 (of_z w32 c.rank-priority.result)) (is ∙ c.rank-priority.ensures) c.remove-2.ensures.streams (s.unacked_data - c.held.result)
-    c.in-Some.ensures.entries (omega (arith, c.in-Some.ensures.len)) c.remove-2.ensures.room c.remove-2.ensures.in_order (omega (arith, within, c.self.invariant.counted, c.held.ensures))
+    withdrawn s.halves.entries c.remove.new.self.entries s.pending c.leave.new.self s.max_data s.data_sent s.unacked_data c.self.invariant c.args.id c.in-Some.half was
+    (λ k. c.in-Some.ensures.updates.0 k) c.leave.ensures.waits c.leave.ensures.room (s.unacked_data - c.held.result)
+    c.in-Some.ensures.entries (omega (arith, within, c.self.invariant.counted, c.held.ensures))
 
 pub returns-clause-entries : goal.returns-clause-entries
 returns-clause-entries c = λ before h none sorted is.

@@ -17,10 +17,7 @@ returns-in_err-written-clause-err c =
     rw (p.1, same, sym c.self.view_is) (refl, c.in_err-written.ensures.err.1)
 
 pub insert-requires : goal.insert-requires
-insert-requires c =
-    let is : to_z w32 (of_z w32 c.rank-priority.result) ≡ c.rank-priority.result = search rules in
-    let on = write_goes c.in-Some.half.now c.write_chunks.new.self _ _ c.in_ok-written.ensures.open c.in_ok-written.ensures.taken in
-    room_for c.self.inside c.self.invariant c.args.id c.in-Some.half.now c.write_chunks.new.self c.in-Some.ensures.value _ (is ∙ c.rank-priority.ensures ∙ on.priority_is)
+insert-requires c = room_for c.self.inside c.self.invariant c.args.id c.in-Some.half.now c.write_chunks.new.self c.in-Some.ensures.value
 
 pub invariant_of-self-2 : goal.invariant_of-self-2
 invariant_of-self-2 c =
@@ -31,7 +28,7 @@ invariant_of-self-2 c =
     let more = write_holds c.in-Some.half.now c.write_chunks.new.self (concat c.args.chunks.now) _ c.in_ok-written.written.bytes c.in_ok-written.ensures.open fits c.in_ok-written.ensures.taken in
     rw (c.get_mut.follows.holds c.write_chunks.new.self).0
     (put_stepped c.self.inside c.self.invariant c.args.id c.in-Some.half.now c.write_chunks.new.self c.in-Some.ensures.value c.insert.new.self _ _ _
-    c.insert.ensures.streams c.insert.ensures.room c.insert.ensures.in_order (is ∙ c.rank-priority.ensures)
+    c.insert.ensures.waits c.insert.ensures.room (is ∙ c.rank-priority.ensures)
     (write_goes c.in-Some.half.now c.write_chunks.new.self _ _ c.in_ok-written.ensures.open c.in_ok-written.ensures.taken) (omega (arith, more)) (omega (arith, count, limit, c.self.invariant.credit)))
 
 pub returns-clause-ok : goal.returns-clause-ok
