@@ -1,0 +1,9 @@
+pub mod OneRange
+pub mod SettledOrOut
+pub mod CountFirst
+pub mod PeerIds
+pub mod AccountedLike
+pub mod AccountedSteps
+pub mod AccountedArrivals
+pub mod AccountedCalls
+pub mod AccountedFrames
