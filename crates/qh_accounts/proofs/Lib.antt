@@ -7,3 +7,8 @@ pub mod AccountedSteps
 pub mod AccountedArrivals
 pub mod AccountedCalls
 pub mod AccountedFrames
+pub mod CarriedOf
+pub mod CarriedCalls
+pub mod CarriedFrames
+pub mod CarriedTold
+pub mod CarriedBack

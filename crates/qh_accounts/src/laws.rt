@@ -1,4 +1,4 @@
-ghost use Rattle.std.specs.Prelude.{◌≡◌, ◌⊎◌, ◌<◌, ℕ, Bool, true, false, List, [], ◌∷◌, Option, None, Some, Result, IfSome};
+ghost use Rattle.std.specs.Prelude.{◌≡◌, ◌⊎◌, ◌<◌, ◌++◌, ℕ, Bool, true, false, List, [], ◌∷◌, Option, None, Some, Result, IfSome};
 ghost use Rattle.qh_base.specs.declared.stream_id.StreamId.{StreamId};
 ghost use Rattle.qh_buffers.specs.Ranges.{PlainRange, AreApart, has, is_in};
 ghost use Rattle.qh_buffers.specs.SendBuffer.{taken_to, mark_at, is_queued};
@@ -14,13 +14,14 @@ ghost use Rattle.qh_spec.specs.StreamId.{stream_id};
 ghost use Rattle.qh_spec.specs.declared.sides.Dir.{Dir};
 ghost use Rattle.qh_streams.specs.Halves.{IsChunk};
 ghost use Rattle.qh_streams.specs.Streams.{PlainStreams, AreAcked, AreHanded, AreLost, AreTakenBack, AreWritten, IsAckedFrame, IsHandedOver, IsLostFrame, IsOpened, IsPolled, IsReceived, IsWrittenBy, counted_closed, counts_of, is_live, is_two_way, refusal_of, with_accepted, with_blocked, with_counts, with_peer};
-ghost use Rattle.qh_streams.specs.Tracked.{AreTracked, HasByte, HasEnd, HasReset, IsFresh, IsReceivingStep, IsSendingStep, OneIs};
+ghost use Rattle.qh_streams.specs.Tracked.{AreAmong, AreTracked, HasByte, HasEnd, HasReset, IsFresh, IsReceivingStep, IsSendingStep, OneIs};
 ghost use Rattle.qh_streams.specs.declared.frames.PeerLimits.{PeerLimits};
 ghost use Rattle.qh_streams.specs.declared.frames.SentFrame.{SentFrame};
 ghost use Rattle.qh_streams.specs.declared.frames.StreamEvent.{StreamEvent};
 ghost use Rattle.qh_streams.specs.declared.frames.StreamFrame.{StreamFrame};
 ghost use Rattle.qh_streams.specs.declared.halves.ChunksState.{ChunksState};
 ghost use Rattle.qh_accounts.specs.Accounts.{AreAccounted, is_live_at};
+ghost use Rattle.qh_accounts.specs.Carried.{AreCarried, carried_to};
 
 /// Numbers without a gap are one range: ranges that stand apart and have exactly the numbers from a start on to before an end are that
 /// range alone.
@@ -98,4 +99,67 @@ pub fn settled_or_out()
     ensures resets { (s : PlainStreams) (frames : List SentFrame) (id : ℕ) (h : PlainSend) → AreTracked s frames
         → send_at s.send id ≡ Some h → is_reset h.state ≡ true
         → (owes_reset h.state ≡ false) ⊎ ((is_reset_queued h.state ≡ true) ⊎ OneIs (HasReset id) frames) }
+{}
+
+/// What STREAM frames carried of a stream is a prefix of it (RFC 9000, section 2.2): the bytes in them are all bytes before some
+/// offset, and each byte that was written on a stream that wasn't reset, and doesn't wait to be sent, is among them. `frames` are all
+/// frames that were written since `Streams` was new, in a list that only grows; what a call handed over and took back is none of
+/// them. Frames that are acknowledged are among them.
+pub fn carried()
+    ensures before { (s : PlainStreams) (frames : List SentFrame) (id n : ℕ) → AreCarried s frames
+        → (n < carried_to id frames → OneIs (HasByte id n) frames) × (OneIs (HasByte id n) frames → n < carried_to id frames) }
+    ensures sent { (s : PlainStreams) (frames : List SentFrame) (id n : ℕ) (h : PlainSend) → AreCarried s frames
+        → send_at s.send id ≡ Some h → is_reset h.state ≡ false → n < taken_to h.buffer → is_queued h.buffer n ≡ false
+        → OneIs (HasByte id n) frames }
+    ensures any_order { (s : PlainStreams) (frames others : List SentFrame) → AreAmong frames others → AreAmong others frames
+        → AreCarried s frames → AreCarried s others }
+    ensures fresh { (s : PlainStreams) → IsFresh s → AreCarried s [] }
+    ensures handed { (old new : PlainStreams) (room : ℕ) (frame : SentFrame) (frames : List SentFrame) → IsHandedOver old new room frame
+        → AreCarried old frames → AreCarried new (frame ∷ frames) }
+    ensures handed_all { (old new : PlainStreams) (more frames : List SentFrame) → AreHanded old new more
+        → AreCarried old frames → AreCarried new (frames ++ more) }
+    ensures written { (room : ℕ) (old new : PlainStreams) (more frames : List SentFrame) (bytes : List ℕ)
+        → AreWritten room old new more bytes → AreCarried old frames → AreCarried new (frames ++ more) }
+    ensures written_by { (room : ℕ) (old new : PlainStreams) (bytes_old bytes_new : List ℕ) (sent_old sent_new frames : List SentFrame)
+        → IsWrittenBy room old new bytes_old bytes_new sent_old sent_new → AreCarried old (frames ++ sent_old)
+        → AreCarried new (frames ++ sent_new) }
+    ensures taken_back { (old new : PlainStreams) (frames : List SentFrame) → AreTakenBack old new
+        → AreCarried old frames → AreCarried new frames }
+    ensures lost { (old new : PlainStreams) (frame : SentFrame) (frames : List SentFrame) → IsLostFrame old new frame
+        → AreCarried old frames → AreCarried new frames }
+    ensures lost_all { (old new : PlainStreams) (lost frames : List SentFrame) → AreLost old new lost
+        → AreCarried old frames → AreCarried new frames }
+    ensures acked { (old new : PlainStreams) (acked frames : List SentFrame) → AreAmong acked frames → AreAcked old new acked
+        → AreCarried old frames → AreCarried new frames }
+    ensures peer { (old new : PlainStreams) (peer : PeerLimits) (frames : List SentFrame) → new ≡ with_peer old peer
+        → AreCarried old frames → AreCarried new frames }
+    ensures max_concurrent { (old new : PlainStreams) (dir : Dir) (count : ℕ) (frames : List SentFrame)
+        → new ≡ with_counts old (is_two_way dir) (record (counts_of old (is_two_way dir)) { max_concurrent = count })
+        → AreCarried old frames → AreCarried new frames }
+    ensures send_window { (old new : PlainStreams) (bytes : ℕ) (frames : List SentFrame)
+        → new ≡ record old { send = record old.send { send_window = bytes } } → AreCarried old frames → AreCarried new frames }
+    ensures receive_window { (old new : PlainStreams) (bytes : ℕ) (frames : List SentFrame)
+        → new ≡ record old { recv = record old.recv { receive_window = bytes } } → AreCarried old frames → AreCarried new frames }
+    ensures accepted { (old new : PlainStreams) (dir : Dir) (result : Option StreamId) (frames : List SentFrame)
+        → IfSome result (λ id. (id.0 ≡ stream_id (other_side old.side) dir (counts_of old (is_two_way dir)).accepted)
+        × ((counts_of old (is_two_way dir)).accepted < (counts_of old (is_two_way dir)).arrived)
+        × (new ≡ with_counts old (is_two_way dir) (with_accepted (counts_of old (is_two_way dir)))))
+        → (result ≡ None → ((counts_of old (is_two_way dir)).accepted ≡ (counts_of old (is_two_way dir)).arrived) × (new ≡ old))
+        → AreCarried old frames → AreCarried new frames }
+    ensures opened { (old new : PlainStreams) (id : ℕ) (frames : List SentFrame) → IsOpened old new id
+        → AreCarried old frames → AreCarried new frames }
+    ensures received { (old new : PlainStreams) (frame : StreamFrame) (frames : List SentFrame) → IsReceived old new frame
+        → AreCarried old frames → AreCarried new frames }
+    ensures sending { (old new : PlainStreams) (id : ℕ) (frames : List SentFrame) → IsSendingStep old.send new.send id
+        → AreCarried old frames → AreCarried new frames }
+    ensures blocked { (old new : PlainStreams) (id : ℕ) (fault : WriteFault) (frames : List SentFrame) → new ≡ with_blocked old id fault
+        → AreCarried old frames → AreCarried new frames }
+    ensures begun { (old new : PlainStreams) (frames : List SentFrame) → new ≡ record old { recv = new.recv }
+        → AreCarried old frames → AreCarried new frames }
+    ensures receiving { (old new : PlainStreams) (id : ℕ) (frames : List SentFrame)
+        → new ≡ counted_closed (record old { recv = new.recv }) id (is_live old id) → AreCarried old frames → AreCarried new frames }
+    ensures chunk { (old new : PlainStreams) (id max_length : ℕ) (before after : ChunksState) (result : Result (Option Chunk) ReadFault)
+        (frames : List SentFrame) → IsChunk old new id max_length before after result → AreCarried old frames → AreCarried new frames }
+    ensures polled { (old new : PlainStreams) (event : Option StreamEvent) (frames : List SentFrame) → IsPolled old new event
+        → AreCarried old frames → AreCarried new frames }
 {}

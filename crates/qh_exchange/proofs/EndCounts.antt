@@ -1,9 +1,9 @@
 -- How many datagrams an end was given and sent in a turn, and how many faults the link had.
-use Rattle.std.proofs.Common.{◌≡◌, inl, inr, ◌≤◌, ◌<◌, ◌+◌, Bool, List, [], ◌∷◌, ◌++◌, ℕ, Some, refl, sym, ◌∙◌, ap, arith, length-append}
+use Rattle.std.proofs.Common.{◌≡◌, inl, ◌≤◌, ◌<◌, ◌+◌, Bool, List, [], ◌∷◌, ◌++◌, ℕ, Some, refl, sym, ◌∙◌, ap, subst, arith, length-append}
 use Rattle.std.specs.Prelude.{length, map}
 use Rattle.std.proofs.lemmas.List.{map-append}
 use Rattle.qh_conduct.specs.Calls.{ToldTheSame}
-use Rattle.qh_spec.specs.Fault.{CountsFaults, Rose}
+use Rattle.qh_spec.specs.Fault.{CountsFaults}
 use Rattle.qh_spec.specs.Link.{sent_by}
 use Rattle.qh_spec.specs.Turns.{IsIntake, until_dry, full, IsOutput}
 use Rattle.qh_spec.specs.declared.link.Event.{Event}
@@ -69,9 +69,5 @@ told_trans a b c f g two_way = ((g two_way).0 ∙ (f two_way).0, (g two_way).1 �
 
 -- ---- counts of faults
 
-pub counts_more : (a b c : ℕ) (is_failing : Bool) → a ≤ b → CountsFaults b c is_failing → CountsFaults a c is_failing
-counts_more a b c is_failing le f =
-    record {
-      stays = (let s = f.stays in omega (arith, s));
-      cause = λ e. elim (f.cause e) as (λ _. Rose a c) [ inl r ↦ inl (omega (arith, r)) | inr top ↦ inr top ];
-    }
+pub counts_more : (a b c : ℕ) (is_failing : Bool) → b ≡ a → CountsFaults b c is_failing → CountsFaults a c is_failing
+counts_more a b c is_failing same f = subst (λ (z : ℕ). CountsFaults z c is_failing) same f

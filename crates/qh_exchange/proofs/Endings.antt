@@ -137,11 +137,11 @@ all_done : (words : List (List ℕ)) (left_before left_after : Option (List ℕ)
 all_done words left_before left_after f g o l served status written z (usage u same) = absurd (omega arith)
 all_done words left_before left_after f g o l served status written z (unbuilt_words c is n m same) = absurd (omega arith)
 all_done words left_before left_after f g o l served status written z (read_fault w r same) = absurd (omega arith)
-all_done words left_before left_after f g o l served status written z (unread bytes w some r same) = absurd (omega arith)
-all_done words left_before left_after f g o l served status written z (read text st w is input ends) =
+all_done words left_before left_after f g o l served status written z (unread bytes w some r still same) = absurd (omega arith)
+all_done words left_before left_after f g o l served status written z (read text st w is input still ends) =
     let done = text_done text o l served st w z ends in
     inl (record { words_are = is; text = text; read = read_whole left_before left_after text done.is_script.short input; done = done })
-all_done words left_before left_after f g o l served status written z (tokens text st w is input ends same) =
+all_done words left_before left_after f g o l served status written z (tokens text st w is input still ends same) =
     let done = tokens_done text st w z ends in
     inr (record { words_are = is; text = text; read = read_whole left_before left_after text done.commands.short input; done = done })
 

@@ -11,16 +11,15 @@ use Rattle.qh_exchange.specs.Reading.{HasRead, IsInput, all, front, IsAppended, 
 -- a text was read in so many pieces
 pub record ReadSoFar (before now : Option (List ℕ)) (text : List ℕ) (faults_before faults_now count : ℕ) : Type 0 where
   pub read : HasRead before now text
-  pub stays : faults_before ≤ faults_now
+  pub still : faults_now ≡ faults_before
   pub many : count ≤ length text
 
 pub read_none : (before : Option (List ℕ)) (faults : ℕ) → ReadSoFar before before [] faults faults 0
-read_none before faults = record { read = λ left e. (left, refl, e); stays = omega arith; many = omega arith }
+read_none before faults = record { read = λ left e. (left, refl, e); still = refl; many = omega arith }
 
 pub read_more : (before now after : Option (List ℕ)) (text next : List ℕ) (f g h count : ℕ) → ReadSoFar before now text f g count → IsPiece now after text next
-    → g ≤ h → ReadSoFar before after next f h (count + 1)
+    → h ≡ g → ReadSoFar before after next f h (count + 1)
 read_more before now after text next f g h count r p l =
-    let stays = r.stays in
     let many = r.many in
     let some = p.some in
     record {
@@ -28,34 +27,37 @@ read_more before now after text next f g h count r p l =
           let x = r.read left e in
           let y = p.read x.0 x.2 in
           (y.0, x.1 ∙ ap (λ (z : List ℕ). text ++ z) y.1 ∙ sym (append_assoc text p.bytes y.0) ∙ ap (λ (z : List ℕ). z ++ y.0) (sym p.is), y.2);
-      stays = omega arith;
+      still = l ∙ r.still;
       many = rw p.is (omega (arith, length-append text p.bytes));
     }
 
-pub read_all : (before now after : Option (List ℕ)) (text next : List ℕ) (f g count : ℕ) → ReadSoFar before now text f g count → (next ≡ text) × IsAtEnd now after
-    → IsInput before after next
-read_all before now after text next f g count r end =
-    all
-    (λ left e.
-    let x = r.read left e in
-    let y = end.1 x.0 x.2 in
-    (x.1 ∙ ap (λ (z : List ℕ). text ++ z) y.0 ∙ append-nil text ∙ sym end.0, y.1))
+pub read_all : (before now after : Option (List ℕ)) (text next : List ℕ) (f g h count : ℕ) → ReadSoFar before now text f g count → (next ≡ text) × IsAtEnd now after × (h ≡ g)
+    → IsInput before after next × (h ≡ f)
+read_all before now after text next f g h count r end = (
+  all
+      (λ left e.
+      let x = r.read left e in
+      let y = end.1 x.0 x.2 in
+      (x.1 ∙ ap (λ (z : List ℕ). text ++ z) y.0 ∙ append-nil text ∙ sym end.0, y.1)),
+  end.2 ∙ r.still,
+)
 
-pub read_long : (before now : Option (List ℕ)) (text : List ℕ) (f g count : ℕ) → ReadSoFar before now text f g count → max_script < length text → IsInput before now text
-read_long before now text f g count r l = front r.read l
+pub read_long : (before now : Option (List ℕ)) (text : List ℕ) (f g count : ℕ) → ReadSoFar before now text f g count → max_script < length text → IsInput before now text × (g ≡ f)
+read_long before now text f g count r l = (front r.read l, r.still)
 
 pub rose_after : (f g h : ℕ) → f ≤ g → Rose g h → Rose f h
 rose_after f g h l (inl r) = inl (omega arith)
 rose_after f g h l (inr e) = inr e
 
 -- bytes were read behind a text, and not kept
-pub unread_more : (before now after : Option (List ℕ)) (text : List ℕ) (f g count : ℕ) → ReadSoFar before now text f g count
-    → (bytes : List ℕ) × (0 < length bytes) × HasRead now after bytes → (all : List ℕ) × (0 < length all) × HasRead before after all
-unread_more before now after text f g count r p =
+pub unread_more : (before now after : Option (List ℕ)) (text : List ℕ) (f g h count : ℕ) → ReadSoFar before now text f g count
+    → (bytes : List ℕ) × (0 < length bytes) × HasRead now after bytes × (h ≡ g) → (all : List ℕ) × (0 < length all) × HasRead before after all × (h ≡ f)
+unread_more before now after text f g h count r p =
     let some = p.1 in (
       text ++ p.0,
       omega (arith, length-append text p.0),
       λ left e. let x = r.read left e in let y = p.2 x.0 x.2 in (y.0, x.1 ∙ ap (λ (z : List ℕ). text ++ z) y.1 ∙ sym (append_assoc text p.0 y.0), y.2),
+      p.3 ∙ r.still,
     )
 
 -- what holds anyway is said of an error

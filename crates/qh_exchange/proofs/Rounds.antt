@@ -80,7 +80,7 @@ pub record AreMade (n : ℕ) (p q : PairState) (t u : Option (List Event)) (m k 
   pub moments_are : k ≡ m ++ moments
   pub rounds_are : length moments ≡ n
   pub clocked : IsClocked q moments
-  pub stays : f ≤ g
+  pub still : g ≡ f
 
 pub none_made : (p : PairState) (t : Option (List Event)) (m : List ℕ) (f : ℕ) (r : List PlainEntry) → p.is_over ≡ false → held p.client.answers ≢ length p.client.requests → IsClocked p []
     → AreMade 0 p p t t m m f f r r
@@ -98,7 +98,7 @@ none_made p t m f r going lacks clocked = record {
   moments_are = sym (append-nil m);
   rounds_are = refl;
   clocked = clocked;
-  stays = omega arith;
+  still = refl;
 }
 
 snoc_length : (xs : List ℕ) (x : ℕ) → length (xs ++ x ∷ []) ≡ length xs + 1
@@ -108,8 +108,8 @@ snoc_length (y ∷ xs) x = let e = snoc_length xs x in omega (arith, e)
 pub one_more : {T : Type 0} (n : ℕ) (p q q' : PairState) (t u u' : Option (List Event)) (m k k' : List ℕ) (f g g' : ℕ) (r s s' : List PlainEntry) (done : T) → AreMade n p q t u m k f g r s
     → GoesOn q u s q' u' s' → RunsByTheClock q q' k k' (Ok done) → q'.is_over ≡ false → q'.client.requests ≡ q.client.requests → q'.config ≡ q.config → q'.server.limits ≡ q.server.limits
     → held q'.client.answers ≢ length q'.client.requests → Adds (IsFullTurn q') u u' → (moment : ℕ) × (k' ≡ k ++ moment ∷ [])
-    → g ≤ g' → AreMade (n + 1) p q' t u' m k' f g' r s'
-one_more n p q q' t u u' m k k' f g g' r s s' done made goes clock going same config limits lacks turn round stays =
+    → g' ≡ g → AreMade (n + 1) p q' t u' m k' f g' r s'
+one_more n p q q' t u u' m k k' f g g' r s s' done made goes clock going same config limits lacks turn round still =
     let c : ClocksOn q q' m made.moments k' (Ok done) = clock m made.moments made.moments_are made.clocked in
     let sum : m ++ (made.moments ++ c.more) ≡ m ++ (made.moments ++ round.0 ∷ [])
     = sym c.are ∙ (round.1 ∙ (ap (λ (z : List ℕ). z ++ round.0 ∷ []) made.moments_are ∙ append_assoc m made.moments (round.0 ∷ []))) in
@@ -130,7 +130,7 @@ one_more n p q q' t u u' m k k' f g g' r s s' done made goes clock going same co
       moments_are = c.are;
       rounds_are = ap length new ∙ (snoc_length made.moments round.0 ∙ ap (λ (z : ℕ). z + 1) made.rounds_are);
       clocked = c.clocked;
-      stays = let a = made.stays in omega (arith, a, stays);
+      still = still ∙ made.still;
     }
 
 pub idle_of : (T U : Type 0) (e : ExchangeError) (H G : Type 0) → (H → G) → IfTimedOut {T = T} (Err e) H → IfTimedOut {T = U} (Err e) G

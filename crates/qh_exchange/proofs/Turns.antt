@@ -1,5 +1,5 @@
 -- The steps of a turn, one after another.
-use Rattle.std.proofs.Common.{◌≡◌, inl, inr, ◌≤◌, Bool, true, false, List, [], ◌∷◌, ◌++◌, ℕ, Option, Some, Ok, Err, refl, sym, ◌∙◌, ap, subst, append_assoc, append-nil, arith}
+use Rattle.std.proofs.Common.{◌≡◌, ◌≤◌, Bool, true, false, List, [], ◌∷◌, ◌++◌, ℕ, Option, Some, Ok, Err, refl, sym, ◌∙◌, ap, subst, append_assoc, append-nil, arith}
 use Rattle.std.specs.Prelude.{All, IfErr, IfOk, Result, not}
 use Rattle.std.proofs.lemmas.List.Elements.{All-head, All-tail}
 use Rattle.qh_base.specs.declared.connection_error.ConnectionError.{ConnectionError}
@@ -7,7 +7,7 @@ use Rattle.qh_base.specs.declared.time.Moment.{Moment}
 use Rattle.qh_conn.specs.declared.config.ConnConfig.{ConnConfig}
 use Rattle.qh_roles.specs.Server.{GrewByAnswers}
 use Rattle.qh_service.specs.declared.service.Limits.{Limits}
-use Rattle.qh_spec.specs.Fault.{CountsFaults, Rose}
+use Rattle.qh_spec.specs.Fault.{CountsFaults}
 use Rattle.qh_spec.specs.Link.{told}
 use Rattle.qh_spec.specs.Message.{PlainMessage}
 use Rattle.qh_spec.specs.declared.link.Event.{Event}
@@ -88,15 +88,8 @@ pub no_protocol : (r : Result (Unit {0}) ExchangeError) (P : ConnectionError →
 no_protocol (Ok x) P h = tt
 no_protocol (Err e) P h = link_no_protocol (Unit {0}) e P h
 
-rose_later : (f g h : ℕ) → f ≤ g → Rose g h → Rose f h
-rose_later f g h l (inl m) = inl (omega (arith, l, m))
-rose_later f g h l (inr e) = inr e
-
-pub counts_after : (f g h : ℕ) (failed : Bool) → f ≤ g → CountsFaults g h failed → CountsFaults f h failed
-counts_after f g h failed l c = record { stays = let a = c.stays in omega (arith, l, a); cause = λ e. rose_later f g h l (c.cause e) }
-
-pub never_failed : (f g : ℕ) (failed : Bool) → failed ≡ false → f ≤ g → CountsFaults f g failed
-never_failed f g failed none l = record { stays = l; cause = λ e. let x : true ≡ false = sym e ∙ none in cc }
+pub never_failed : (f g : ℕ) (failed : Bool) → failed ≡ false → g ≡ f → CountsFaults f g failed
+never_failed f g failed none same = record { stays = omega (arith, same); cause = λ e. let x : true ≡ false = sym e ∙ none in cc; still = λ e. same }
 
 pub grew_none : (Answer : PlainMessage → PlainMessage → Type 0) (r : List PlainEntry) → GrewByAnswers Answer r r
 grew_none Answer r = record { fresh = []; longer = sym (append-nil r); each = λ e i. absurd i }

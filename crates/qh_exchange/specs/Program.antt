@@ -105,11 +105,11 @@ pub data Ends (words : List (List ℕ)) (left_before left_after : Option (List �
   read_fault : IsReading words → Rose faults_before faults_after → IsAsAtEntry link_before link served
       → Ends words left_before left_after faults_before faults_after link_before link served 10 read_fault_line
   -- bytes were read that there was no memory for
-  unread : (front : List ℕ) → IsReading words → 0 < length front → HasRead left_before left_after front → IsAsAtEntry link_before link served
+  unread : (front : List ℕ) → IsReading words → 0 < length front → HasRead left_before left_after front → faults_after ≡ faults_before → IsAsAtEntry link_before link served
       → Ends words left_before left_after faults_before faults_after link_before link served 9 (error_line Memory)
-  read : (text : List ℕ) (status : ℕ) (written : List ℕ) → IsCommand words Exchange → IsInput left_before left_after text
+  read : (text : List ℕ) (status : ℕ) (written : List ℕ) → IsCommand words Exchange → IsInput left_before left_after text → faults_after ≡ faults_before
       → TextEnds text link_before link served status written → Ends words left_before left_after faults_before faults_after link_before link served status written
-  tokens : (text : List ℕ) (status : ℕ) (written : List ℕ) → IsCommand words Tokens → IsInput left_before left_after text
+  tokens : (text : List ℕ) (status : ℕ) (written : List ℕ) → IsCommand words Tokens → IsInput left_before left_after text → faults_after ≡ faults_before
       → TokensEnd text status written → IsAsAtEntry link_before link served → Ends words left_before left_after faults_before faults_after link_before link served status written
 
 -- How a run ends: what it read, did and wrote, and its status.

@@ -1,6 +1,6 @@
 //! What a run reads.
 
-ghost use Rattle.std.specs.Prelude.{◌≤◌, ◌<◌, ℕ, List, length, IfOk, IfErr, IfSome, IfNone};
+ghost use Rattle.std.specs.Prelude.{◌≡◌, ◌<◌, ℕ, List, length, IfOk, IfErr, IfSome, IfNone};
 ghost use Rattle.qh_spec.specs.Fault.{Rose};
 ghost use Rattle.qh_exchange.specs.Pieces.{ReadsPiece};
 ghost use Rattle.qh_exchange.specs.Reading.{HasRead, IsInput};
@@ -25,9 +25,9 @@ pub(crate) enum Piece {
 
 /// What a source gives up to its end, or a front of it that is longer than a script has at most. None where it failed.
 pub(crate) fn read_text<S: Source>(alloc: Global, source: &mut S) -> Result<Option<Vec<u8>>, Memory>
-    ensures text { IfOk result (λ found. IfSome found (λ text. IsInput (S.left source.old) (S.left source.new) text.items)) }
+    ensures text { IfOk result (λ found. IfSome found (λ text. IsInput (S.left source.old) (S.left source.new) text.items × (S.faults source.new ≡ S.faults source.old))) }
     ensures fault { IfOk result (λ found. IfNone found (Rose (S.faults source.old) (S.faults source.new))) }
-    ensures unread { IfErr result (λ _. (front : List ℕ) × (0 < length front) × HasRead (S.left source.old) (S.left source.new) front) }
+    ensures unread { IfErr result (λ _. (front : List ℕ) × (0 < length front) × HasRead (S.left source.old) (S.left source.new) front × (S.faults source.new ≡ S.faults source.old)) }
 {
     let mut text = Vec::new(alloc);
     for _piece in 0..=MAX_SCRIPT {
@@ -46,8 +46,7 @@ pub(crate) fn read_text<S: Source>(alloc: Global, source: &mut S) -> Result<Opti
 // Reads once, and puts the bytes behind the text.
 fn read_piece<S: Source>(source: &mut S, text: &mut Vec<u8>) -> Result<Piece, Memory>
     ensures piece { IfOk result (λ piece. ReadsPiece piece (S.left source.old) (S.left source.new) text.old.items text.new.items (S.faults source.old) (S.faults source.new)) }
-    ensures unread { IfErr result (λ _. (bytes : List ℕ) × (0 < length bytes) × HasRead (S.left source.old) (S.left source.new) bytes) }
-    ensures stays { S.faults source.old ≤ S.faults source.new }
+    ensures unread { IfErr result (λ _. (bytes : List ℕ) × (0 < length bytes) × HasRead (S.left source.old) (S.left source.new) bytes × (S.faults source.new ≡ S.faults source.old)) }
 {
     let mut buf = [0; PIECE];
     match source.read(&mut buf) {

@@ -261,4 +261,5 @@ counts_one old now l e =
     record {
       stays = omega arith;
       cause = λ h. elim (cases_lt (old + 1) (2 ^ 64)) as (λ z. (old < now) ⊎ (now ≡ 2 ^ 64 - 1)) [ inl a ↦ inl (omega arith) | inr b ↦ inr (omega arith) ];
+      still = λ h. absurd (let both : true ≡ false = h in cc);
     }

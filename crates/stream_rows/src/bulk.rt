@@ -170,6 +170,7 @@ pub(crate) fn answer(
     match kind {
         "connection" => over_connection(alloc, &settings, total, out),
         "streams" => over_streams(alloc, &settings, total, out),
+        "waiting" => serve_waiting(alloc, &settings, total, out),
         _ => Err(RowFault::Form),
     }
 }
@@ -372,4 +373,62 @@ fn send_packet(
         Ok(()) => Ok(!packet.is_empty()),
         Err(_) => Err(RowFault::Form),
     }
+}
+
+// Streams that wait are served, a byte at a time, until so many bytes were sent, as far as the windows permit.
+fn serve_waiting(
+    alloc: Global,
+    settings: &Settings,
+    total: u64,
+    out: &mut Vec<u8>,
+) -> Result<(), RowFault> {
+    let mut end = StreamsPair::new(alloc, settings).client;
+    let mut ids = Vec::new(alloc);
+    for _ in 0..settings.limits.max_bidi {
+        if let Some(id) = end.open(alloc, Dir::Bi)? {
+            ids.push(id)?;
+        }
+    }
+    let mut sent = 0u64;
+    let mut packets = 0u64;
+    for _ in 0..total {
+        if sent >= total {
+            break;
+        }
+        sent = sent.saturating_add(write_each(alloc, &mut end, &ids));
+        packets = packets.saturating_add(send_all(alloc, &mut end)?);
+    }
+    put(
+        out,
+        &[
+            Part::Number(sent),
+            Part::Text("bytes sent, packets:"),
+            Part::Number(packets),
+        ],
+    )
+}
+
+// Writes a byte on each stream. Answers how many were taken.
+fn write_each(alloc: Global, end: &mut StreamsEnd, ids: &[StreamId]) -> u64 {
+    let mut taken = 0u64;
+    for id in ids {
+        if let Ok(count) = end.write(alloc, *id, &PIECE[..1]) {
+            taken = taken.saturating_add(count as u64);
+        }
+    }
+    taken
+}
+
+// Sends what waits, acknowledged at once. Answers in how many packets.
+fn send_all(alloc: Global, end: &mut StreamsEnd) -> Result<u64, RowFault> {
+    let mut packets = 0u64;
+    for _ in 0..u32::MAX {
+        let mut packet = Vec::new(alloc);
+        write_acked(alloc, &mut end.streams, ROOM, &mut packet)?;
+        if packet.is_empty() {
+            break;
+        }
+        packets = packets.saturating_add(1);
+    }
+    Ok(packets)
 }

@@ -1,4 +1,4 @@
-use Rattle.std.proofs.Common.{◌≡◌, refl, ◌∙◌, ap, subst, Bool, Ok, ℕ, List, ◌∷◌, [], ◌++◌, append-nil, ◌+◌, arith, rules, inr, Some, true, false}
+use Rattle.std.proofs.Common.{◌≡◌, refl, ◌∙◌, ap, subst, Bool, Ok, ℕ, List, ◌∷◌, [], ◌++◌, append-nil, ◌+◌, arith, inr, Some, true, false}
 use Rattle.std.proofs.lemmas.Result.{err_from_is_err_and}
 use Rattle.qh_conduct.specs.Behaves.{Behaves}
 use Rattle.qh_conduct.specs.Calls.{ToldTheSame}
@@ -14,7 +14,7 @@ use Rattle.qh_exchange.proofs.EndSteps.{end_trans, end_fails, end_kind, end_stil
 use Rattle.qh_exchange.proofs.ends.send_datagrams.Goals as goal
 
 pub loop-datagram-init : goal.loop-datagram-init
-loop-datagram-init g c = record { step = end_refl c.args.now c.args.side _ _ _ (sent_none c.args.side); up = c.requires; told = told_same c.args.end.now.space.streams; moments = refl; faults = search rules; plan = refl }
+loop-datagram-init g c = record { step = end_refl c.args.now c.args.side _ _ _ (sent_none c.args.side); up = c.requires; told = told_same c.args.end.now.space.streams; moments = refl; faults = refl; plan = refl }
 
 pub returns-in_err-found-clause-step : goal.returns-in_err-found-clause-step
 returns-in_err-found-clause-step g c =
@@ -69,7 +69,7 @@ loop-datagram-preserved g c =
       up = next.open;
       told = told_trans c.args.end.now.space.streams c.loop-datagram.end.space.streams c.has_next.new.end.space.streams c.loop-datagram.invariant.told next.told;
       moments = c.in_ok-send.ensures.moments ∙ c.loop-datagram.invariant.moments;
-      faults = (let a = c.loop-datagram.invariant.faults in let b = c.in_ok-send.ensures.cause.stays in omega arith);
+      faults = c.in_ok-send.ensures.cause.still refl ∙ c.loop-datagram.invariant.faults;
       plan = c.in_ok-send.ensures.plan ∙ c.loop-datagram.invariant.plan;
     }
 

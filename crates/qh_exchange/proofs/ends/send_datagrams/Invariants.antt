@@ -1,4 +1,4 @@
-use Rattle.std.proofs.Common.{◌≡◌, ◌≤◌, true}
+use Rattle.std.proofs.Common.{◌≡◌, true}
 use Rattle.qh_conduct.specs.Calls.{ToldTheSame}
 use Rattle.qh_conn.specs.Inner.{is_open}
 use Rattle.qh_exchange.specs.EndCalls.{AreSent}
@@ -11,6 +11,6 @@ invariant-loop-datagram g l = record {
   up : is_open l.end.state ≡ true;
   told : ToldTheSame l.fn.end.space.streams l.end.space.streams;
   moments : g.L.Link.moments l.link ≡ g.L.Link.moments l.fn.link;
-  faults : g.L.Link.faults l.fn.link ≤ g.L.Link.faults l.link;
+  faults : g.L.Link.faults l.link ≡ g.L.Link.faults l.fn.link;
   plan : g.L.Link.plan l.link ≡ g.L.Link.plan l.fn.link;
 }

@@ -1,4 +1,4 @@
-use Rattle.std.proofs.Common.{◌≡◌, refl, ◌∙◌, ap, subst, Option, Ok, ℕ, take, ◌∷◌, [], ◌+◌, arith, rules, true, false}
+use Rattle.std.proofs.Common.{◌≡◌, refl, ◌∙◌, ap, subst, Option, Ok, ℕ, take, ◌∷◌, [], ◌+◌, arith, true, false}
 use Rattle.std.proofs.lemmas.Result.{err_from_is_err_and}
 use Rattle.qh_spec.specs.Link.{told}
 use Rattle.qh_spec.specs.Turns.{IsIntake}
@@ -12,7 +12,7 @@ use Rattle.qh_exchange.proofs.Wire.{silent_fault}
 use Rattle.qh_exchange.proofs.ends.take_datagrams.Goals as goal
 
 pub loop-datagram-init : goal.loop-datagram-init
-loop-datagram-init g c = record { step = end_refl c.args.now c.args.side _ _ _ (given_none c.args.side); moments = refl; faults = search rules; plan = refl }
+loop-datagram-init g c = record { step = end_refl c.args.now c.args.side _ _ _ (given_none c.args.side); moments = refl; faults = refl; plan = refl }
 
 pub returns-in_err-len-clause-step : goal.returns-in_err-len-clause-step
 returns-in_err-len-clause-step g c =
@@ -61,7 +61,7 @@ loop-datagram-preserved g c =
           (end_given c.args.now c.args.side _ _ _ _ (take c.in-Some.len c.take.new.buf) (λ more. more ≡ Given c.args.side (take c.in-Some.len c.take.new.buf) ∷ []) given refl handed.same_end handed.undisturbed handed.behaves handed.sound)
           (λ x y k m. rw m (given_more c.args.side c.loop-datagram._datagram (take c.in-Some.len c.take.new.buf) x k));
       moments = c.in_ok-len.ensures.moments ∙ c.loop-datagram.invariant.moments;
-      faults = (let a = c.loop-datagram.invariant.faults in let b = c.in_ok-len.ensures.cause.stays in omega arith);
+      faults = c.in_ok-len.ensures.cause.still refl ∙ c.loop-datagram.invariant.faults;
       plan = c.in_ok-len.ensures.plan ∙ c.loop-datagram.invariant.plan;
     }
 

@@ -1,4 +1,4 @@
-use Rattle.std.proofs.Common.{◌≡◌, ◌≤◌, true}
+use Rattle.std.proofs.Common.{◌≡◌, true}
 use Rattle.qh_exchange.specs.EndCalls.{AreGiven}
 use Rattle.qh_exchange.proofs.EndSteps.{EndWent}
 use Rattle.qh_exchange.proofs.ends.take_datagrams.Given as goal
@@ -7,6 +7,6 @@ abbrev pub invariant-loop-datagram : goal.invariant-loop-datagram
 invariant-loop-datagram g l = record {
   step : EndWent true l.now l.side l.fn.end l.end (g.L.Link.events l.fn.link) (g.L.Link.events l.link) (AreGiven l.side l._datagram);
   moments : g.L.Link.moments l.link ≡ g.L.Link.moments l.fn.link;
-  faults : g.L.Link.faults l.fn.link ≤ g.L.Link.faults l.link;
+  faults : g.L.Link.faults l.link ≡ g.L.Link.faults l.fn.link;
   plan : g.L.Link.plan l.link ≡ g.L.Link.plan l.fn.link;
 }

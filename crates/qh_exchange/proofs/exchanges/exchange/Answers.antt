@@ -1,4 +1,4 @@
-use Rattle.std.proofs.Common.{refl, subst, sym, List, arith}
+use Rattle.std.proofs.Common.{refl, subst, sym, List}
 use Rattle.std.proofs.lemmas.Result.{err_from_is_err_and}
 use Rattle.qh_spec.specs.Headline.{AnsweredOnce}
 use Rattle.qh_spec.specs.Message.{PlainMessage}
@@ -53,7 +53,7 @@ returns-in_err-pair-clause-empty g c = λ none. absurd (is_something _ c.if-is_e
 pub returns-in_err-pair-clause-cause : goal.returns-in_err-pair-clause-cause
 returns-in_err-pair-clause-cause g c =
     let p = err_from_is_err_and c.from_residual.result c.from_residual.ensures.1 in
-    rw (p.1, p.2) (never_failed _ _ _ (list_no_link _ c.in_err-pair.ensures.errors) (omega arith))
+    rw (p.1, p.2) (never_failed _ _ _ (list_no_link _ c.in_err-pair.ensures.errors) refl)
 
 pub returns-in_err-pair-clause-timed_out : goal.returns-in_err-pair-clause-timed_out
 returns-in_err-pair-clause-timed_out g c =

@@ -1,6 +1,7 @@
 use Rattle.std.proofs.Common.{◌≡◌, ◌∙◌, refl, true, false, arith}
 use Rattle.std.proofs.lemmas.Result.{err_from_is_err_and}
-use Rattle.qh_exchange.proofs.Turns.{counts_after, never_failed, grew_none}
+use Rattle.qh_exchange.proofs.EndCounts.{counts_more as counts_after}
+use Rattle.qh_exchange.proofs.Turns.{never_failed, grew_none}
 use Rattle.qh_exchange.proofs.RoundsFair.{rounds_fair}
 use Rattle.qh_exchange.proofs.Rounds.{grew_within, none_made, one_more, rounds_lost, rounds_done, rounds_out}
 use Rattle.qh_exchange.proofs.exchanges.make_rounds.Goals as goal
@@ -13,7 +14,7 @@ loop-round-preserved g c = record {
   made = one_more _ _ _ _ _ _ _ _ _ _ _ _ _ _ _ _ c.in_ok-turn.field-0 c.loop-round.invariant.made c.turn.ensures.goes_on c.in_ok-turn.ensures.clock c.in_ok-turn.ensures.going c.turn.ensures.requests
       c.turn.ensures.settings.0 c.turn.ensures.settings.2
       (λ e. let t : c.in_ok-turn.field-0 ≡ true = c.in_ok-turn.ensures.done.1 e in let f : c.in_ok-turn.field-0 ≡ false = c.if-branch.false in cc)
-      c.in_ok-turn.ensures.turned c.in_ok-turn.ensures.round c.turn.ensures.cause.stays;
+      c.in_ok-turn.ensures.turned c.in_ok-turn.ensures.round (c.in_ok-turn.ensures.cause.still refl);
   plan = c.turn.ensures.plan ∙ c.loop-round.invariant.plan;
   answered = grew_within g.V.Service.may_answer _ _ _ _ _ _ c.loop-round.invariant.answered c.loop-round.invariant.made.limits c.turn.ensures.answered refl;
 }
@@ -33,7 +34,7 @@ returns-in_err-turn-clause-made g c =
 pub returns-in_err-turn-clause-cause : goal.returns-in_err-turn-clause-cause
 returns-in_err-turn-clause-cause g c =
     let p = err_from_is_err_and c.from_residual.result c.from_residual.ensures.1 in
-    rw (p.1, p.2) (counts_after _ _ _ _ c.loop-round.invariant.made.stays c.in_err-turn.ensures.cause)
+    rw (p.1, p.2) (counts_after _ _ _ _ c.loop-round.invariant.made.still c.in_err-turn.ensures.cause)
 
 pub returns-in_err-turn-clause-answered : goal.returns-in_err-turn-clause-answered
 returns-in_err-turn-clause-answered g c =
@@ -44,7 +45,7 @@ returns-then-branch-clause-made g c =
     rounds_done _ _ _ _ _ _ _ _ _ _ _ _ _ _ _ _ _ c.loop-round.invariant.made c.turn.ensures.goes_on c.turn.ensures.requests (c.in_ok-turn.ensures.done.0 c.if-branch.true)
 
 pub returns-then-branch-clause-cause : goal.returns-then-branch-clause-cause
-returns-then-branch-clause-cause g c = counts_after _ _ _ false c.loop-round.invariant.made.stays c.in_ok-turn.ensures.cause
+returns-then-branch-clause-cause g c = counts_after _ _ _ false c.loop-round.invariant.made.still c.in_ok-turn.ensures.cause
 
 pub returns-then-branch-clause-answered : goal.returns-then-branch-clause-answered
 returns-then-branch-clause-answered g c =
@@ -54,4 +55,4 @@ pub returns-clause-made : goal.returns-clause-made
 returns-clause-made g c = rounds_out _ _ _ _ _ _ _ _ _ _ _ _ (omega arith) c.is_within.ensures c.loop-round.invariant.made
 
 pub returns-clause-cause : goal.returns-clause-cause
-returns-clause-cause g c = never_failed _ _ false refl c.loop-round.invariant.made.stays
+returns-clause-cause g c = never_failed _ _ false refl c.loop-round.invariant.made.still

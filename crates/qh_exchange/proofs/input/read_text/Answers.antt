@@ -12,7 +12,7 @@ returns-then-len-gt-MAX_SCRIPT-clause-text g c =
     c.in-Bytes.is c.in_ok-read_piece.ensures.piece in
     let long = c.if-len-gt-MAX_SCRIPT.true in
     let e = c.len.ensures in
-    read_long _ _ _ _ _ _ (read_more _ _ _ _ _ _ _ _ _ c.loop-piece.invariant piece c.in_ok-read_piece.ensures.stays) (omega (arith, e, long))
+    read_long _ _ _ _ _ _ (read_more _ _ _ _ _ _ _ _ _ c.loop-piece.invariant piece.0 piece.1) (omega (arith, e, long))
 
 pub returns-in_err-read_piece-clause-unread : goal.returns-in_err-read_piece-clause-unread
-returns-in_err-read_piece-clause-unread g c = at_err c.from_residual.result _ (unread_more _ _ _ _ _ _ _ c.loop-piece.invariant c.in_err-read_piece.ensures.unread)
+returns-in_err-read_piece-clause-unread g c = at_err c.from_residual.result _ (unread_more _ _ _ _ _ _ _ _ c.loop-piece.invariant c.in_err-read_piece.ensures.unread)

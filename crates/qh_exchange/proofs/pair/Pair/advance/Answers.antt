@@ -8,7 +8,8 @@ use Rattle.qh_exchange.proofs.ClockSteps.{is_turn_error, link_no_protocol}
 use Rattle.qh_exchange.proofs.Fairness.{fair_last, fair_link, fair_tick, in_order}
 use Rattle.qh_exchange.proofs.FullTurns.{turned_full}
 use Rattle.qh_exchange.proofs.PairSteps.{step_fails, step_kind, step_trans}
-use Rattle.qh_exchange.proofs.Turns.{begun, ended_at, ticks_link, ticks_lost, ticks_last, ok_always, no_protocol, counts_after, never_failed, grew_none, grew_same}
+use Rattle.qh_exchange.proofs.EndCounts.{counts_more as counts_after}
+use Rattle.qh_exchange.proofs.Turns.{begun, ended_at, ticks_link, ticks_lost, ticks_last, ok_always, no_protocol, never_failed, grew_none, grew_same}
 use Rattle.qh_exchange.proofs.pair.Pair.advance.Goals as goal
 
 -- what each step asks
@@ -116,7 +117,7 @@ returns-in_err-receive-clause-clock g c =
 pub returns-in_err-receive-clause-cause : goal.returns-in_err-receive-clause-cause
 returns-in_err-receive-clause-cause g c =
     let p = err_from_is_err_and c.from_residual-in_err-receive.result c.from_residual-in_err-receive.ensures.1 in
-    rw (p.1, p.2) (counts_after _ _ _ _ c.in_ok-now.ensures.cause.stays c.in_err-receive.ensures.cause)
+    rw (p.1, p.2) (counts_after _ _ _ _ (c.in_ok-now.ensures.cause.still refl) c.in_err-receive.ensures.cause)
 
 pub returns-in_err-receive-clause-fair : goal.returns-in_err-receive-clause-fair
 returns-in_err-receive-clause-fair g c =
@@ -171,7 +172,7 @@ returns-in_err-tick-clause-clock g c =
 pub returns-in_err-tick-clause-cause : goal.returns-in_err-tick-clause-cause
 returns-in_err-tick-clause-cause g c =
     let p = err_from_is_err_and c.from_residual-in_err-tick.result c.from_residual-in_err-tick.ensures.1 in
-    rw (p.1, p.2) (counts_after _ _ _ _ c.in_ok-now.ensures.cause.stays (never_failed _ _ _ c.in_err-tick.ensures.cause c.in_ok-receive.ensures.cause.stays))
+    rw (p.1, p.2) (counts_after _ _ _ _ (c.in_ok-now.ensures.cause.still refl) (never_failed _ _ _ c.in_err-tick.ensures.cause (c.in_ok-receive.ensures.cause.still refl)))
 
 pub returns-in_err-tick-clause-lost : goal.returns-in_err-tick-clause-lost
 returns-in_err-tick-clause-lost g c =
@@ -206,7 +207,7 @@ returns-in_err-converse-clause-clock g c =
 pub returns-in_err-converse-clause-cause : goal.returns-in_err-converse-clause-cause
 returns-in_err-converse-clause-cause g c =
     let p = err_from_is_err_and c.from_residual-in_err-converse.result c.from_residual-in_err-converse.ensures.1 in
-    rw (p.1, p.2) (counts_after _ _ _ _ c.in_ok-now.ensures.cause.stays (never_failed _ _ _ refl c.in_ok-receive.ensures.cause.stays))
+    rw (p.1, p.2) (counts_after _ _ _ _ (c.in_ok-now.ensures.cause.still refl) (never_failed _ _ _ refl (c.in_ok-receive.ensures.cause.still refl)))
 
 pub returns-in_err-converse-clause-fair : goal.returns-in_err-converse-clause-fair
 returns-in_err-converse-clause-fair g c =
@@ -262,7 +263,7 @@ pub returns-clause-round : goal.returns-clause-round
 returns-clause-round g c = ok_always c.transmit.result _ (c.in_ok-now.now.0, c.transmit.ensures.moments ∙ c.receive.ensures.moments ∙ c.in_ok-now.ensures.round)
 
 pub returns-clause-cause : goal.returns-clause-cause
-returns-clause-cause g c = counts_after _ _ _ _ c.in_ok-now.ensures.cause.stays (counts_after _ _ _ _ c.in_ok-receive.ensures.cause.stays c.transmit.ensures.cause)
+returns-clause-cause g c = counts_after _ _ _ _ (c.in_ok-now.ensures.cause.still refl) (counts_after _ _ _ _ (c.in_ok-receive.ensures.cause.still refl) c.transmit.ensures.cause)
 
 pub returns-clause-lost : goal.returns-clause-lost
 returns-clause-lost g c = no_protocol c.transmit.result _ c.transmit.ensures.errors
