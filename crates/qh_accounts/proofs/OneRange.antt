@@ -51,3 +51,8 @@ module _ (start end : ℕ) (some : start < end) where
       let from = same_start r rs apart same in
       let to = same_end r rs apart same from in
       ap₂ (λ (x : PlainRange) (xs : List PlainRange). x ∷ xs) (ap₂ range from to) (no_more r rs apart same to)
+
+-- a range that stands apart has its start
+pub no_range : (rs : List PlainRange) → AreApart 0 rs → ((k : ℕ) → has rs k ≡ false) → rs ≡ []
+no_range [] apart none = refl
+no_range (r ∷ rs) apart none = absurd (false≢true (sym (none r.start) ∙ first_has r rs r.start (inside r r.start (omega arith) apart.1)))

@@ -24,9 +24,10 @@ ghost use Rattle.qh_accounts.specs.Accounts.{AreAccounted, is_live_at};
 ghost use Rattle.qh_accounts.specs.Carried.{AreCarried, carried_to};
 
 /// Numbers without a gap are one range: ranges that stand apart and have exactly the numbers from a start on to before an end are that
-/// range alone.
+/// range alone, and no range where they have no number.
 pub fn one_range()
-    ensures { (rs : List PlainRange) (start end : ℕ) → AreApart 0 rs → start < end
+    ensures none { (rs : List PlainRange) → AreApart 0 rs → ((k : ℕ) → has rs k ≡ false) → rs ≡ [] }
+    ensures one { (rs : List PlainRange) (start end : ℕ) → AreApart 0 rs → start < end
         → ((k : ℕ) → has rs k ≡ is_in (record { start = start; end = end }) k) → rs ≡ record { start = start; end = end } ∷ [] }
 {}
 

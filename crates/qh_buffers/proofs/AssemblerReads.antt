@@ -1,9 +1,10 @@
 -- Which bytes a read gives, and what is left.
-use Rattle.std.proofs.Common.{◌≡◌, ◌⊎◌, ℕ, ◌+◌, ◌-◌, ◌<◌, ◌≤◌, ◌^◌, Bool, true, false, ◌&&◌, ◌||◌, List, [], ◌∷◌, length, take, if◌then◌else◌, Option, None, is_some, refl, sym, ap, ◌∙◌, subst, arith, inl, inr, nat_lt, nat_le}
+use Rattle.std.proofs.Common.{◌≡◌, ◌⊎◌, ℕ, ◌+◌, ◌-◌, ◌<◌, ◌≤◌, ◌^◌, Bool, true, false, ◌&&◌, ◌||◌, List, [], ◌∷◌, length, take, if◌then◌else◌, Option, None, is_some, refl, sym, ap, ◌∙◌, subst, arith, inl, inr, nat_lt, nat_le, Result, Ok, Err}
+use Rattle.std.specs.Prelude.{OnErr}
 use Rattle.std.proofs.lemmas.Bool.{cases_lt, cases_Bool, both_ways, false≢true, or_cases}
 use Rattle.qh_buffers.specs.declared.assembler.Chunk.{Chunk}
 use Rattle.qh_buffers.specs.Ranges.{PlainRange, is_in, has, count_of, front_of, AreApart}
-use Rattle.qh_buffers.specs.Assembler.{byte_in, waits_in, chunk_at, all_bytes, run_of, first_of, after_front, is_over, AreInOrder, IsKept, IsGiven, IsFrontPiece}
+use Rattle.qh_buffers.specs.Assembler.{byte_in, waits_in, chunk_at, all_bytes, run_of, first_of, after_front, is_over, AreInOrder, IsKept, IsGiven, IsFrontPiece, HasNothing}
 use Rattle.qh_buffers.proofs.RangeLaws.{inside, before, behind}
 use Rattle.qh_buffers.proofs.RangeCounts.{count_added, front_has, in_start, in_end}
 use Rattle.qh_buffers.proofs.ChunkLaws.{none_below, order_lower, waits_at, inside as byte_inside}
@@ -154,3 +155,11 @@ module _ (given : List PlainRange) (cs : List Chunk) (read max : ℕ) (kept : Is
         offset_is = next.from_front h;
         longest = rw size (next.longest h);
       }
+
+-- a read that gives a byte finds one that waits
+pub waits_some : {given : List PlainRange} {cs : List Chunk} {max at n : ℕ} {ordered : Bool} → IsNext given cs max ordered at n → HasNothing (record { given = given; chunks = cs }) → ⊥
+waits_some {at = at} next none = false≢true (sym (ap is_some (none at)) ∙ next.front.waits at (omega arith) (omega (arith, next.some)))
+
+pub at_err : {T E : Type 0} (r : Result T E) (P : Type 0) → P → OnErr r P
+at_err (Ok x) P p = tt
+at_err (Err e) P p = p

@@ -111,7 +111,7 @@ impl Assembler {
         chunks::insert(self.alloc, &self.given, &mut self.chunks, new)
     }
 
-    /// Gives bytes that wait, at most so many; None where none waits, in an ordered read where the next one doesn't. An
+    /// Gives bytes that wait, at most as many as are asked for; None where none waits, in an ordered read where the next one doesn't. An
     /// ordered read gives all that it may from the first offset on that no read gave, an unordered one a piece. The bytes are a
     /// slice of the first piece if it has them all, and a copy of several pieces if not. Each piece that is taken out costs the
     /// logarithm of how many wait.
@@ -125,6 +125,7 @@ impl Assembler {
         ensures least { IfOk result (λ o. ordered ≡ false → MatchOption o (Unit {0}) (IsLeastPiece self.old)) }
         ensures counted { IfOk result (λ o. MatchOption o (Unit {0}) (λ c. count_of self.new.given ≡ count_of self.old.given + length c.bytes)) }
         ensures err { OnErr result (self.new ≡ self.old) }
+        ensures lacks { OnErr result (HasNothing self.old → ⊥) }
     {
         let length = self.next_length(max_length, ordered);
         if length == 0 {

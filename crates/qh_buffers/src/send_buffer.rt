@@ -149,7 +149,7 @@ impl SendBuffer {
         Ok(())
     }
 
-    /// The offsets of the bytes that are to be sent next, at most so many; None where none waits. They count as sent.
+    /// The offsets of the bytes that are to be sent next, at most as many as are asked for; None where none waits. They count as sent.
     pub fn poll_transmit(&mut self, max_len: usize) -> Result<Option<Range<u64>>, Memory>
         requires { 0 < max_len }
         ensures none { IfOk result (λ o. o ≡ None → (self.new ≡ self.old) × ((k : ℕ) → is_queued self.old k ≡ false)) }

@@ -120,7 +120,7 @@ module _ {S : Type 0} where
 
   pub unwritten_behaves : (id : ℕ) (why : WriteFault) (old new : Inner S) (t : List Act) → IsWriteRefused id why old new → Follows new t → Behaves old t → Behaves new t
   unwritten_behaves id why old new t (closed shut blocked e) follows = same_behaves old new t e
-  unwritten_behaves id why old new t (wanting memory e) follows = same_behaves old new t e
+  unwritten_behaves id why old new t (wanting is may memory e) follows = same_behaves old new t e
   unwritten_behaves id why old new t (refused up is e) follows = unsaid old new t (refused_call id why (ap (λ (c : Inner S). c.space.streams) e)) tt (on_own old new _ e) (λ k. refl) follows
 
   pub finished_behaves : (id : ℕ) (old new : Inner S) (t : List Act) → IsStep Finishes old.space.streams.send new.space.streams.send id 0 → new ≡ with_streams old (record old.space.streams { send = new.space.streams.send })

@@ -319,7 +319,7 @@ module _ {S : Type 0} where
 
   write_is_refused : (old new : Inner S) (id : ℕ) (e : WriteFault) (t : List Act) → IsWriteRefused id e old new → Knows old t → Knows new t
   write_is_refused old new id e t (write_closed opened is same) p = same_knows old new t same p
-  write_is_refused old new id e t (write_wanting is same) p = same_knows old new t same p
+  write_is_refused old new id e t (write_wanting opened may is same) p = same_knows old new t same p
   write_is_refused old new id e t (write_refused opened why is) p =
       moved old new t (ap (λ (c : Inner S). c.side) is) (ap (λ (c : Inner S). c.local_id) is)
       (λ frames q. rw (ap (λ (c : Inner S). c.space.streams) is) (step.untouched old.side old.space.streams _ frames (blocked_untouched old.space.streams id e) q))

@@ -240,7 +240,7 @@ module _ (side : Side) (frames : List StreamFrame) where
   read_same max answer r next (end_given some waits at_end e) = rw e (of_parts r _ refl refl)
   read_same max answer r next (reset_given code some is e) = rw e (of_parts r _ refl refl)
   read_same max answer r next (blocked_read some waits at_end is e) = rw e (of_parts r r refl refl)
-  read_same max answer r next (memory_read e) = rw e (of_parts r r refl refl)
+  read_same max answer r next (memory_read wants e) = rw e (of_parts r r refl refl)
 
   -- a half goes on, and where it is done the stream may be closed
   then_closed : {P : PlainRecv → PlainRecv → Type 0} (old new : PlainStreams) (id : ℕ) → IsRecvStep P old.recv new.recv id 0 → ((r next : PlainRecv) → P r next → IsSameReach r next)

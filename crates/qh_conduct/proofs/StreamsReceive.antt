@@ -158,7 +158,7 @@ answer_limit half next max_length answer (nothing_read none e c empty) = same_li
 answer_limit half next max_length answer (end_read some waits at_end e) = same_limit half next (ap (λ (h : PlainRecv). h.sent_max_stream_data) e)
 answer_limit half next max_length answer (reset_read code some is e) = same_limit half next (ap (λ (h : PlainRecv). h.sent_max_stream_data) e)
 answer_limit half next max_length answer (none_read some waits not_end none e) = same_limit half next (ap (λ (h : PlainRecv). h.sent_max_stream_data) e)
-answer_limit half next max_length answer (memory_read e) = same_limit half next (ap (λ (h : PlainRecv). h.sent_max_stream_data) e)
+answer_limit half next max_length answer (memory_read wants e) = same_limit half next (ap (λ (h : PlainRecv). h.sent_max_stream_data) e)
 
 read_go : (max_length : ℕ) (ordered : Bool) (id : ℕ) (answer : Result (Option Chunk) ReadFault) (old new : PlainStreams) → IsRead max_length ordered id answer old new → GoOn old new
 read_go max_length ordered id answer old new r =

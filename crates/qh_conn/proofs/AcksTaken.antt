@@ -143,7 +143,7 @@ frame_settles now old new f closed still free (passive _ idle e) = elim (acks_or
 ]
 frame_settles now old new f closed still free (of_streams _ c is r e) = elim (acks_or_not f) [
   | inl (a, same) ↦ let none : None ≡ Some c = sym (ap coming_of same) ∙ is in absurd (cc)
-  | inr none ↦ nothing_settled old new (plain_of f) (subst (λ (s : DataSpace). IsFewer old s) (sym e) (same_fewer old (record old { streams = new.streams }) refl refl refl)) none
+  | inr none ↦ nothing_settled old new (plain_of f) (subst (λ (s : DataSpace). IsFewer old s) (sym e) (same_fewer old _ refl refl refl)) none
 ]
 frame_settles now old new f closed still free (of_ack a r) = ack_settles now old new a free r
 frame_settles now old new f closed still free (challenge bytes e) =

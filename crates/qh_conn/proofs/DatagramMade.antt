@@ -146,6 +146,7 @@ module _ {S : Type 0} where
       record {
         frames = put.frames;
         after_is = after_is ∙ ap (λ (l : List ℕ). buffer ++ l) is;
+        short = short;
         number = put.number;
         made = put.made;
         size_is = size_is ∙ ap length is;
@@ -170,6 +171,7 @@ module _ {S : Type 0} where
         bytes = record {
           frames = made.frames;
           after_is = made.after_is;
+          short = made.short;
           number = made.number;
           made = frames_counted now old new _ made.frames u made.made;
           size_is = made.size_is;

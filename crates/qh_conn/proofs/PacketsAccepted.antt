@@ -170,6 +170,7 @@ module _ {S : Type 0} (old new : Inner S) (sent accepted : List NumberedPacket) 
     ];
     owes = owes_now;
     kept = kept_now;
+    apart = t.joined.apart;
   }
 
 module _ {S : Type 0} where

@@ -163,6 +163,7 @@ module _ {S : Type 0} where
       acks_below = λ n h. let below = p.acks_below n h in omega (arith, below, one_more);
       owes = λ q among wants. elim (acknowledged q among wants) [ inl h ↦ inl h | inr scattered ↦ inr (inr scattered) ];
       kept = rw (b.acks) p.kept;
+      apart = rw (b.acks) p.apart;
     }
 
     same_bytes : f.bytes ≡ frames

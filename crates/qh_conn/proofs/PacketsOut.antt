@@ -1,7 +1,7 @@
 -- What the space keeps of the packets that are out, the numbers and what is to be acknowledged, while what is lost goes.
 use Rattle.std.proofs.Common.{◌≡◌, ℕ, [], Some, List, refl, sym, ap, subst, ◌∙◌, inr}
 use Rattle.std.specs.Prelude.{true}
-use Rattle.qh_buffers.specs.Ranges.{PlainRange, has}
+use Rattle.qh_buffers.specs.Ranges.{AreApart, PlainRange, has}
 use Rattle.qh_conn.specs.Progress.{NumberedPacket, Progress}
 use Rattle.qh_conn.specs.Timers.{AreLostByAge, IsProbed, IsTimedOut}
 use Rattle.qh_conn.specs.Timers.AreLostByAge.{due as due_lost, not_yet as none_lost}
@@ -64,6 +64,7 @@ module _ {S : Type 0} where
     acks_below = λ n h. absurd h.among;
     owes = λ p among wants. absurd among;
     kept = inr (λ n. (λ h. let nothing : has [] n ≡ true = subst (λ (rs : List PlainRange). has rs n ≡ true) empty h in absurd (cc), λ a. absurd a.among));
+    apart = subst (λ (rs : List PlainRange). AreApart 0 rs) (sym empty) tt;
   }
 
   -- so a connection goes on to stand to the packets that it sent and accepted
@@ -75,6 +76,7 @@ module _ {S : Type 0} where
     acks_below = p.acks_below;
     owes = λ q among wants. rw (fewer.acks) (p.owes q among wants);
     kept = rw (fewer.acks) p.kept;
+    apart = rw (fewer.acks) p.apart;
   }
 
   pub timed_out : (now : ℕ) (old new : Inner S) (sent accepted : List NumberedPacket) → IsTimedOut now old new → Progress old sent accepted → Progress new sent accepted

@@ -1,5 +1,5 @@
 -- Calls of writers, and a stream that this end opens.
-use Rattle.std.proofs.Common.{◌≡◌, ◌⊎◌, ℕ, ℤ, ◌<◌, ◌≤◌, min, true, false, List, [], ◌∷◌, ◌++◌, length, take, Some, None, Result, Ok, Err, IfOk, IfErr, IfSome, OnOk, OnErr, arith, refl, sym, ap, ◌∙◌, inl, inr}
+use Rattle.std.proofs.Common.{◌≡◌, ℕ, ℤ, ◌<◌, ◌≤◌, min, true, false, List, [], ◌∷◌, ◌++◌, length, take, Some, None, Result, Ok, Err, IfOk, IfErr, IfSome, OnOk, OnErr, arith, refl, sym, ap, ◌∙◌, inl, inr}
 use Rattle.std.proofs.lemmas.Bool.{le-ltb}
 use Rattle.std.proofs.lemmas.List.{length-take-le}
 use Rattle.std.specs.List.{concat}
@@ -12,7 +12,6 @@ use Rattle.qh_half.specs.Send.{PlainSend, credit}
 use Rattle.qh_half.specs.declared.fault.ClosedStream.{ClosedStream}
 use Rattle.qh_half.specs.declared.fault.FinishFault.{FinishFault}
 use Rattle.qh_half.specs.declared.fault.WriteFault.{WriteFault}
-use Rattle.qh_half.specs.declared.fault.WriteFault.TheVariants.{Memory as Wanting}
 use Rattle.qh_half.specs.declared.send.Written.{Written}
 use Rattle.qh_halves.specs.Counts.{is_own, is_bi, index_of}
 use Rattle.qh_halves.specs.SendHalves.{send_at, write_limit, write_fault_at, finish_fault_at, is_reset_refused_at, IsStep, Takes, Finishes, IsResetWith, HasPriority}
@@ -24,7 +23,7 @@ use Rattle.qh_spec.specs.declared.sides.Dir.{Dir}
 use Rattle.qh_streams.proofs.StreamsOpened.{own_id, bi_id, index_id, opened_is}
 use Rattle.qh_streams.proofs.StreamsTracked.{keeps_tracked}
 use Rattle.qh_streams.proofs.StreamsTrackedCalls.{sending_keeps, opened_keeps}
-use Rattle.qh_streams.specs.Streams.{PlainStreams, IsOpened, KeepsOut, counts_of, is_two_way, was_opened, with_blocked, with_opened}
+use Rattle.qh_streams.specs.Streams.{PlainStreams, IsOpened, KeepsOut, counts_of, is_two_way, was_opened, IsWriteRefusal, with_opened}
 use Rattle.qh_streams.specs.Tracked.{IsSendingStep}
 use Rattle.qh_streams.specs.Tracked.IsSendingStep.{takes, finishes, resets, priority as priority_set}
 use Rattle.qh_streams.specs.declared.frames.StreamFrame.{StreamFrame}
@@ -78,14 +77,14 @@ wrote old new id n bytes count step rest can keeps =
       still = no_sender old new id step;
     }
 
-refused : (old new : PlainStreams) (id : ℕ) (e : WriteFault) → ((e ≡ Wanting) × (new ≡ old)) ⊎ ((write_fault_at old.send id ≡ Some e) × (new ≡ with_blocked old id e)) → KeepsOut old new → IsCall old new []
-refused old new id e (inl wanting) keeps = same_call old new wanting.1 keeps
+refused : (old new : PlainStreams) (id : ℕ) (e : WriteFault) → IsWriteRefusal old new id e → KeepsOut old new → IsCall old new []
+refused old new id e (inl wanting) keeps = same_call old new wanting.2 keeps
 refused old new id e (inr fault) keeps = blocked_call old new id e fault.1 keeps
 
 pub write_call : (old new : PlainStreams) (id : ℕ) (bytes : List ℕ) (r : Result ℕ WriteFault)
     → IfOk r (λ n. IfSome (send_at old.send id) (λ h. n ≡ min (length bytes) (credit h (write_limit old.send))))
     → IfOk r (λ n. IsStep (Takes (take n bytes)) old.send new.send id n × IsSendAlone old new) → OnOk r (write_fault_at old.send id ≡ None)
-    → IfErr r (λ e. ((e ≡ Wanting) × (new ≡ old)) ⊎ ((write_fault_at old.send id ≡ Some e) × (new ≡ with_blocked old id e)))
+    → IfErr r (IsWriteRefusal old new id)
     → KeepsOut old new → IsCall old new (write_acts id bytes r)
 write_call old new id bytes (Ok n) count ok can fault keeps = wrote old new id n bytes count ok.0 ok.1 can keeps
 write_call old new id bytes (Err e) count ok can fault keeps = refused old new id e fault keeps
@@ -93,7 +92,7 @@ write_call old new id bytes (Err e) count ok can fault keeps = refused old new i
 pub write_chunks_call : (old new : PlainStreams) (id : ℕ) (chunks : List (List ℕ)) (r : Result Written WriteFault)
     → IfOk r (λ w. IfSome (send_at old.send id) (λ h. w.bytes ≡ min (length (concat chunks)) (credit h (write_limit old.send))))
     → IfOk r (λ w. IsStep (Takes (take w.bytes (concat chunks))) old.send new.send id w.bytes × IsSendAlone old new) → OnOk r (write_fault_at old.send id ≡ None)
-    → IfErr r (λ e. ((e ≡ Wanting) × (new ≡ old)) ⊎ ((write_fault_at old.send id ≡ Some e) × (new ≡ with_blocked old id e)))
+    → IfErr r (IsWriteRefusal old new id)
     → KeepsOut old new → IsCall old new (write_chunks_acts id chunks r)
 write_chunks_call old new id chunks (Ok w) count ok can fault keeps = wrote old new id w.bytes (concat chunks) count ok.0 ok.1 can keeps
 write_chunks_call old new id chunks (Err e) count ok can fault keeps = refused old new id e fault keeps

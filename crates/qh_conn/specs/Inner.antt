@@ -49,6 +49,7 @@ pub record IsNewSpace (config : ConnConfig) (side : Side) (s : DataSpace) : Type
   pub streams_are : s.streams ≡ first_streams side config.limits (peer_of config.limits)
   pub of : AreOf side (peer_of config.limits) s.streams
   pub sent : s.sent ≡ []
+  pub log : s.log ≡ None
   pub counts : (two_way : Bool) → ((counts_of s.streams two_way).opened ≡ 0) × ((counts_of s.streams two_way).accepted ≡ 0)
   pub next : s.next_number ≡ 0
   pub largest : s.largest_acked ≡ None

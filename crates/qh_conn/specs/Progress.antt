@@ -84,6 +84,7 @@ module _ {S : Type 0} where
     pub owes : (p : NumberedPacket) → In p accepted → wants_ack p ≡ true
         → HasAckOf sent p.number ⊎ (((c.space.acks.is_due ≡ true) × (has c.space.acks.ranges p.number ≡ true)) ⊎ IsScattered accepted)
     pub kept : IsScattered accepted ⊎ AreNumbersOf c.space.acks.ranges accepted
+    pub apart : AreApart 0 c.space.acks.ranges
 
   -- nothing waits to be sent, of the streams, their limits and the peer's credit; or it is held, by the window, and then something
   -- ack-eliciting is out

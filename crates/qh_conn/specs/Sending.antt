@@ -80,6 +80,8 @@ module _ {S : Type 0} where
   pub record AreBytesMade (sealed : Side → Space → ℕ → List ℕ) (now : Moment) (old new : Inner S) (before after : List ℕ) (size : ℕ) : Type 0 where
     pub frames : List ℕ
     pub after_is : after ≡ before ++ datagram_of sealed old frames
+    -- the peer's id has at most 20 bytes (RFC 9000, section 17.2), so that frames have 1,143 bytes of room at least
+    pub short : length old.remote_id ≤ 20
     pub number : old.space.next_number < 2 ^ 62
     pub made : AreFramesMade now old new (header_bytes old.remote_id old.space.next_number) frames
     pub size_is : size ≡ length (datagram_of sealed old frames)

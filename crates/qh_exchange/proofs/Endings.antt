@@ -134,8 +134,8 @@ pub record AreAllLookedAt (words : List (List ℕ)) (left_before left_after : Op
 
 all_done : (words : List (List ℕ)) (left_before left_after : Option (List ℕ)) (f g : ℕ) (o l : PlainLink) (served : List PlainEntry) (status : ℕ) (written : List ℕ) → status ≡ 0
     → Ends words left_before left_after f g o l served status written → IsAllDone words left_before left_after l served written ⊎ AreAllLookedAt words left_before left_after written
-all_done words left_before left_after f g o l served status written z (usage u same) = absurd (omega arith)
-all_done words left_before left_after f g o l served status written z (unbuilt_words c is n m same) = absurd (omega arith)
+all_done words left_before left_after f g o l served status written z (usage u left still same) = absurd (omega arith)
+all_done words left_before left_after f g o l served status written z (unbuilt_words c is n m left still same) = absurd (omega arith)
 all_done words left_before left_after f g o l served status written z (read_fault w r same) = absurd (omega arith)
 all_done words left_before left_after f g o l served status written z (unread bytes w some r still same) = absurd (omega arith)
 all_done words left_before left_after f g o l served status written z (read text st w is input still ends) =

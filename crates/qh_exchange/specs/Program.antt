@@ -99,8 +99,8 @@ IsReading words = IsCommand words Exchange ⊎ IsCommand words Tokens
 -- How a run ends: its status and what it has to write, by its words, by what it reads, and by what it leaves on the bench.
 pub data Ends (words : List (List ℕ)) (left_before left_after : Option (List ℕ)) (faults_before faults_after : ℕ) (link_before link : PlainLink) (served : List PlainEntry)
     : (status : ℕ) → (written : List ℕ) → Type 0 where
-  usage : AreUnknown words → IsAsAtEntry link_before link served → Ends words left_before left_after faults_before faults_after link_before link served 2 usage_line
-  unbuilt_words : (c : Command) → IsCommand words c → c ≢ Exchange → c ≢ Tokens → IsAsAtEntry link_before link served
+  usage : AreUnknown words → left_after ≡ left_before → faults_after ≡ faults_before → IsAsAtEntry link_before link served → Ends words left_before left_after faults_before faults_after link_before link served 2 usage_line
+  unbuilt_words : (c : Command) → IsCommand words c → c ≢ Exchange → c ≢ Tokens → left_after ≡ left_before → faults_after ≡ faults_before → IsAsAtEntry link_before link served
       → Ends words left_before left_after faults_before faults_after link_before link served 12 unbuilt_line
   read_fault : IsReading words → Rose faults_before faults_after → IsAsAtEntry link_before link served
       → Ends words left_before left_after faults_before faults_after link_before link served 10 read_fault_line

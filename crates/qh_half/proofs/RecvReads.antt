@@ -7,7 +7,7 @@ use Rattle.qh_buffers.specs.Assembler.{PlainAssembler, byte_of, end_of, is_over,
 use Rattle.qh_buffers.proofs.RangeCounts.{in_start, in_end}
 use Rattle.qh_buffers.proofs.ChunkLaws.{inside}
 use Rattle.qh_half.specs.declared.fault.ReadFault.TheVariants.{Memory}
-use Rattle.qh_half.specs.Recv.{PlainRecv, IsRecv, IsReadAnswer}
+use Rattle.qh_half.specs.Recv.{PlainRecv, IsRecv, IsReadAnswer, WantsMemory}
 use Rattle.qh_half.specs.Recv.IsReadAnswer.{memory}
 
 -- a piece has a byte at each of its offsets
@@ -51,6 +51,10 @@ module _ (r : PlainRecv) (ok : IsRecv r) (new : PlainAssembler) (max : ℕ) wher
     size = ok.size;
   }
 
--- a read that memory lacks for leaves all as it was
-pub nothing_read : (old new : PlainRecv) (max_length : ℕ) → IsReadAnswer old new max_length (Err Memory) → new ≡ old
-nothing_read old new max_length (memory same) = same
+-- a read that memory lacks for leaves all as it was, and no reset came
+pub nothing_read : (old new : PlainRecv) (max_length : ℕ) → IsReadAnswer old new max_length (Err Memory) → (new ≡ old) × WantsMemory old max_length
+nothing_read old new max_length (memory wants same) = (same, wants)
+
+-- whatever the order that was marked
+pub wants_unmarked : (old new : PlainRecv) (is_unordered : Bool) (max_length : ℕ) → new ≡ record old { is_unordered = is_unordered } → WantsMemory new max_length → WantsMemory old max_length
+wants_unmarked old new is_unordered max_length e w = record { asked = w.asked; not_reset = rw e at w.not_reset; waits = rw e at w.waits }

@@ -216,6 +216,12 @@ pub record IsRead (old new : PlainRecv) (max_length : ℕ) (c : Chunk) : Type 0 
 abbrev pub WaitsForMore : PlainRecv → Type 0
 WaitsForMore r = MatchBool r.is_unordered (HasNothing r.assembler) ((to_give r.assembler (read_to r.assembler) ≡ None) × (was_given r.assembler (read_to r.assembler) ≡ false))
 
+-- Memory is wanted for bytes alone: some wait, some are asked for, and no reset came.
+pub record WantsMemory (r : PlainRecv) (max_length : ℕ) : Type 0 where
+  pub asked : 0 < max_length
+  pub not_reset : reset_code r.state ≡ None
+  pub waits : HasNothing r.assembler → ⊥
+
 -- The answer of a read: bytes, the end or the reset, each only where it is its turn.
 pub data IsReadAnswer (old new : PlainRecv) (max_length : ℕ) : Result (Option Chunk) ReadFault → Type 0 where
   bytes : (c : Chunk) → 0 < max_length → IsRead old new max_length c → IsReadAnswer old new max_length (Ok (Some c))
@@ -224,7 +230,7 @@ pub data IsReadAnswer (old new : PlainRecv) (max_length : ℕ) : Result (Option 
   reset : (code : ℕ) → 0 < max_length → reset_code old.state ≡ Some code → new ≡ record old { is_given = true }
       → IsReadAnswer old new max_length (Err (Reset code))
   blocked : 0 < max_length → WaitsForMore old → is_at_end old ≡ false → reset_code old.state ≡ None → new ≡ old → IsReadAnswer old new max_length (Err Blocked)
-  memory : new ≡ old → IsReadAnswer old new max_length (Err Memory)
+  memory : WantsMemory old max_length → new ≡ old → IsReadAnswer old new max_length (Err Memory)
 
 -- The stream is stopped: what waited is dropped, and the peer is told where the final size isn't known.
 pub record IsStopped (old new : PlainRecv) (code : ℕ) : Type 0 where

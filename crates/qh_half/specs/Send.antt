@@ -6,7 +6,7 @@ use Rattle.qh_buffers.specs.SendBuffer.{PlainSendBuffer, empty_buffer, taken_to,
 use Rattle.qh_half.specs.declared.send.SendState.{SendState}
 use Rattle.qh_half.specs.declared.send.SendState.TheVariants.{Ready, DataSent, ResetSent}
 use Rattle.qh_half.specs.declared.fault.WriteFault.{WriteFault}
-use Rattle.qh_half.specs.declared.fault.WriteFault.TheVariants.{Blocked, Stopped, ClosedStream}
+use Rattle.qh_half.specs.declared.fault.WriteFault.TheVariants.{Blocked, Stopped, ClosedStream, Memory}
 use Rattle.qh_half.specs.declared.fault.FinishFault.{FinishFault}
 use Rattle.qh_half.specs.declared.fault.FinishFault.TheVariants.{Stopped as FinishStopped, ClosedStream as FinishClosed}
 
@@ -52,6 +52,10 @@ stopped_or_blocked None credit = if credit == 0 then Some Blocked else None
 -- why a write takes nothing, by the first that fits
 abbrev pub write_fault : PlainSend → (limit : ℕ) → Option WriteFault
 write_fault s limit = if is_ready s.state then stopped_or_blocked s.stop_reason (credit s limit) else Some ClosedStream
+
+-- Why a write took nothing: what refuses it, or memory lacks for the bytes if nothing does.
+abbrev pub IsWriteFault : WriteFault → Option WriteFault → Type 0
+IsWriteFault e refusal = ((e ≡ Memory) × (refusal ≡ None)) ⊎ (refusal ≡ Some e)
 
 -- the half with more bytes taken
 abbrev pub with_bytes : PlainSend → List ℕ → PlainSend

@@ -1,10 +1,11 @@
-ghost use Rattle.std.specs.Prelude.{◌≡◌, ◌⊎◌, ℕ, Bool, ◌+◌, ◌-◌, ◌<◌, ◌≤◌, ◌^◌, ◌==◌, min, length, Option, Some, None, true, false, Err, OnOk, OnErr, IfOk, IfErr, IfSome, MatchOption, if◌then◌else◌};
-ghost use Rattle.qh_buffers.specs.Assembler.{end_of, IsInserted};
-ghost use Rattle.qh_half.specs.Recv.{new_recv, ingest_fault, contradicts, readable_fault, with_order, with_size, keeps_bytes, IsFaultOf, IsRead, IsReadAnswer, WaitsForMore, IsStopped, with_reset_given, limit_of, final_size, reset_code, bytes_read, IsIngested, IsResetBy, is_closed, is_at_end, is_done, is_limit_due, counted, owes_limit, owes_stop, is_stop_due, is_frame_due, wants_more, acked_stop, lost_stop, new_stop};
+ghost use Rattle.std.specs.Prelude.{◌≡◌, ◌⊎◌, ℕ, Bool, ◌+◌, ◌-◌, ◌<◌, ◌≤◌, ◌^◌, ◌==◌, min, length, Option, Some, None, true, false, Err, OnOk, OnErr, IfOk, IfErr, IsOk, IfSome, MatchOption, if◌then◌else◌};
+ghost use Rattle.qh_buffers.specs.Assembler.{end_of, HasNothing, IsInserted};
+ghost use Rattle.qh_half.specs.Recv.{new_recv, ingest_fault, contradicts, readable_fault, with_order, with_size, keeps_bytes, IsFaultOf, IsRead, IsReadAnswer, WantsMemory, WaitsForMore, IsStopped, with_reset_given, limit_of, final_size, reset_code, bytes_read, IsIngested, IsResetBy, is_closed, is_at_end, is_done, is_limit_due, counted, owes_limit, owes_stop, is_stop_due, is_frame_due, wants_more, acked_stop, lost_stop, new_stop};
 ghost use Rattle.std.specs.Option.{option_map};
 ghost use Rattle.qh_buffers.specs.SendBuffer.{lost_mark};
 ghost use Rattle.qh_buffers.specs.declared.send_buffer.Mark.TheVariants.{Sent, Queued, Acked};
 ghost use Rattle.qh_half.specs.declared.fault.ReadFault.TheVariants.{Memory as Lacking};
+ghost use Rattle.qh_half.specs.declared.recv.IngestFault.TheVariants.{Memory as Wanting};
 ghost use Rattle.qh_half.specs.declared.recv.RecvState.TheVariants.{ResetRecvd};
 
 use crate::{ClosedStream, ReadFault, ReadableFault};
@@ -168,6 +169,7 @@ impl Recv {
         ensures ok { IfOk result (IsIngested self.old self.new piece fin) }
         ensures taken { OnOk result (ingest_fault self.old (piece.offset + length piece.bytes) fin received max_data ≡ None) }
         ensures fault { IfErr result (λ e. IsFaultOf e (ingest_fault self.old (piece.offset + length piece.bytes) fin received max_data)) }
+        ensures kept { IfErr result (λ e. e ≡ Wanting → keeps_bytes self.old ≡ true) }
         ensures err { OnErr result (self.new ≡ self.old) }
     {
         let to = end_of(&piece);
@@ -218,7 +220,7 @@ impl Recv {
         Ok(())
     }
 
-    /// Gives bytes that wait, at most so many, or the end, None, or the reset. With a length of 0 it gives no bytes, and
+    /// Gives bytes that wait, at most as many as are asked for, or the end, None, or the reset. With a length of 0 it gives no bytes, and
     /// neither the end nor the reset.
     pub fn next(&mut self, max_length: usize) -> Result<Option<Chunk>, ReadFault>
         requires { is_closed self.old ≡ false }
@@ -246,7 +248,7 @@ impl Recv {
     pub fn read(&mut self, max_length: usize, ordered: bool) -> Result<Option<Chunk>, ReadFault>
         requires { readable_fault self.old ordered ≡ None }
         ensures answer { (result ≡ Err Lacking → ⊥) → IsReadAnswer (with_order self.old ordered) self.new max_length result }
-        ensures memory { result ≡ Err Lacking → self.new ≡ self.old }
+        ensures memory { result ≡ Err Lacking → (self.new ≡ self.old) × WantsMemory self.old max_length }
     {
         let was_unordered = self.is_unordered;
         self.set_unordered(was_unordered || !ordered);
@@ -520,11 +522,12 @@ impl Recv {
         self.is_given = true;
     }
 
-    /// Gives bytes that wait, at most so many.
+    /// Gives bytes that wait, at most as many as are asked for.
     fn give_bytes(&mut self, max_length: usize) -> Result<Option<Chunk>, Memory>
         requires { 0 < max_length }
         ensures ok { IfOk result (λ o. MatchOption o ((self.new ≡ self.old) × WaitsForMore self.old) (IsRead self.old self.new max_length)) }
         ensures err { OnErr result (self.new ≡ self.old) }
+        ensures lacks { OnErr result (HasNothing self.old.assembler → ⊥) }
     {
         let piece = self.assembler.read(max_length, !self.is_unordered)?;
         self.assembler.counts_below(self.end);
@@ -597,6 +600,7 @@ fn keep(assembler: &mut Assembler, is_wanted: bool, piece: Chunk) -> Result<(), 
     requires { end_of piece < 2 ^ 62 }
     ensures wanted { OnOk result (is_wanted ≡ true → IsInserted assembler.old assembler.new piece) }
     ensures dropped { OnOk result (is_wanted ≡ false → assembler.new ≡ assembler.old) }
+    ensures free { is_wanted ≡ false → IsOk result }
     ensures err { OnErr result (assembler.new ≡ assembler.old) }
 {
     if !is_wanted {

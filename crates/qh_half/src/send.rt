@@ -1,10 +1,9 @@
 ghost use Rattle.std.specs.Prelude.{◌≡◌, ◌⊎◌, ℕ, ◌+◌, ◌<◌, ◌≤◌, ◌^◌, ◌++◌, ◌==◌, ◌↔◌, min, max as max_of, List, length, take, Option, Some, None, true, false, OnOk, OnErr, IfOk, IfErr, MatchOption, MatchResult, drop, IfSome, IsTrue, if◌then◌else◌};
 ghost use Rattle.std.specs.List.{concat};
 ghost use Rattle.qh_buffers.specs.SendBuffer.{taken_to, is_queued, bytes_between, IsSpan};
-ghost use Rattle.qh_half.specs.declared.fault.WriteFault.TheVariants.{Memory as Wanting};
 ghost use Rattle.qh_half.specs.declared.send.SendState.TheVariants.{Ready, DataSent, ResetSent};
 ghost use Rattle.qh_buffers.specs.declared.send_buffer.Mark.TheVariants.{Sent, Queued, Acked};
-ghost use Rattle.qh_half.specs.Send.{PlainSend, is_done, is_ready, is_finished, is_end_queued, is_end_acked, is_reset_refused, credit, write_fault, with_bytes, finish_fault, is_reset, is_reset_queued, IsPending, IsPieceOut, IsEndOut, IsPieceAcked, IsPieceQueued, IsSettled, with_end_sent, with_end_acked, with_end_lost, with_reset_mark, with_reset_lost, chunks_after, whole_chunks, new_send, owes_reset, held, Waits, is_writable, IsHeld};
+ghost use Rattle.qh_half.specs.Send.{PlainSend, is_done, is_ready, is_finished, is_end_queued, is_end_acked, is_reset_refused, credit, write_fault, IsWriteFault, with_bytes, finish_fault, is_reset, is_reset_queued, IsPending, IsPieceOut, IsEndOut, IsPieceAcked, IsPieceQueued, IsSettled, with_end_sent, with_end_acked, with_end_lost, with_reset_mark, with_reset_lost, chunks_after, whole_chunks, new_send, owes_reset, held, Waits, is_writable, IsHeld};
 
 mod chunks;
 
@@ -278,7 +277,7 @@ impl Send {
     pub fn write(&mut self, alloc: Global, payload: &[u8], limit: u64) -> Result<usize, WriteFault>
         ensures ok { IfOk result (λ n. (n ≡ min (length payload.now) (credit self.old limit)) × (self.new ≡ with_bytes self.old (take n payload.now))) }
         ensures open { IfOk result (λ n. write_fault self.old limit ≡ None) }
-        ensures fault { IfErr result (λ e. (e ≡ Wanting) ⊎ (write_fault self.old limit ≡ Some e)) }
+        ensures fault { IfErr result (λ e. IsWriteFault e (write_fault self.old limit)) }
         ensures err { OnErr result (self.new ≡ self.old) }
     {
         let budget = self.budget(limit)?;
@@ -313,7 +312,7 @@ impl Send {
         ensures left { IfOk result (λ w. concat chunks.new ≡ drop w.bytes (concat chunks.old)) }
         ensures chunks { IfOk result (λ w. (chunks.new ≡ chunks_after w.bytes chunks.old) × (w.chunks ≡ whole_chunks w.bytes chunks.old)) }
         ensures open { IfOk result (λ w. write_fault self.old limit ≡ None) }
-        ensures fault { IfErr result (λ e. (e ≡ Wanting) ⊎ (write_fault self.old limit ≡ Some e)) }
+        ensures fault { IfErr result (λ e. IsWriteFault e (write_fault self.old limit)) }
         ensures err { OnErr result ((self.new ≡ self.old) × (chunks.new ≡ chunks.old)) }
     {
         let budget = self.budget(limit)?;
@@ -340,7 +339,7 @@ impl Send {
         Ok(())
     }
 
-    /// Gives the stream up, with this code: what waits isn't sent.
+    /// Resets the stream with this code: what waits isn't sent.
     pub fn reset(&mut self, code: VarInt) -> Result<(), ClosedStream>
         ensures ok { OnOk result ((is_reset_refused self.old ≡ false) × (self.new ≡ record self.old { state = ResetSent code Queued })) }
         ensures fault { OnErr result ((is_reset_refused self.old ≡ true) × (self.new ≡ self.old)) }

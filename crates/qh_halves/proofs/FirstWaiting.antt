@@ -4,7 +4,7 @@ use Rattle.std.proofs.lemmas.Bool.Decides.{eqb_tells}
 use Rattle.qh_halves.specs.declared.pending.PendingStream.{PendingStream}
 use Rattle.qh_halves.specs.Pending.{PlainPending, has_room, waits, goes_before, IsFirst}
 use Rattle.qh_half.specs.Send.{PlainSend, Waits}
-use Rattle.qh_halves.specs.SendHalves.{PlainSendHalves, half_in, half_priority, entry_of, AreSendHalves, NoneWaits, IsFirstToSend, IsNextToSend, IsSentNext, IsStep, Gives}
+use Rattle.qh_halves.specs.SendHalves.{PlainSendHalves, send_at, half_in, half_priority, entry_of, AreSendHalves, NoneWaits, IsFirstToSend, IsNextToSend, IsSentNext, IsStep, Gives}
 use Rattle.qh_halves.specs.declared.send_halves.Transmission.{Transmission}
 use Rattle.qh_halves.proofs.PendingOrder.{same_parts}
 
@@ -51,3 +51,11 @@ pub sent_next : (old new : PlainSendHalves) (room id : ℕ) (t : Transmission) �
 sent_next old new room id t next step =
     let found = rw step.was at next in
     record { step = step; is_first = found.1 }
+
+-- something waits where one is the next to be sent
+pub one_waits : (s : PlainSendHalves) (id : ℕ) → IsNextToSend s id → NoneWaits s → ⊥
+one_waits s id next none = waits_in (send_at s id) refl next
+  where
+    waits_in : (o : Option PlainSend) → send_at s id ≡ o → IsSomeAnd o (λ h. Waits h × IsFirstToSend s id h) → ⊥
+    waits_in None is next = next
+    waits_in (Some h) is next = none id h is next.0

@@ -12,7 +12,7 @@ use Rattle.qh_buffers.specs.declared.assembler.Chunk.{Chunk}
 use Rattle.qh_half.specs.declared.fault.ReadFault.{ReadFault}
 use Rattle.qh_half.specs.declared.fault.ReadFault.TheVariants.{Memory}
 use Rattle.qh_half.specs.Recv.IsReadAnswer.{memory as no_memory}
-use Rattle.qh_half.specs.Recv.{PlainRecv, IsReadAnswer, with_order, is_done, is_frame_due, counted}
+use Rattle.qh_half.specs.Recv.{PlainRecv, IsReadAnswer, WantsMemory, with_order, is_done, is_frame_due, counted}
 use Rattle.qh_halves.specs.RecvHalves.{PlainRecvHalves, recv_half_in, recv_at, unless_done, credited_after, AreRecvHalves, Begins, Reads, IsBegunRead, is_wanting, IsRecvStep, IsSettled, IsHalfWritten}
 use Rattle.qh_halves.proofs.MapWritten.{value_written}
 
@@ -177,13 +177,13 @@ still P old id h within undone was step =
 
 -- a read that memory lacks for
 pub unbegun_read : (old new : PlainRecvHalves) (id max : ℕ) (ordered : Bool) (answer : Result (Option Chunk) ReadFault) (h : PlainRecv) → old.credited < 2 ^ 64 → is_done h ≡ false → recv_at old id ≡ Some h
-    → new ≡ old → answer ≡ Err Memory → IsBegunRead max (ordered || is_wanting answer) answer old new id
-unbegun_read old new id max ordered answer h within undone was same wanting =
+    → WantsMemory h max → new ≡ old → answer ≡ Err Memory → IsBegunRead max (ordered || is_wanting answer) answer old new id
+unbegun_read old new id max ordered answer h within undone was wants same wanting =
     let unmarked : h ≡ with_order h true = ap (λ (b : Bool). record h { is_unordered = b }) (sym (or-false h.is_unordered)) in
     let read : IsBegunRead max true (Err Memory) old old id = record {
       mid = old;
       begun = still (Begins true) old id h within undone was unmarked;
-      reads = still (Reads max (Err Memory)) old id h within undone was (no_memory refl);
+      reads = still (Reads max (Err Memory)) old id h within undone was (no_memory wants refl);
     } in
     rw (wanting, same, or-true ordered) read
 

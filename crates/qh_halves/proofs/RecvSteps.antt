@@ -50,7 +50,7 @@ counted_at_read old new max_length _ (nothing none same c empty) = rw same (omeg
 counted_at_read old new max_length _ (end some waits at_end same) = rw same (omega arith)
 counted_at_read old new max_length _ (reset code some came same) = rw same (omega arith)
 counted_at_read old new max_length _ (blocked some waits not_end none same) = rw same (omega arith)
-counted_at_read old new max_length _ (memory same) = rw same (omega arith)
+counted_at_read old new max_length _ (memory wants same) = rw same (omega arith)
 
 -- ---- frames that are due
 

@@ -55,7 +55,7 @@ unless_done r = if is_done r then None else Some r
 abbrev pub credited_after : (before : ℕ) → (old new : PlainRecv) → ℕ
 credited_after before old new = min (2 ^ 64 - 1) (before + (counted new - counted old))
 
--- The half of a stream goes on to another so, and where it is done it goes; all others are as they were. So many bytes more
+-- The half of a stream becomes another one, and goes where that one is done; all others are as they were. So many bytes more
 -- came, what the half newly counts as read is credited, and nothing else that the halves share changed.
 pub record IsRecvStep (P : PlainRecv → PlainRecv → Type 0) (old new : PlainRecvHalves) (id fresh : ℕ) : Type 0 where
   pub half : PlainRecv

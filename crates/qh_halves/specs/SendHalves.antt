@@ -60,7 +60,7 @@ pub record IsHalf (old new : PlainSendHalves) (id : ℕ) (half : Option PlainSen
   -- all halves together hold as many bytes more, or fewer, as this one does
   pub held_is : unacked new.halves + held_of (send_at old id) ≡ unacked old.halves + held_of half
 
--- the half of a stream goes on to another so, and isn't done
+-- the half of a stream becomes another one, which isn't done
 pub record IsStep (P : PlainSend → PlainSend → Type 0) (old new : PlainSendHalves) (id taken : ℕ) : Type 0 where
   pub half : PlainSend
   pub next : PlainSend

@@ -88,7 +88,7 @@ impl PendingStreamsQueue {
         }
     }
 
-    /// Gives up the room of a stream, which waits no more.
+    /// Frees the room of a stream, which then waits no more.
     pub fn leave(&mut self, id: u64)
         ensures room { (k : ℕ) → has_room self.new k ≡ (not (k == id) && has_room self.old k) }
         ensures waits { (k : ℕ) → waits self.new k ≡ (if k == id then None else waits self.old k) }

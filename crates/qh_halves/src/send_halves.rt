@@ -1,13 +1,13 @@
 ghost use Rattle.std.specs.Prelude.{◌≡◌, ◌⊎◌, ℕ, ◌+◌, ◌*◌, ◌++◌, ◌<◌, ◌≤◌, ◌^◌, ◌==◌, ◌↔◌, min, max as max_of, List, [], length, take, Option, Some, None, true, false, IsTrue, OnOk, OnErr, IfOk, IfErr, IfSome, MatchOption, MatchResult, IsSome, is_some, IsSomeAnd, if◌then◌else◌};
 ghost use Rattle.std.specs.List.{concat};
+ghost use Rattle.std.specs.Option.{option_map};
 ghost use Rattle.std.specs.Ordering.{nat_cmp};
 ghost use Rattle.std.specs.BTreeMap.{insert_entry};
 ghost use Rattle.std.specs.Map.{keys_of};
 ghost use Rattle.std.specs.List.Sorted.{IsStrictlySortedBy};
 ghost use Rattle.qh_buffers.specs.SendBuffer.{empty_buffer, bytes_between, taken_to};
-ghost use Rattle.qh_half.specs.declared.fault.WriteFault.TheVariants.{Memory as Wanting};
 ghost use Rattle.qh_half.specs.declared.send.SendState.TheVariants.{Ready};
-ghost use Rattle.qh_half.specs.Send.{PlainSend, credit, chunks_after, whole_chunks, Waits, new_send};
+ghost use Rattle.qh_half.specs.Send.{PlainSend, IsWriteFault, credit, chunks_after, whole_chunks, Waits, new_send};
 ghost use Rattle.qh_halves.specs.SendHalves.{send_at, write_limit, write_fault_at, finish_fault_at, is_reset_refused_at, IsHalf, IsStep, IsAbsent, IsSettledBy, Takes, Finishes, IsResetWith, HasPriority, IsStoppedWith, HasLimit, IsUnblocked, IsAcked, IsLost, IsResetAcked, IsResetLost, IsSentNext, NoneWaits, IsSpanAt, IsOutNow, half_holds, half_in, KeepsSpans, IsSettledAt, half_owes_reset, half_priority, half_is_writable, Gives, AreAdded, HasForm, PlainSendHalves, half_is_out, IsNextToSend};
 ghost use Rattle.qh_halves.specs.Counts.{is_in_range};
 
@@ -110,7 +110,23 @@ impl SendHalves {
         self.halves.len()
     }
 
-    /// So many bytes may be taken now by the limits that the streams share.
+    /// All bytes of a stream before this offset are acknowledged. None if its half is done, or was never there.
+    pub fn confirmed_to(&self, id: u64) -> Option<u64>
+        ensures { result ≡ option_map (λ h. h.buffer.start) (send_at self.now id) }
+    {
+        let half = self.halves.get(&id)?;
+        Some(half.offset() - half.unacked())
+    }
+
+    /// How many bytes of a stream were taken. None if its half is done, or was never there.
+    pub fn taken_to(&self, id: u64) -> Option<u64>
+        ensures { result ≡ option_map (λ h. taken_to h.buffer) (send_at self.now id) }
+    {
+        let half = self.halves.get(&id)?;
+        Some(half.offset())
+    }
+
+    /// How many bytes may be taken now by the limits that the streams share.
     pub fn write_limit(&self) -> u64
         ensures { result ≡ write_limit self.now }
     {
@@ -161,7 +177,7 @@ impl SendHalves {
         self.pending.leave(id);
     }
 
-    /// Streams get their halves, so many, each fourth id from the first on, with the peer's limit on each.
+    /// `count` streams get their halves, each fourth id from the first on, with the peer's limit on each.
     pub fn insert_range(
         &mut self,
         alloc: Global,
@@ -229,7 +245,7 @@ impl SendHalves {
         ensures count { IfOk result (λ n. IfSome (send_at self.old id) (λ h. n ≡ min (length payload.now) (credit h (write_limit self.old)))) }
         ensures ok { IfOk result (λ n. IsStep (Takes (take n payload.now)) self.old self.new id n) }
         ensures taken { OnOk result (write_fault_at self.old id ≡ None) }
-        ensures fault { IfErr result (λ e. (e ≡ Wanting) ⊎ (write_fault_at self.old id ≡ Some e)) }
+        ensures fault { IfErr result (λ e. IsWriteFault e (write_fault_at self.old id)) }
         ensures err { OnErr result (self.new ≡ self.old) }
         ensures spans { KeepsSpans self.old self.new }
     {
@@ -256,7 +272,7 @@ impl SendHalves {
         ensures ok { IfOk result (λ w. IsStep (Takes (take w.bytes (concat chunks.old))) self.old self.new id w.bytes) }
         ensures chunks { IfOk result (λ w. (chunks.new ≡ chunks_after w.bytes chunks.old) × (w.chunks ≡ whole_chunks w.bytes chunks.old)) }
         ensures taken { OnOk result (write_fault_at self.old id ≡ None) }
-        ensures fault { IfErr result (λ e. (e ≡ Wanting) ⊎ (write_fault_at self.old id ≡ Some e)) }
+        ensures fault { IfErr result (λ e. IsWriteFault e (write_fault_at self.old id)) }
         ensures err { OnErr result ((self.new ≡ self.old) × (chunks.new ≡ chunks.old)) }
         ensures spans { KeepsSpans self.old self.new }
     {
@@ -287,7 +303,7 @@ impl SendHalves {
         Ok(())
     }
 
-    /// Gives the stream up, with this code: what waits isn't sent, and the send window has room for as many bytes again.
+    /// Resets the stream, with this code: what waits isn't sent, and the send window has room for as many bytes again.
     pub fn reset(&mut self, id: u64, code: VarInt) -> Result<(), ClosedStream>
         ensures ok { OnOk result (IsStep (IsResetWith code) self.old self.new id 0) }
         ensures fault { OnErr result ((is_reset_refused_at self.old id ≡ true) × (self.new ≡ self.old)) }
@@ -367,13 +383,14 @@ impl SendHalves {
     }
 
     /// What is to be sent next, of the first stream in which something waits: the greater priority goes first, then the lesser
-    /// id. In a STREAM frame at most so many bytes. It counts as sent. None where nothing waits in any stream.
+    /// id. A STREAM frame has at most `max_len` bytes. It counts as sent. None where nothing waits in any stream.
     pub fn poll_transmit(&mut self, max_len: usize) -> Result<Option<(u64, Transmission)>, Memory>
         requires { 0 < max_len }
         ensures none { IfOk result (λ o. o ≡ None → (self.new ≡ self.old) × NoneWaits self.old) }
         ensures some { IfOk result (λ o. IfSome o (λ t. IsSentNext self.old self.new max_len t.0 t.1)) }
         ensures is_out { IfOk result (λ o. IfSome o (λ t. IsOutNow self.new t.0 t.1)) }
         ensures bound { IfOk result (λ o. IfSome o (λ t. HasForm t.1)) }
+        ensures waits { OnErr result (NoneWaits self.old → ⊥) }
         ensures err { OnErr result (self.new ≡ self.old) }
         ensures spans { KeepsSpans self.old self.new }
     {

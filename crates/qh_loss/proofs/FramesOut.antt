@@ -6,11 +6,14 @@ use Rattle.qh_spec.proofs.Members.{in_left, in_right, in_split}
 use Rattle.qh_recovery.specs.SentPackets.{packet_at, without}
 use Rattle.qh_recovery.specs.declared.sent_packets.SentPacket.{SentPacket}
 use Rattle.qh_recovery.proofs.SentFrames.{parted}
+use Rattle.qh_streams.specs.Items.{confirmed_items, AreConfirmed}
+use Rattle.qh_streams.specs.Items.AreConfirmed.{none as none_confirmed, more as more_confirmed}
 use Rattle.qh_streams.specs.Streams.{PlainStreams, KeepsOut, AreAllOut, AreAcked, AreLost, IsWrittenBy}
 use Rattle.qh_streams.specs.Streams.AreAcked.{none as none_acked, more as more_acked}
 use Rattle.qh_streams.specs.Streams.AreLost.{none as none_lost, more as more_lost}
 use Rattle.qh_streams.specs.Tracked.{AreTracked, IsFresh}
 use Rattle.qh_streams.specs.declared.frames.SentFrame.{SentFrame}
+use Rattle.qh_streams.specs.declared.items.Item.{Item}
 use Rattle.qh_streams.proofs.StreamsTracked.{any_order}
 use Rattle.qh_streams.proofs.StreamsTrackedCalls.{fresh_tracked}
 use Rattle.qh_streams.proofs.StreamsTrackedLists.{acked_all, lost_all, written_by}
@@ -34,6 +37,13 @@ acked_both old mid new fs gs first (none_acked _) = rw (append-nil fs) first
 acked_both old mid new fs gs first (more_acked _ last _ front f before acked) =
     subst (λ (l : List SentFrame). AreAcked old new l) (append_assoc fs front (f ∷ [])) (more_acked old last new (fs ++ front) f (acked_both old mid last fs front first before) acked)
 
+pub confirmed_both : (old mid new : PlainStreams) (fs gs : List SentFrame) (is js : List Item) → AreConfirmed old mid fs is → AreConfirmed mid new gs js → AreConfirmed old new (fs ++ gs) (is ++ js)
+confirmed_both old mid new fs gs is js first (none_confirmed _) = rw (append-nil fs, append-nil is) first
+confirmed_both old mid new fs gs is js first (more_confirmed _ last _ front items f before acked) =
+    subst (λ (l : List SentFrame). AreConfirmed old new l (is ++ (items ++ confirmed_items last new f))) (append_assoc fs front (f ∷ []))
+    (subst (λ (l : List Item). AreConfirmed old new ((fs ++ front) ++ f ∷ []) l) (append_assoc is items (confirmed_items last new f))
+    (more_confirmed old last new (fs ++ front) (is ++ items) f (confirmed_both old mid last fs front is items first before) acked))
+
 pub lost_both : (old mid new : PlainStreams) (fs gs : List SentFrame) → AreLost old mid fs → AreLost mid new gs → AreLost old new (fs ++ gs)
 lost_both old mid new fs gs first (none_lost _) = rw (append-nil fs) first
 lost_both old mid new fs gs first (more_lost _ last _ front f before lost) =
@@ -42,6 +52,10 @@ lost_both old mid new fs gs first (more_lost _ last _ front f before lost) =
 pub acked_packet : (old mid new : PlainStreams) (es : Packets) (number : ℕ) (packet : SentPacket SentFrame) → AreAcked old mid (frames_out es) → AreAcked mid new packet.frames.items
     → AreAcked old new (frames_out (es ++ (number, packet) ∷ []))
 acked_packet old mid new es number packet first second = rw (frames_more es number packet) (acked_both old mid new (frames_out es) packet.frames.items first second)
+
+pub confirmed_packet : (old mid new : PlainStreams) (es : Packets) (number : ℕ) (packet : SentPacket SentFrame) (is js : List Item) → AreConfirmed old mid (frames_out es) is
+    → AreConfirmed mid new packet.frames.items js → AreConfirmed old new (frames_out (es ++ (number, packet) ∷ [])) (is ++ js)
+confirmed_packet old mid new es number packet is js first second = rw (frames_more es number packet) (confirmed_both old mid new (frames_out es) packet.frames.items is js first second)
 
 pub lost_packet : (old mid new : PlainStreams) (es : Packets) (number : ℕ) (packet : SentPacket SentFrame) → AreLost old mid (frames_out es) → AreLost mid new packet.frames.items
     → AreLost old new (frames_out (es ++ (number, packet) ∷ []))
@@ -129,6 +143,7 @@ sent_owed room old new bytes_old bytes_new number packet es written out keeps ow
       out_is = written.out_is;
       sent_is = ap (λ (l : List SentFrame). frames_out es ++ l) written.sent_is;
       shared = written.shared;
+      in_order = written.in_order;
     } in
     record {
       tracked = rw (frames_more es number packet) (written_by room old new bytes_old bytes_new (frames_out es) (frames_out es ++ packet.frames.items) behind owed.tracked);

@@ -1,5 +1,5 @@
 -- What an ACK, the loss rules and a probe do with packets that are out (RFC 9002, section 6).
-use Rattle.std.specs.Prelude.{◌≡◌, ◌↔◌, ℕ, Bool, true, false, not, List, [], ◌∷◌, ◌++◌, length, Some}
+use Rattle.std.specs.Prelude.{◌≡◌, ◌↔◌, ℕ, Bool, true, false, not, List, [], ◌∷◌, ◌++◌, length, Option, Some}
 use Rattle.std.specs.List.{All, filter}
 use Rattle.qh_recovery.specs.SentPackets.{packet_at, IsLost}
 use Rattle.qh_recovery.specs.Window.{acked, lost}
@@ -8,8 +8,10 @@ use Rattle.qh_recovery.specs.declared.sent_packets.SentPacket.{SentPacket}
 use Rattle.qh_spec.specs.Acknowledged.{Covers}
 use Rattle.qh_spec.specs.Lists.{In, Distinct}
 use Rattle.qh_spec.specs.QuicFrames.{QuicFrame}
+use Rattle.qh_streams.specs.Items.{logged, AreConfirmed}
 use Rattle.qh_streams.specs.Streams.{PlainStreams, AreAcked, AreLost, IsLostFrame, IsSettledFrame}
 use Rattle.qh_streams.specs.declared.frames.SentFrame.{SentFrame}
+use Rattle.qh_streams.specs.declared.items.Item.{Item}
 use Rattle.qh_streams.specs.declared.frames.SentFrame.TheVariants as sent
 use Rattle.qh_loss.specs.Owed.{frames_out}
 use Rattle.qh_loss.specs.declared.probe.Probe.{Probe}
@@ -39,6 +41,19 @@ pub record AreAckTaken (P : ℕ → SentPacket SentFrame → Type 0) (old new : 
 -- an ACK came: so it is with the packets that it covers
 abbrev pub IsAckTaken : (ack : QuicFrame) (old new : List (ℕ × SentPacket SentFrame)) (streams_old streams_new : PlainStreams) (window_old window_new : WindowController) → Type 0
 IsAckTaken ack old new streams_old streams_new window_old window_new = AreAckTaken (λ k q. Covers ack k) old new streams_old streams_new window_old window_new
+
+-- The same, and what that confirms is kept in a log; nothing is kept where it is off.
+pub record AreAckConfirmed (P : ℕ → SentPacket SentFrame → Type 0) (old new : List (ℕ × SentPacket SentFrame)) (streams_old streams_new : PlainStreams) (window_old window_new : WindowController)
+    (log_old log_new : Option (List Item)) : Type 0 where
+  pub taken : AreAckTaken P old new streams_old streams_new window_old window_new
+  pub items : List Item
+  pub confirmed : AreConfirmed streams_old streams_new (frames_out taken.taken) items
+  pub log_is : log_new ≡ logged log_old items
+
+abbrev pub IsAckConfirmed : (ack : QuicFrame) (old new : List (ℕ × SentPacket SentFrame)) (streams_old streams_new : PlainStreams) (window_old window_new : WindowController)
+    (log_old log_new : Option (List Item)) → Type 0
+IsAckConfirmed ack old new streams_old streams_new window_old window_new log_old log_new =
+    AreAckConfirmed (λ k q. Covers ack k) old new streams_old streams_new window_old window_new log_old log_new
 
 -- ---- loss (RFC 9002, section 6.1)
 

@@ -173,7 +173,7 @@ module _ {S : Type 0} (accepts : AcceptsTag) where
 
   refused : (id : ℕ) (e : WriteFault) (old new : Inner S) (t : List Act) → IsWriteRefused id e old new → Owes accepts old t → Owes accepts new t
   refused id e old new t (closed_to_writes shut is same) o = kept_call old new t same o
-  refused id e old new t (wanting is same) o = kept_call old new t same o
+  refused id e old new t (wanting is _ _ same) o = kept_call old new t same o
   refused id e old new t (refused_write up is with) o = quiet_call old new _ t with (blocked_beside old.space.streams id e) o
 
   wrote_call : (id taken : ℕ) (bytes : List ℕ) (old new : Inner S) (t : List Act) → IsStep (Takes bytes) old.space.streams.send new.space.streams.send id taken

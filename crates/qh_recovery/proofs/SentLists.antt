@@ -1,13 +1,14 @@
 -- The packets that are out as a list by their numbers: the look-up, one more at the end, and one that is taken out.
-use Rattle.std.proofs.Common.{◌≡◌, ◌⊎◌, ℕ, ◌+◌, ◌-◌, ◌<◌, ◌≤◌, min, Bool, true, false, cond, List, [], ◌∷◌, ◌++◌, Option, Some, None, MatchOption, is_some, IsSome, option_map, unwrap_or, nat_cmp, Ordering, Greater, refl, sym, ap, ◌∙◌, arith, inl, inr}
+use Rattle.std.proofs.Common.{◌≡◌, ◌⊎◌, ℕ, ◌+◌, ◌-◌, ◌<◌, ◌≤◌, min, Bool, true, false, cond, List, [], ◌∷◌, ◌++◌, length, Option, Some, None, MatchOption, is_some, IsSome, option_map, unwrap_or, nat_cmp, Ordering, Greater, refl, sym, ap, ◌∙◌, arith, inl, inr}
 use Rattle.std.specs.BTreeMap.{is_at, insert_entry}
+use Rattle.std.specs.List.{sum_by}
 use Rattle.std.specs.Ordering.{match_ordering, is_lt}
 use Rattle.std.proofs.lemmas.Bool.{cases_Bool, cases_eq}
 use Rattle.std.proofs.lemmas.List.Sums.{sum_by-cons, sum_by_push}
 use Rattle.std.proofs.lemmas.Map.Keys.{ge_from_not_lt}
 use Rattle.qh_base.specs.declared.time.Moment.{Moment}
 use Rattle.qh_recovery.specs.declared.sent_packets.SentPacket.{SentPacket}
-use Rattle.qh_recovery.specs.SentPackets.{packet_at, without, bytes_in_flight, NoneIs, IsGreatest, IsNext, IsFrom, IsBelow, IsReordered, IsLossTime, overdue_at}
+use Rattle.qh_recovery.specs.SentPackets.{packet_at, without, bytes_in_flight, frame_count, NoneIs, IsGreatest, IsNext, IsFrom, IsBelow, IsReordered, IsLossTime, overdue_at}
 
 greater_is : (m n : ℕ) → n < m → nat_cmp m n ≡ Greater
 greater_is m n h = grind (arith, h)
@@ -51,30 +52,45 @@ module _ {F : Type 0} where
       ap (λ (o : Ordering). match_ordering o ((number, packet) ∷ e ∷ es) ((e.0, packet) ∷ es) (e ∷ rest)) (greater_is number e.0 above)
       ∙ ap (λ (l : List (ℕ × SentPacket F)). e ∷ l) (appended es number packet (λ k q there. let more = found_at e es k q there in next k more.0 more.1))
 
-  abbrev size_of : ℕ × SentPacket F → ℕ
-  size_of e = e.1.size
+  -- a sum over the packets: one more at the end
+  appended_sum : (f : SentPacket F → ℕ) (es : List (ℕ × SentPacket F)) (number : ℕ) (packet : SentPacket F) → IsNext number es
+      → sum_by (λ (e : ℕ × SentPacket F). f e.1) (insert_entry nat_cmp es number packet) ≡ sum_by (λ (e : ℕ × SentPacket F). f e.1) es + f packet
+  appended_sum f es number packet next =
+      ap (sum_by (λ (e : ℕ × SentPacket F). f e.1)) (appended es number packet next) ∙ sum_by_push (λ (e : ℕ × SentPacket F). f e.1) es (number, packet)
 
-  pub appended_bytes : (es : List (ℕ × SentPacket F)) (number : ℕ) (packet : SentPacket F) → IsNext number es
-      → bytes_in_flight (insert_entry nat_cmp es number packet) ≡ bytes_in_flight es + packet.size
-  appended_bytes es number packet next = ap bytes_in_flight (appended es number packet next) ∙ sum_by_push size_of es (number, packet)
-
-  -- the bytes of one that is taken out are among those of all
-  pub taken_bytes : (es : List (ℕ × SentPacket F)) (number : ℕ) (packet : SentPacket F) → packet_at es number ≡ Some packet
-      → bytes_in_flight (without number es) + packet.size ≡ bytes_in_flight es
-  taken_bytes [] number packet was = absurd (cc)
-  taken_bytes (e ∷ es) number packet was =
-      let whole = sum_by-cons size_of e es in
+  -- what one that is taken out adds is part of it
+  taken_sum : (f : SentPacket F → ℕ) (es : List (ℕ × SentPacket F)) (number : ℕ) (packet : SentPacket F) → packet_at es number ≡ Some packet
+      → sum_by (λ (e : ℕ × SentPacket F). f e.1) (without number es) + f packet ≡ sum_by (λ (e : ℕ × SentPacket F). f e.1) es
+  taken_sum f [] number packet was = absurd (cc)
+  taken_sum f (e ∷ es) number packet was =
+      let whole = sum_by-cons (λ (e : ℕ × SentPacket F). f e.1) e es in
       elim (cases_Bool (is_at (nat_cmp number) e.0)) [
         | inl here ↦
             let is : Some e.1 ≡ Some packet = sym (ap (λ (b : Bool). cond b (Some e.1) (packet_at es number)) here) ∙ was in
-            let size : e.1.size ≡ packet.size = ap (λ (o : Option (SentPacket F)). unwrap_or (option_map (λ (p : SentPacket F). p.size) o) 0) is in
-            let left = ap (λ (b : Bool). bytes_in_flight (cond b es (e ∷ without number es))) here in
-            omega (arith, whole, left, size)
+            let own : f e.1 ≡ f packet = ap (λ (o : Option (SentPacket F)). unwrap_or (option_map f o) 0) is in
+            let left = ap (λ (b : Bool). sum_by (λ (e : ℕ × SentPacket F). f e.1) (cond b es (e ∷ without number es))) here in
+            omega (arith, whole, left, own)
         | inr apart ↦
             let there : packet_at es number ≡ Some packet = sym (ap (λ (b : Bool). cond b (Some e.1) (packet_at es number)) apart) ∙ was in
-            let left = ap (λ (b : Bool). bytes_in_flight (cond b es (e ∷ without number es))) apart in
-            omega (arith, whole, left, sum_by-cons size_of e (without number es), taken_bytes es number packet there)
+            let left = ap (λ (b : Bool). sum_by (λ (e : ℕ × SentPacket F). f e.1) (cond b es (e ∷ without number es))) apart in
+            omega (arith, whole, left, sum_by-cons (λ (e : ℕ × SentPacket F). f e.1) e (without number es), taken_sum f es number packet there)
       ]
+
+  pub appended_bytes : (es : List (ℕ × SentPacket F)) (number : ℕ) (packet : SentPacket F) → IsNext number es
+      → bytes_in_flight (insert_entry nat_cmp es number packet) ≡ bytes_in_flight es + packet.size
+  appended_bytes es number packet next = appended_sum (λ p. p.size) es number packet next
+
+  pub appended_frames : (es : List (ℕ × SentPacket F)) (number : ℕ) (packet : SentPacket F) → IsNext number es
+      → frame_count (insert_entry nat_cmp es number packet) ≡ frame_count es + length packet.frames.items
+  appended_frames es number packet next = appended_sum (λ p. length p.frames.items) es number packet next
+
+  pub taken_bytes : (es : List (ℕ × SentPacket F)) (number : ℕ) (packet : SentPacket F) → packet_at es number ≡ Some packet
+      → bytes_in_flight (without number es) + packet.size ≡ bytes_in_flight es
+  taken_bytes es number packet was = taken_sum (λ p. p.size) es number packet was
+
+  pub taken_frames : (es : List (ℕ × SentPacket F)) (number : ℕ) (packet : SentPacket F) → packet_at es number ≡ Some packet
+      → frame_count (without number es) + length packet.frames.items ≡ frame_count es
+  taken_frames es number packet was = taken_sum (λ p. length p.frames.items) es number packet was
 
   -- where none is at or above 0, there is none
   pub none_out : (es : List (ℕ × SentPacket F)) → NoneIs (IsFrom 0) es → es ≡ []

@@ -1,6 +1,6 @@
 -- The ack-eliciting packets that are out: sent, and neither acknowledged nor lost (RFC 9002, section 6 and appendix A.1). They
 -- are seen as a list of their numbers with what is kept of each, the numbers rising.
-use Rattle.std.specs.Prelude.{◌≡◌, ◌⊎◌, ℕ, ◌+◌, ◌-◌, ◌<◌, ◌≤◌, ◌^◌, ◌==◌, min, if◌then◌else◌, List, ◌++◌, ◌∷◌, Option, Some}
+use Rattle.std.specs.Prelude.{◌≡◌, ◌⊎◌, ℕ, ◌+◌, ◌-◌, ◌<◌, ◌≤◌, ◌^◌, ◌==◌, min, if◌then◌else◌, List, ◌++◌, ◌∷◌, length, Option, Some}
 use Rattle.std.specs.List.{sum_by, All}
 use Rattle.std.specs.Ordering.{nat_cmp}
 use Rattle.std.specs.BTreeMap.{is_at}
@@ -24,6 +24,10 @@ module _ {F : Type 0} where
   -- the sum of the sizes (RFC 9002, appendix B.2)
   abbrev pub bytes_in_flight : List (ℕ × SentPacket F) → ℕ
   bytes_in_flight packets = sum_by (λ e. e.1.size) packets
+
+  -- how many frames are kept of all packets
+  abbrev pub frame_count : List (ℕ × SentPacket F) → ℕ
+  frame_count packets = sum_by (λ e. length e.1.frames.items) packets
 
   -- a packet stands between those that are left without it
   pub record IsParted (packets : List (ℕ × SentPacket F)) (number : ℕ) (packet : SentPacket F) : Type 0 where

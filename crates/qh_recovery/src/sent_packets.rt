@@ -4,7 +4,7 @@ ghost use Rattle.std.specs.List.Sorted.{IsStrictlySortedBy};
 ghost use Rattle.std.specs.Map.{keys_of};
 ghost use Rattle.std.specs.Ordering.{nat_cmp};
 ghost use Rattle.qh_recovery.specs.declared.sent_packets.SentPacket.{SentPacket as Packet};
-ghost use Rattle.qh_recovery.specs.SentPackets.{IsParted, HasInstead, packet_at, without, bytes_in_flight, NoneIs, IsLeast, IsGreatest, IsNext, IsFrom, IsBelow, IsWithin, IsReordered, IsLost, IsLossTime, IsLastSent, overdue_at};
+ghost use Rattle.qh_recovery.specs.SentPackets.{IsParted, HasInstead, packet_at, without, bytes_in_flight, frame_count, NoneIs, IsLeast, IsGreatest, IsNext, IsFrom, IsBelow, IsWithin, IsReordered, IsLost, IsLossTime, IsLastSent, overdue_at};
 
 use qh_base::{Memory, Moment, Span};
 use std::alloc::Global;
@@ -28,18 +28,19 @@ pub struct SentPacket<F> {
 pub struct SentPackets<F> {
     packets: BTreeMap<u64, SentPacket<F>>,
     in_flight: u64,
+    frames: usize,
 }
 
 impl<F> Model for SentPackets<F> {
     ghost use Rattle.std.specs.Prelude.{◌≡◌, ℕ, List};
     ghost use Rattle.qh_recovery.specs.declared.sent_packets.SentPacket.{SentPacket as Packet};
-    ghost use Rattle.qh_recovery.specs.SentPackets.{bytes_in_flight};
+    ghost use Rattle.qh_recovery.specs.SentPackets.{bytes_in_flight, frame_count};
 
     ghost Value = { List (ℕ × Packet F) };
 
     ghost view = { λ s. s.packets.entries };
 
-    ghost invariant = { λ s. s.in_flight ≡ bytes_in_flight s.packets.entries };
+    ghost invariant = { λ s. (s.in_flight ≡ bytes_in_flight s.packets.entries) × (s.frames ≡ frame_count s.packets.entries) };
 }
 
 impl<F: Drop> SentPackets<F> {
@@ -50,6 +51,7 @@ impl<F: Drop> SentPackets<F> {
         SentPackets {
             packets: BTreeMap::new(alloc),
             in_flight: 0,
+            frames: 0,
         }
     }
 
@@ -72,6 +74,13 @@ impl<F: Drop> SentPackets<F> {
         ensures { result ≡ bytes_in_flight self.now }
     {
         self.in_flight
+    }
+
+    /// How many frames are kept of all packets that are out.
+    pub fn frame_count(&self) -> usize
+        ensures { result ≡ frame_count self.now }
+    {
+        self.frames
     }
 
     /// The numbers rise in the order in which the packets stand. It does nothing: its contract says so.
@@ -112,7 +121,7 @@ impl<F: Drop> SentPackets<F> {
     }
 
     /// A packet is sent. Its number is greater than all that are out. Where the allocator has no memory, or the bytes in flight
-    /// would exceed what a u64 holds, the packet is dropped.
+    /// or the count of frames would exceed what 64 bits hold, the packet is dropped.
     pub fn insert(&mut self, number: u64, packet: SentPacket<F>) -> Result<(), Memory>
         requires { IsNext number self.old }
         ensures ok { OnOk result (self.new ≡ self.old ++ (number, packet) ∷ []) }
@@ -122,8 +131,12 @@ impl<F: Drop> SentPackets<F> {
         let Some(in_flight) = self.in_flight.checked_add(packet.size) else {
             return Err(Memory);
         };
+        let Some(frames) = self.frames.checked_add(packet.frames.len()) else {
+            return Err(Memory);
+        };
         self.packets.insert(number, packet)?;
         self.in_flight = in_flight;
+        self.frames = frames;
         Ok(())
     }
 
@@ -135,6 +148,7 @@ impl<F: Drop> SentPackets<F> {
     {
         let packet = self.packets.remove(&number)?;
         self.in_flight -= packet.size;
+        self.frames -= packet.frames.len();
         Some((number, packet))
     }
 
@@ -145,6 +159,7 @@ impl<F: Drop> SentPackets<F> {
     {
         let (number, oldest) = self.packets.pop_first()?;
         self.in_flight -= oldest.size;
+        self.frames -= oldest.frames.len();
         Some((number, oldest))
     }
 

@@ -77,7 +77,7 @@ module _ {S : Type 0} where
 
   pub stirred_refused : (old new : Inner S) (id : ℕ) (e : WriteFault) → IsWriteRefused id e old new → IsStirred old new
   stirred_refused old new id e (closed is blocked same) = stirred_to old new same
-  stirred_refused old new id e (wanting memory same) = stirred_to old new same
+  stirred_refused old new id e (wanting is may memory same) = stirred_to old new same
   stirred_refused old new id e (refused is_open why is) = stirred_by old new (with_blocked old.space.streams id e) is (counts_blocked old.space.streams id e)
 
   pub stirred_read : (old new : Inner S) (max id : ℕ) (ordered : Bool) (r : Result (Option Chunk) TakeFault) → IfOk r (λ o. IsRead max ordered id (Ok o) old.space.streams new.space.streams)

@@ -9,6 +9,7 @@ use Rattle.qh_frame.specs.declared.ack.Ack.{Ack}
 use Rattle.qh_frame.specs.declared.frame.Frame.{Frame}
 use Rattle.qh_frame.specs.declared.frame.Frame.TheVariants as kind
 use Rattle.qh_frame.specs.declared.frame.Stream.{Stream}
+use Rattle.qh_loss.specs.Owed.{frames_out}
 use Rattle.qh_loss.specs.Settled.{IsAckTaken, AreLostTaken}
 use Rattle.qh_recovery.specs.Rtt.{sampled, loss_delay}
 use Rattle.qh_recovery.specs.SentPackets.{packet_at}
@@ -19,10 +20,12 @@ use Rattle.qh_spec.specs.Codes as codes
 use Rattle.qh_spec.specs.FrameTypes as frame_types
 use Rattle.qh_spec.specs.declared.sides.Side.{Side}
 use Rattle.qh_spec.specs.declared.sides.Side.TheVariants.{Client, Server}
+use Rattle.qh_streams.specs.Items.{items_of, logged, AreConfirmed}
 use Rattle.qh_streams.specs.Streams.{PlainStreams, Refusal, refused, refusal_of, IsReceived}
 use Rattle.qh_streams.specs.declared.frames.SentFrame.{SentFrame}
 use Rattle.qh_streams.specs.declared.frames.StreamFrame.{StreamFrame}
 use Rattle.qh_streams.specs.declared.frames.StreamFrame.TheVariants as coming
+use Rattle.qh_streams.specs.declared.items.Item.{Item}
 
 -- the frame that speaks of streams (sections 19.4, 19.5 and 19.8 to 19.11)
 abbrev pub coming_of : Frame → Option StreamFrame
@@ -71,15 +74,19 @@ pub record IsLossTaken (largest_acked now : ℕ) (old new : DataSpace) : Type 0 
   pub lost : AreLostTaken largest_acked now (loss_delay old.rtt) old.next_number old.sent new.sent old.streams new.streams old.congestion new.congestion count
   pub rest_is : new ≡ record old { streams = new.streams; sent = new.sent; congestion = new.congestion; packets_lost = min (2 ^ 64 - 1) (old.packets_lost + count) }
 
--- An ACK came (RFC 9002, appendix A.7): a sample is taken, what it covers is acknowledged, and what is lost by it is lost.
+-- An ACK came (RFC 9002, appendix A.7): a sample is taken, what it covers is acknowledged, which the log keeps where it is on, and
+-- what is lost by it is lost.
 pub record IsAckReceived (now : ℕ) (old new : DataSpace) (a : Ack) : Type 0 where
   pub mid : DataSpace
   pub is_any : Bool
   pub taken : IsAckTaken (ack_of a) old.sent mid.sent old.streams mid.streams old.congestion mid.congestion
+  pub items : List Item
+  pub confirmed : AreConfirmed old.streams mid.streams (frames_out taken.taken) items
   pub none_is : is_any ≡ false → mid.sent ≡ old.sent
   pub some_is : is_any ≡ true → mid.sent ≡ old.sent → ⊥
   pub mid_is : mid ≡ record old {
     streams = mid.streams;
+    log = logged old.log items;
     sent = mid.sent;
     congestion = mid.congestion;
     rtt = measured (packet_at old.sent a.greatest) now old.rtt;
@@ -117,7 +124,8 @@ IsClosedBy f answer = answer ≡ None
 -- What a frame does that is taken, and the error with which the peer closes by it.
 pub data IsFrameTaken (now : ℕ) (old new : DataSpace) : Frame → Option ConnectionError → Type 0 where
   passive : (f : Frame) → is_passive f ≡ true → new ≡ old → IsFrameTaken now old new f None
-  streams : (f : Frame) (s : StreamFrame) → coming_of f ≡ Some s → IsReceived old.streams new.streams s → new ≡ record old { streams = new.streams } → IsFrameTaken now old new f None
+  streams : (f : Frame) (s : StreamFrame) → coming_of f ≡ Some s → IsReceived old.streams new.streams s
+      → new ≡ record old { streams = new.streams; log = logged old.log (items_of old.streams s) } → IsFrameTaken now old new f None
   ack : (a : Ack) → IsAckReceived now old new a → IsFrameTaken now old new (kind.Ack a) None
   challenge : (bytes : List ℕ) → new ≡ record old { path_response = Some bytes } → IsFrameTaken now old new (kind.PathChallenge bytes) None
   close : (f : Frame) (e : ConnectionError) → IsClosedBy f (Some e) → new ≡ old → IsFrameTaken now old new f (Some e)

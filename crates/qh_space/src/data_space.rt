@@ -1,14 +1,16 @@
-ghost use Rattle.std.specs.Prelude.{◌≡◌, [], None, false};
+ghost use Rattle.std.specs.Prelude.{◌≡◌, [], None, Some, false, OnOk, OnErr};
+ghost use Rattle.std.specs.Option.{option_map};
 ghost use Rattle.qh_recovery.specs.Accepted.{Remembers};
 ghost use Rattle.qh_recovery.specs.Rtt.{new_estimator};
 ghost use Rattle.qh_recovery.specs.Window.{new_controller};
 ghost use Rattle.qh_space.specs.Space.{AreUnused, IsSpace, first_streams};
+ghost use Rattle.qh_streams.specs.Items.{first_items, kept_in};
 ghost use Rattle.qh_streams.specs.Streams.{with_peer};
 ghost use Rattle.qh_streams.specs.Tracked.{IsFresh};
 
-use qh_base::{Side, Span};
+use qh_base::{Memory, Side, Span};
 use qh_recovery::{Dedup, PendingAcks, RttEstimator, SentPackets, WindowController};
-use qh_streams::{PeerLimits, SentFrame, StreamLimits, Streams};
+use qh_streams::{Item, ItemLog, PeerLimits, SentFrame, StreamLimits, Streams};
 use std::alloc::Global;
 
 /// What a space begins with.
@@ -30,6 +32,8 @@ pub struct SpaceConfig {
 pub struct DataSpace {
     /// The streams. What of them is owed is queued, or out in a packet.
     pub streams: Streams,
+    /// What the peer's frames brought the streams, if a log is kept.
+    pub log: ItemLog,
     /// The ack-eliciting packets that are out, with their frames.
     pub sent: SentPackets<SentFrame>,
     /// Which numbers of the peer's were accepted.
@@ -70,11 +74,13 @@ impl DataSpace {
         ensures parts { (result.sent ≡ []) × (result.next_number ≡ 0) × (result.largest_acked ≡ None) × (result.acks ≡ record { ranges = []; is_due = false }) }
         ensures recovery { (result.rtt ≡ new_estimator config.initial_rtt.0) × (result.congestion ≡ new_controller config.initial_window) × (result.pto_count ≡ 0) × (result.is_probe_due ≡ false) }
         ensures nothing_due { (result.is_ping_due ≡ false) × (result.path_response ≡ None) }
+        ensures log { result.log ≡ None }
     {
         let mut streams = Streams::new(alloc, side, config.limits);
         streams.set_peer(config.peer);
         DataSpace {
             streams,
+            log: ItemLog::off(),
             sent: SentPackets::new(alloc),
             dedup: Dedup::new(alloc),
             acks: PendingAcks::new(alloc),
@@ -89,5 +95,26 @@ impl DataSpace {
             packets_lost: 0,
             probes_sent: 0,
         }
+    }
+
+    /// Keeps a log from now on of what the peer's frames bring the streams; it begins with the peer's first limits. For want of
+    /// memory nothing changes.
+    pub fn start_log(&mut self, alloc: Global) -> Result<(), Memory>
+        ensures ok { OnOk result (self.new ≡ record self.old { log = Some (first_items self.old.streams.peer) }) }
+        ensures err { OnErr result (self.new ≡ self.old) }
+    {
+        let mut log = ItemLog::off();
+        log.start(alloc);
+        Streams::note_peer(self.streams.peer(), &mut log)?;
+        self.log = log;
+        Ok(())
+    }
+
+    /// Hands over the items that came since the log was started, or since this was called last. None if no log is kept.
+    pub fn take_items(&mut self, alloc: Global) -> Option<Vec<Item>>
+        ensures taken { kept_in result ≡ self.old.log }
+        ensures rest { self.new ≡ record self.old { log = option_map (λ _. []) self.old.log } }
+    {
+        self.log.take(alloc)
     }
 }

@@ -1,14 +1,15 @@
-ghost use Rattle.std.specs.Prelude.{◌≡◌, ◌<◌, ◌≤◌, ◌^◌, ◌∷◌, ◌||◌, ℕ, List, None, false, true, if◌then◌else◌, OnOk, OnErr, IfOk, IfErr};
+ghost use Rattle.std.specs.Prelude.{◌≡◌, nat_lt, ◌<◌, ◌≤◌, ◌^◌, ◌∷◌, ◌||◌, ℕ, List, None, false, true, if◌then◌else◌, OnOk, OnErr, IfOk, IfErr};
 ghost use Rattle.qh_frame.specs.Plain.{ack_of};
 ghost use Rattle.qh_loss.specs.Owed.{AreOwed};
-ghost use Rattle.qh_loss.specs.Settled.{IsAckTaken};
+ghost use Rattle.qh_loss.specs.Settled.{IsAckConfirmed};
 ghost use Rattle.qh_recovery.specs.Accepted.{Remembers};
 ghost use Rattle.qh_recovery.specs.PendingAcks.{IsJoined};
-ghost use Rattle.qh_recovery.specs.SentPackets.{packet_at};
+ghost use Rattle.qh_recovery.specs.SentPackets.{packet_at, frame_count};
 ghost use Rattle.qh_space.specs.Receiving.{IsFrameTaken, IsAckReceived, IsLossTaken, IsClosedBy, coming_of, frame_refusal, greatest_of, measured, IsStream, refused_at_server, some_type};
 ghost use Rattle.qh_space.specs.Space.{IsSpace};
 ghost use Rattle.qh_spec.specs.Codes as codes;
-ghost use Rattle.qh_streams.specs.Streams.{IsRefusal, IsRefusedBy, refused};
+ghost use Rattle.qh_streams.specs.Items.{items_of, kept_in, logged, HasRoom};
+ghost use Rattle.qh_streams.specs.Streams.{IsReceived, IsRefusal, IsRefusedBy, KeepsOut, refusal_of, refused};
 
 use crate::DataSpace;
 use bytes::Bytes;
@@ -19,7 +20,7 @@ use qh_base::{
 use qh_frame::{Ack, Frame};
 use qh_loss::{detect_lost_packets, on_ack_received};
 use qh_recovery::insert_received;
-use qh_streams::{StreamFault, StreamFrame};
+use qh_streams::{Item, StreamFault, StreamFrame};
 use std::alloc::Global;
 
 impl DataSpace {
@@ -58,10 +59,31 @@ impl DataSpace {
             return Err(StreamFault::Memory);
         };
         if let Some(coming) = coming {
-            self.streams.received(alloc, coming)?;
+            self.take_coming(alloc, coming)?;
             return Ok(None);
         }
         self.take_other(frame, now)
+    }
+
+    // Takes a frame that speaks of streams, and appends to the log what it brings.
+    fn take_coming(&mut self, alloc: Global, frame: StreamFrame) -> Result<(), StreamFault>
+        ensures ok { OnOk result (IsReceived self.old.streams self.new.streams frame) }
+        ensures rest { OnOk result (self.new ≡ record self.old { streams = self.new.streams; log = logged self.old.log (items_of self.old.streams frame) }) }
+        ensures keeps_out { KeepsOut self.old.streams self.new.streams }
+        ensures taken { OnOk result (refusal_of self.old.streams frame ≡ None) }
+        ensures fault { IfErr result (λ e. IsRefusedBy e (refusal_of self.old.streams frame)) }
+        ensures err { OnErr result (self.new ≡ self.old) }
+    {
+        let before = self.log.len();
+        if self.streams.note(&frame, &mut self.log).is_err() {
+            self.streams.check(&frame)?;
+            return Err(StreamFault::Memory);
+        }
+        let received = self.streams.received(alloc, frame);
+        if received.is_err() {
+            self.log.truncate(before);
+        }
+        received
     }
 
     // Refuses a STREAM frame that is at fault.
@@ -89,7 +111,7 @@ impl DataSpace {
         requires other { coming_of frame.now ≡ None }
         ensures ok { IfOk result (λ closed. IsFrameTaken now.0 self.old self.new frame.now closed) }
         ensures taken { OnOk result (frame_refusal self.old frame.now ≡ None) }
-        ensures fault { IfErr result (λ e. IsRefusal e (frame_refusal self.old frame.now)) }
+        ensures fault { IfErr result (λ e. IsRefusedBy e (frame_refusal self.old frame.now)) }
         ensures err { OnErr result (self.new ≡ self.old) }
         ensures space { IsSpace self.new }
     {
@@ -109,7 +131,7 @@ impl DataSpace {
         requires { IsSpace self.old }
         ensures ok { OnOk result (IsAckReceived now.0 self.old self.new ack.now) }
         ensures taken { OnOk result (ack.now.greatest < self.old.next_number) }
-        ensures fault { IfErr result (λ e. IsRefusal e (refused codes.protocol_violation frame.0) × (self.old.next_number ≤ ack.now.greatest)) }
+        ensures fault { IfErr result (λ e. IsRefusedBy e (if nat_lt ack.now.greatest self.old.next_number then None else refused codes.protocol_violation frame.0)) }
         ensures err { OnErr result (self.new ≡ self.old) }
         ensures space { IsSpace self.new }
     {
@@ -117,8 +139,10 @@ impl DataSpace {
         if greatest >= self.next_number {
             return Err(violation(frame));
         }
+        let mut log = self.log.lend(self.sent.frame_count())?;
         self.measure(greatest, now);
-        self.acknowledge(ack);
+        self.acknowledge(ack, &mut log);
+        self.log.give_back(log);
         let largest = greatest_of(self.largest_acked, greatest);
         self.largest_acked = Some(largest);
         self.lose(largest, now);
@@ -135,15 +159,22 @@ impl DataSpace {
     }
 
     // What an ACK covers is acknowledged. Where that is a packet that is out, no probe counts any more. Answers whether it is.
-    fn acknowledge(&mut self, ack: &Ack<'_>) -> bool
-        requires { AreOwed self.old.streams self.old.sent }
-        ensures taken { IsAckTaken (ack_of ack.now) self.old.sent self.new.sent self.old.streams self.new.streams self.old.congestion self.new.congestion }
+    fn acknowledge(&mut self, ack: &Ack<'_>, log: &mut Option<Vec<Item>>) -> bool
+        requires owed { AreOwed self.old.streams self.old.sent }
+        requires room { HasRoom log.old (frame_count self.old.sent) }
+        ensures taken { IsAckConfirmed (ack_of ack.now) self.old.sent self.new.sent self.old.streams self.new.streams self.old.congestion self.new.congestion (kept_in log.old) (kept_in log.new) }
         ensures none { result ≡ false → self.new.sent ≡ self.old.sent }
         ensures some { result ≡ true → self.new.sent ≡ self.old.sent → ⊥ }
         ensures rest { self.new ≡ record self.old { streams = self.new.streams; sent = self.new.sent; congestion = self.new.congestion; pto_count = (if result then 0 else self.old.pto_count) } }
         ensures owed { AreOwed self.new.streams self.new.sent }
     {
-        let is_any = on_ack_received(&mut self.streams, &mut self.sent, &mut self.congestion, ack);
+        let is_any = on_ack_received(
+            &mut self.streams,
+            &mut self.sent,
+            &mut self.congestion,
+            ack,
+            log,
+        );
         if is_any {
             self.pto_count = 0;
         }

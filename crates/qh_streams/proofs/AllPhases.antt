@@ -209,4 +209,17 @@ module _ (room second third last : ℕ) (s0 s1 s2 s3 s4 : PlainStreams) (o0 o1 o
     out_is = to_four.out_is;
     sent_is = to_four.sent_is;
     shared = shared;
+    in_order = record {
+      limits = l.part.frames;
+      first = a.part.frames;
+      sending = b.part.frames;
+      last = c.part.frames;
+      are = refl;
+      no_single = l.no_single;
+      no_sending = l.no_sending;
+      first_are = a.are_of;
+      few = a.few;
+      sending_are = b.are_of;
+      last_are = c.are_of;
+    };
   }

@@ -38,7 +38,7 @@ goes_on r next max_length result h (nothing zero same c none) e = open_half r ne
 goes_on r next max_length result h (end some waits at_end is) e = absurd (cc)
 goes_on r next max_length result h (reset code some was is) e = absurd (cc)
 goes_on r next max_length result h (blocked some waits at_end none same) e = open_half r next h (ap (λ (x : PlainRecv). x.is_stopped) same) (ap (λ (x : PlainRecv). x.is_given) same)
-goes_on r next max_length result h (memory same) e = open_half r next h (ap (λ (x : PlainRecv). x.is_stopped) same) (ap (λ (x : PlainRecv). x.is_given) same)
+goes_on r next max_length result h (memory wants same) e = open_half r next h (ap (λ (x : PlainRecv). x.is_stopped) same) (ap (λ (x : PlainRecv). x.is_given) same)
 
 pub goes_on_at : (old new : PlainRecvHalves) (id max_length : ℕ) (result : Result (Option Chunk) ReadFault) → is_closed_at old id ≡ false
     → IsRecvStep (Reads max_length result) old new id 0 → state_after result ≡ Readable → is_closed_at new id ≡ false

@@ -1,5 +1,6 @@
 pub mod AllPhases
 pub mod ChunksRead
+pub mod ItemLogs
 pub mod LimitsTold
 pub mod LimitsWritten
 pub mod PhasesWritten

@@ -165,7 +165,7 @@ read_nothing max_length result r next (nothing_read none e c empty) = rw e (same
 read_nothing max_length result r next (end_read some waits ended e) = rw e (same_announced r _ refl refl refl)
 read_nothing max_length result r next (reset_read code some was e) = rw e (same_announced r _ refl refl refl)
 read_nothing max_length result r next (blocked_read some waits ended was e) = rw e (same_announced r r refl refl refl)
-read_nothing max_length result r next (memory_read e) = rw e (same_announced r r refl refl refl)
+read_nothing max_length result r next (memory_read wants e) = rw e (same_announced r r refl refl refl)
 
 -- ---- any of these steps
 

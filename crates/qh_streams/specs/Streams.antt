@@ -1,5 +1,5 @@
 -- The streams of a connection by their ids (RFC 9000, sections 2 to 4).
-use Rattle.std.specs.Prelude.{◌≡◌, ◌⊎◌, ℕ, ◌+◌, ◌-◌, ◌*◌, ◌/◌, ◌%◌, ◌<◌, ◌≤◌, ◌^◌, ◌==◌, nat_lt, nat_le, min, max, Bool, true, false, ◌&&◌, ◌||◌, not, List, [], ◌∷◌, ◌++◌, length, reverse, Option, Some, None, is_some, IfSome, MatchBool, if◌then◌else◌}
+use Rattle.std.specs.Prelude.{◌≡◌, ◌⊎◌, ℕ, ◌+◌, ◌-◌, ◌%◌, ◌<◌, ◌≤◌, ◌^◌, ◌==◌, nat_lt, nat_le, min, max, Bool, true, false, ◌&&◌, ◌||◌, not, List, [], ◌∷◌, ◌++◌, length, reverse, Option, Some, None, is_some, IfSome, MatchBool, if◌then◌else◌}
 use Rattle.std.specs.List.{list_any}
 use Rattle.std.specs.Ordering.{nat_cmp}
 use Rattle.std.specs.BTreeSet.{insert_key}
@@ -12,12 +12,11 @@ use Rattle.qh_spec.specs.declared.sides.Dir.TheVariants.{Bi, Uni}
 use Rattle.qh_spec.specs.Codes as codes
 use Rattle.qh_spec.specs.FrameTypes as frame_types
 use Rattle.qh_spec.specs.Lists.{In}
-use Rattle.qh_spec.specs.QuicFrame.{StreamFrame as CarriedStream}
 use Rattle.qh_spec.specs.QuicFrames.{QuicFrame, Num, IsQuicFrame}
 use Rattle.qh_frame.specs.FrameBytes.{frame_bytes}
 use Rattle.qh_frame.specs.Plain.{frame, by_dir}
 use Rattle.qh_frame.specs.WrittenForm.{stream_form}
-use Rattle.qh_buffers.specs.SendBuffer.{taken_to, bytes_between}
+use Rattle.qh_buffers.specs.SendBuffer.{bytes_between}
 use Rattle.qh_buffers.specs.declared.send_buffer.Mark.TheVariants.{Sent}
 use Rattle.qh_buffers.specs.declared.assembler.Chunk.{Chunk}
 use Rattle.qh_streams.specs.declared.streams.writing.Phase.{Phase}
@@ -25,7 +24,7 @@ use Rattle.qh_streams.specs.declared.streams.writing.Phase.TheVariants as phase
 use Rattle.qh_streams.specs.declared.fault.StreamFault.{StreamFault}
 use Rattle.qh_streams.specs.declared.fault.StreamFault.TheVariants.{Transport, Memory}
 use Rattle.qh_half.specs.declared.fault.WriteFault.{WriteFault}
-use Rattle.qh_half.specs.declared.fault.WriteFault.TheVariants.{Blocked}
+use Rattle.qh_half.specs.declared.fault.WriteFault.TheVariants.{Blocked, Memory as WriteMemory}
 use Rattle.qh_streams.specs.declared.frames.PeerLimits.{PeerLimits}
 use Rattle.qh_streams.specs.declared.frames.StreamFrame.{StreamFrame}
 use Rattle.qh_streams.specs.declared.frames.StreamFrame.TheVariants as coming
@@ -43,7 +42,7 @@ use Rattle.qh_halves.specs.declared.recv_halves.StreamControl.TheVariants.{StopS
 use Rattle.qh_halves.specs.Counts.{AreCounts, is_own, is_bi, index_of, has_send, has_recv, count_limit, with_max_opened}
 use Rattle.qh_halves.specs.Limit.{is_due, acked_at, lost_at, owes_value}
 use Rattle.qh_half.specs.Send.{PlainSend, new_send}
-use Rattle.qh_halves.specs.SendHalves.{PlainSendHalves, send_at, unacked, write_limit, IsStep, IsAbsent, IsSettledBy, IsStoppedWith, HasLimit, IsUnblocked, IsSpanAt, IsSentNext, IsLost, IsAcked, IsResetLost, IsResetAcked, IsSettledAt, half_owes_reset, half_is_writable, half_holds, NoneWaits}
+use Rattle.qh_halves.specs.SendHalves.{PlainSendHalves, send_at, unacked, write_limit, write_fault_at, IsStep, IsAbsent, IsSettledBy, IsStoppedWith, HasLimit, IsUnblocked, IsSpanAt, IsSentNext, IsLost, IsAcked, IsResetLost, IsResetAcked, IsSettledAt, half_owes_reset, half_is_writable, half_holds, NoneWaits}
 use Rattle.qh_half.specs.Recv.{PlainRecv, new_recv}
 use Rattle.qh_halves.specs.RecvHalves.{PlainRecvHalves, recv_at, half_ingest_fault, half_is_wanted, data_limit, IsRecvStep, IsPieceTaken, IsResetTaken, IsRecvAbsent, GivesControl, NoneIsDue, IsStopLost, IsStopAcked, IsLimitLost, IsLimitAcked, half_owes_limit, half_owes_stop}
 
@@ -198,6 +197,11 @@ recv_or_new s id = if was_opened s id then recv_at s.recv id else new_recv_half 
 abbrev pub size_refusal : PlainStreams → (id to : ℕ) → (is_end : Bool) → (frame : ℕ) → Option Refusal
 size_refusal s id to is_end frame = ingest_refusal (half_ingest_fault (recv_or_new s id) to is_end s.recv.received s.recv.announced.value) frame
 
+-- FRAME_ENCODING_ERROR for a count of streams above 2^60 (section 19.11)
+abbrev pub count_refusal : Dir → (count : ℕ) → Option Refusal
+count_refusal Bi count = if nat_lt (2 ^ 60) count then refused codes.frame_encoding_error frame_types.max_streams_bidi else None
+count_refusal Uni count = if nat_lt (2 ^ 60) count then refused codes.frame_encoding_error frame_types.max_streams_uni else None
+
 -- why a frame is refused, by the first that fits
 abbrev pub refusal_of : PlainStreams → StreamFrame → Option Refusal
 refusal_of s (coming.Stream id offset payload fin) = or_refusal (id_refusal s id.0 (has_recv s.side id.0) frame_types.stream) (size_refusal s id.0 (offset + length payload) fin frame_types.stream)
@@ -205,8 +209,7 @@ refusal_of s (coming.Reset id code size) = or_refusal (id_refusal s id.0 (has_re
 refusal_of s (coming.Stop id code) = id_refusal s id.0 (has_send s.side id.0) frame_types.stop_sending
 refusal_of s (coming.MaxData limit) = None
 refusal_of s (coming.MaxStreamData id limit) = id_refusal s id.0 (has_send s.side id.0) frame_types.max_stream_data
-refusal_of s (coming.MaxStreams Bi count) = if nat_lt (2 ^ 60) count then refused codes.frame_encoding_error frame_types.max_streams_bidi else None
-refusal_of s (coming.MaxStreams Uni count) = if nat_lt (2 ^ 60) count then refused codes.frame_encoding_error frame_types.max_streams_uni else None
+refusal_of s (coming.MaxStreams dir count) = count_refusal dir count
 
 -- the fault has this code and frame type
 abbrev pub IsRefusal : StreamFault → Option Refusal → Type 0
@@ -265,6 +268,14 @@ pub data IsReceived (old new : PlainStreams) : StreamFrame → Type 0 where
 abbrev pub with_blocked : PlainStreams → (id : ℕ) → WriteFault → PlainStreams
 with_blocked s id Blocked = if write_limit s.send == 0 then record s { blocked = insert_key nat_cmp s.blocked id } else s
 with_blocked s id other = s
+
+-- A write may want memory for bytes that nothing refuses, and to note a writer that the limits which all share refuse.
+abbrev pub MayWantMemory : PlainStreams → (id : ℕ) → Type 0
+MayWantMemory s id = (write_fault_at s.send id ≡ None) ⊎ ((write_fault_at s.send id ≡ Some Blocked) × (write_limit s.send ≡ 0))
+
+-- why a write took nothing: what refuses it, or memory lacks
+abbrev pub IsWriteRefusal : (old new : PlainStreams) → (id : ℕ) → WriteFault → Type 0
+IsWriteRefusal old new id e = ((e ≡ WriteMemory) × MayWantMemory old id × (new ≡ old)) ⊎ ((write_fault_at old.send id ≡ Some e) × (new ≡ with_blocked old id e))
 
 -- none of these may be written
 abbrev pub NoneWritable : PlainStreams → List ℕ → Type 0
@@ -424,20 +435,6 @@ pub record AreShared (old new : PlainStreams) (frames : List SentFrame) : Type 0
   pub sending : NoneWaits old.send ⊎ (list_any is_sending frames ≡ true)
   pub few_before : list_any is_sending frames ≡ true → singles_before frames ≤ 32
 
--- What a call wrote: these frames one after another, with their bytes behind those that stood there.
-pub record IsWrittenBy (room : ℕ) (old new : PlainStreams) (out_old out_new : List ℕ) (sent_old sent_new : List SentFrame) : Type 0 where
-  pub frames : List SentFrame
-  pub bytes : List ℕ
-  pub written : AreWritten room old new frames bytes
-  pub out_is : out_new ≡ out_old ++ bytes
-  pub sent_is : sent_new ≡ sent_old ++ frames
-  pub shared : 600 ≤ room → AreShared old new frames
-
--- these frames were handed over one after another
-pub data AreHanded : (old new : PlainStreams) → List SentFrame → Type 0 where
-  none : (s : PlainStreams) → AreHanded s s []
-  more : (room : ℕ) (old mid new : PlainStreams) (f : SentFrame) (fs : List SentFrame) → IsHandedOver old mid room f → AreHanded mid new fs → AreHanded old new (f ∷ fs)
-
 -- ---- the phases in which a call writes
 
 -- the frames of a phase
@@ -452,6 +449,36 @@ pub data IsOf : Phase → SentFrame → Type 0 where
 abbrev pub AreOf : Phase → List SentFrame → Type 0
 AreOf p [] = Unit {0}
 AreOf p (f ∷ fs) = IsOf p f × AreOf p fs
+
+-- The order of the frames that a call writes: limits of all streams, at most 32 frames of single streams, STREAM and RESET_STREAM
+-- frames, and frames of single streams again.
+pub record AreByKind (frames : List SentFrame) : Type 0 where
+  pub limits : List SentFrame
+  pub first : List SentFrame
+  pub sending : List SentFrame
+  pub last : List SentFrame
+  pub are : frames ≡ ((limits ++ first) ++ sending) ++ last
+  pub no_single : single_count limits ≡ 0
+  pub no_sending : list_any is_sending limits ≡ false
+  pub first_are : AreOf phase.SingleStreams first
+  pub few : length first ≤ 32
+  pub sending_are : AreOf phase.Sending sending
+  pub last_are : AreOf phase.SingleStreams last
+
+-- What a call wrote: these frames one after another, with their bytes behind those that stood there.
+pub record IsWrittenBy (room : ℕ) (old new : PlainStreams) (out_old out_new : List ℕ) (sent_old sent_new : List SentFrame) : Type 0 where
+  pub frames : List SentFrame
+  pub bytes : List ℕ
+  pub written : AreWritten room old new frames bytes
+  pub out_is : out_new ≡ out_old ++ bytes
+  pub sent_is : sent_new ≡ sent_old ++ frames
+  pub shared : 600 ≤ room → AreShared old new frames
+  pub in_order : AreByKind frames
+
+-- these frames were handed over one after another
+pub data AreHanded : (old new : PlainStreams) → List SentFrame → Type 0 where
+  none : (s : PlainStreams) → AreHanded s s []
+  more : (room : ℕ) (old mid new : PlainStreams) (f : SentFrame) (fs : List SentFrame) → IsHandedOver old mid room f → AreHanded mid new fs → AreHanded old new (f ∷ fs)
 
 -- none of them is due
 abbrev pub IsPhaseIdle : Phase → PlainStreams → Type 0

@@ -1,12 +1,11 @@
 ghost use Rattle.std.specs.Prelude.{◌≡◌, ◌⊎◌, take, min, length, true, false, OnOk, OnErr, IfOk, IfErr, IfSome, MatchResult, None, Some, IsSome};
 ghost use Rattle.std.specs.List.{concat};
-ghost use Rattle.qh_half.specs.declared.fault.WriteFault.TheVariants.{Memory as Wanting};
 ghost use Rattle.qh_streams.specs.declared.halves.ChunksState.TheVariants.{Readable};
 ghost use Rattle.qh_streams.specs.Halves.{IsChunk, last_answer, state_after};
 ghost use Rattle.qh_half.specs.Send.{credit, chunks_after, whole_chunks};
 ghost use Rattle.qh_halves.specs.SendHalves.{send_at, write_limit, write_fault_at, finish_fault_at, is_reset_refused_at, half_priority, IsStep, Takes, Finishes, IsResetWith, HasPriority};
 ghost use Rattle.qh_halves.specs.RecvHalves.{IsRecvStep, Begins, Stops, TakesReset, readable_fault_at, is_closed_at, is_credit_due};
-ghost use Rattle.qh_streams.specs.Streams.{counted_closed, is_live, with_blocked, KeepsOut};
+ghost use Rattle.qh_streams.specs.Streams.{counted_closed, is_live, IsWriteRefusal, KeepsOut};
 
 use crate::{ClosedStream, FinishFault, ReadFault, ReadableFault, Streams, WriteFault, Written};
 use bytes::Bytes;
@@ -84,7 +83,7 @@ impl SendHalf<'_> {
         ensures count { IfOk result (λ n. IfSome (send_at self.old.streams.now.send self.old.id.0) (λ h. n ≡ min (length payload.now) (credit h (write_limit self.old.streams.now.send)))) }
         ensures ok { IfOk result (λ n. IsStep (Takes (take n payload.now)) self.old.streams.now.send self.new.streams.now.send self.old.id.0 n × (self.new.streams.now ≡ record self.old.streams.now { send = self.new.streams.now.send })) }
         ensures taken { OnOk result (write_fault_at self.old.streams.now.send self.old.id.0 ≡ None) }
-        ensures fault { IfErr result (λ e. ((e ≡ Wanting) × (self.new.streams.now ≡ self.old.streams.now)) ⊎ ((write_fault_at self.old.streams.now.send self.old.id.0 ≡ Some e) × (self.new.streams.now ≡ with_blocked self.old.streams.now self.old.id.0 e))) }
+        ensures fault { IfErr result (IsWriteRefusal self.old.streams.now self.new.streams.now self.old.id.0) }
     {
         self.streams.write(alloc, self.id, payload)
     }
@@ -102,7 +101,7 @@ impl SendHalf<'_> {
         ensures ok { IfOk result (λ w. IsStep (Takes (take w.bytes (concat chunks.old))) self.old.streams.now.send self.new.streams.now.send self.old.id.0 w.bytes × (self.new.streams.now ≡ record self.old.streams.now { send = self.new.streams.now.send })) }
         ensures chunks { IfOk result (λ w. (chunks.new ≡ chunks_after w.bytes chunks.old) × (w.chunks ≡ whole_chunks w.bytes chunks.old)) }
         ensures taken { OnOk result (write_fault_at self.old.streams.now.send self.old.id.0 ≡ None) }
-        ensures fault { IfErr result (λ e. ((e ≡ Wanting) × (self.new.streams.now ≡ self.old.streams.now)) ⊎ ((write_fault_at self.old.streams.now.send self.old.id.0 ≡ Some e) × (self.new.streams.now ≡ with_blocked self.old.streams.now self.old.id.0 e))) }
+        ensures fault { IfErr result (IsWriteRefusal self.old.streams.now self.new.streams.now self.old.id.0) }
         ensures kept { OnErr result (chunks.new ≡ chunks.old) }
     {
         self.streams.write_chunks(alloc, self.id, chunks)

@@ -5,12 +5,14 @@
 mod fault;
 mod frames;
 mod halves;
+mod items;
 mod laws;
 mod streams;
 
 pub use fault::StreamFault;
 pub use frames::{PeerLimits, SentFrame, StreamEvent, StreamFrame, StreamLimits};
 pub use halves::{Chunks, ChunksState, RecvHalf, SendHalf};
+pub use items::{Item, ItemLog, put_reserved};
 pub use laws::{streams_in_turn, tracked};
 pub use qh_half::{
     ClosedStream, FinishFault, Outgoing, ReadFault, ReadableFault, ResetFrame, WriteFault, Written,

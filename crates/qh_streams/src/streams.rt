@@ -9,6 +9,7 @@ ghost use Rattle.qh_streams.specs.Streams.{counts_of, with_counts, is_two_way, i
 mod calls;
 mod coming;
 mod events;
+mod noting;
 mod opening;
 mod settling;
 mod writing;
@@ -85,6 +86,13 @@ impl Streams {
         ensures { result ≡ self.now.side }
     {
         self.side
+    }
+
+    /// The peer's first limits, as `set_peer` took them.
+    pub fn peer(&self) -> PeerLimits
+        ensures { result ≡ self.now.peer }
+    {
+        self.peer
     }
 
     /// Whether no sending half is there, as `set_peer` asks.

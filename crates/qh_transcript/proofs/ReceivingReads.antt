@@ -166,7 +166,7 @@ module _ (old new : PlainStreams) (came : List Run) (t : List Act) (id : ℕ) (r
   read_stands max answer (end_given some waits at_end e) = end_stands at_end e
   read_stands max answer (reset_given code some is e) = others_stand new came t _ (reset_reads id code) (same_stands (rw e (like_same came id r _ refl refl refl (λ closed. or_right r.is_stopped true refl))))
   read_stands max answer (blocked_read some waits at_end is e) = others_stand new came t _ nothing_read (same_stands (unchanged e))
-  read_stands max answer (memory_read e) = others_stand new came t _ nothing_read (same_stands (unchanged e))
+  read_stands max answer (memory_read wants e) = others_stand new came t _ nothing_read (same_stands (unchanged e))
 
 pub answer_stands : (old new : PlainStreams) (came : List Run) (t : List Act) (id max : ℕ) (answer : Result (Option Chunk) ReadFault) → is_closed_at old.recv id ≡ false
     → IsRecvStep (Reads max answer) old.recv new.recv id 0 → ((k : ℕ) → was_opened new k ≡ was_opened old k) → StandsIn old came t → StandsIn new came (t ++ read_acts id answer)
@@ -180,7 +180,7 @@ offset_is came id t r next max c answer is (nothing_given none e d empty) ordere
 offset_is came id t r next max c answer is (end_given some waits at_end e) ordered more p = cc
 offset_is came id t r next max c answer is (reset_given code some was e) ordered more p = cc
 offset_is came id t r next max c answer is (blocked_read some waits at_end was e) ordered more p = cc
-offset_is came id t r next max c answer is (memory_read e) ordered more p = cc
+offset_is came id t r next max c answer is (memory_read wants e) ordered more p = cc
 
 pub in_order_stands : (old new : PlainStreams) (came : List Run) (t : List Act) (id max : ℕ) (c : Chunk) (r : PlainRecv) → IsRecvStep (Reads max (Ok (Some c))) old.recv new.recv id 0 → recv_at old.recv id ≡ Some r
     → r.is_unordered ≡ false → 0 < length c.bytes → StandsIn old came t → c.offset ≡ length (read t id)

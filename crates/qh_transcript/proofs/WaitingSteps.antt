@@ -81,7 +81,7 @@ read_holds max answer r next (nothing_given none e c empty) = rw e (same_holds r
 read_holds max answer r next (end_given some waits at_end e) = rw e (same_holds r _ refl refl refl)
 read_holds max answer r next (reset_given code some is e) = rw e (same_holds r _ refl refl refl)
 read_holds max answer r next (blocked_read some waits at_end is e) = rw e (same_holds r r refl refl refl)
-read_holds max answer r next (memory_read e) = rw e (same_holds r r refl refl refl)
+read_holds max answer r next (memory_read wants e) = rw e (same_holds r r refl refl refl)
 
 -- ---- a reset that comes
 

@@ -368,7 +368,7 @@ fn send_packet(
     to: &mut StreamsEnd,
 ) -> Result<bool, RowFault> {
     let mut packet = Vec::new(alloc);
-    write_acked(alloc, &mut from.streams, ROOM, &mut packet)?;
+    write_acked(alloc, from, ROOM, &mut packet)?;
     match hand_over(alloc, &packet, to) {
         Ok(()) => Ok(!packet.is_empty()),
         Err(_) => Err(RowFault::Form),
@@ -392,11 +392,12 @@ fn serve_waiting(
     let mut sent = 0u64;
     let mut packets = 0u64;
     for _ in 0..total {
-        if sent >= total {
+        let taken = write_each(alloc, &mut end, &ids);
+        sent = sent.saturating_add(taken);
+        packets = packets.saturating_add(send_all(alloc, &mut end)?);
+        if taken == 0 || sent >= total {
             break;
         }
-        sent = sent.saturating_add(write_each(alloc, &mut end, &ids));
-        packets = packets.saturating_add(send_all(alloc, &mut end)?);
     }
     put(
         out,
@@ -424,7 +425,7 @@ fn send_all(alloc: Global, end: &mut StreamsEnd) -> Result<u64, RowFault> {
     let mut packets = 0u64;
     for _ in 0..u32::MAX {
         let mut packet = Vec::new(alloc);
-        write_acked(alloc, &mut end.streams, ROOM, &mut packet)?;
+        write_acked(alloc, end, ROOM, &mut packet)?;
         if packet.is_empty() {
             break;
         }

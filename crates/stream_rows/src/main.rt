@@ -7,6 +7,7 @@ mod application;
 mod bulk;
 mod calls;
 mod frames;
+mod items;
 mod link;
 mod orders;
 mod packets;

@@ -1,8 +1,11 @@
 //! Two ends with streams and no connection: frames are handed over directly.
+ghost use Rattle.qh_streams.specs.Streams.{AreAllOut};
+
 use crate::answers::{Part, put, put_ok, put_taken, put_text};
 use crate::application::{put_read, put_readable_fault};
 use crate::calls::StreamCalls;
 use crate::frames::{coming, frame_of, piece_of, sent_frame_of};
+use crate::items::put_items;
 use crate::orders::settle;
 use crate::settings::{Settings, dir_of, stream_of};
 use bytes::Bytes;
@@ -11,8 +14,8 @@ use qh_buffers::Chunk;
 use qh_conn::{Event, TakeFault};
 use qh_frame::get_frame;
 use qh_streams::{
-    Chunks, ChunksState, ClosedStream, FinishFault, ReadFault, StreamFault, Streams, WriteFault,
-    Written,
+    Chunks, ChunksState, ClosedStream, FinishFault, ItemLog, ReadFault, SentFrame, StreamFault,
+    StreamFrame, Streams, WriteFault, Written,
 };
 use row_text::{RowFault, Words};
 use std::alloc::Global;
@@ -21,6 +24,7 @@ use std::alloc::Global;
 #[derive(Drop)]
 pub(crate) struct StreamsEnd {
     pub(crate) streams: Streams,
+    log: ItemLog,
 }
 
 impl StreamsEnd {
@@ -29,7 +33,10 @@ impl StreamsEnd {
         if streams.has_no_sender() {
             streams.set_peer(settings.peer());
         }
-        StreamsEnd { streams }
+        StreamsEnd {
+            streams,
+            log: ItemLog::off(),
+        }
     }
 
     // The rows of an end that has no connection.
@@ -46,6 +53,8 @@ impl StreamsEnd {
             "lost" => self.lose(words, out),
             "acked" => self.acknowledge(words, out),
             "again" => self.send_again(words, out),
+            "log" => self.start_log(alloc, out),
+            "items" => self.put_items(alloc, out),
             _ => return self.ask(word, words, out),
         };
         answered?;
@@ -60,7 +69,43 @@ impl StreamsEnd {
         out: &mut Vec<u8>,
     ) -> Result<(), RowFault> {
         let frame = frame_of(alloc, words)?;
-        put_taken(out, &self.streams.received(alloc, frame))
+        put_taken(out, &self.receive(alloc, frame))
+    }
+
+    // A frame comes, and the log keeps what it brings, where it is on.
+    fn receive(&mut self, alloc: Global, frame: StreamFrame) -> Result<(), StreamFault> {
+        let before = self.log.len();
+        self.streams.note(&frame, &mut self.log)?;
+        let received = self.streams.received(alloc, frame);
+        if received.is_err() {
+            self.log.truncate(before);
+        }
+        received
+    }
+
+    // Frames that were sent are acknowledged, and the log keeps what that confirms, where it is on.
+    fn confirm(&mut self, frames: Vec<SentFrame>) -> Result<(), Memory>
+        requires { AreAllOut self.old.streams frames.items }
+    {
+        let mut items = self.log.lend(frames.len())?;
+        self.streams.acked_all(frames, &mut items);
+        self.log.give_back(items);
+        Ok(())
+    }
+
+    // Keeps a log from now on.
+    fn start_log(&mut self, alloc: Global, out: &mut Vec<u8>) -> Result<(), RowFault> {
+        self.log.start(alloc);
+        Streams::note_peer(self.streams.peer(), &mut self.log)?;
+        put_ok(out)
+    }
+
+    // Tells the items that were kept, which are taken.
+    fn put_items(&mut self, alloc: Global, out: &mut Vec<u8>) -> Result<(), RowFault> {
+        match self.log.take(alloc) {
+            Some(items) => put_items(out, &items),
+            None => put_text(out, "off"),
+        }
     }
 
     // A frame that was sent is lost.
@@ -303,7 +348,7 @@ fn send_acked(
     out: &mut Vec<u8>,
 ) -> Result<(), RowFault> {
     let mut packet = Vec::new(alloc);
-    write_acked(alloc, &mut from.streams, room, &mut packet)?;
+    write_acked(alloc, from, room, &mut packet)?;
     put(out, &[Part::Bytes(&packet)])?;
     put_handed(alloc, &packet, to, out)
 }
@@ -311,13 +356,13 @@ fn send_acked(
 // Writes frames, which are acknowledged.
 pub(crate) fn write_acked(
     alloc: Global,
-    from: &mut Streams,
+    from: &mut StreamsEnd,
     room: usize,
     packet: &mut Vec<u8>,
 ) -> Result<(), RowFault> {
     let mut sent = Vec::new(alloc);
-    from.write_frames(room, packet, &mut sent)?;
-    from.acked_all(sent);
+    from.streams.write_frames(room, packet, &mut sent)?;
+    from.confirm(sent)?;
     Ok(())
 }
 
@@ -391,7 +436,7 @@ pub(crate) fn hand_over(
             return Ok(());
         };
         if let Some(frame) = coming(alloc, &frame)? {
-            to.streams.received(alloc, frame)?;
+            to.receive(alloc, frame)?;
         }
         rest = behind;
     }

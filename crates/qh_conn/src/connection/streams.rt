@@ -1,4 +1,4 @@
-ghost use Rattle.std.specs.Prelude.{◌≡◌, ◌⊎◌, ◌++◌, ◌<◌, [], ◌∷◌, ℕ, List, take, min, length, true, false, None, Some, Ok, OnOk, OnErr, IfOk, IfErr, IfSome, IsSome, MatchResult};
+ghost use Rattle.std.specs.Prelude.{◌≡◌, ◌⊎◌, ◌++◌, ◌<◌, [], ◌∷◌, ℕ, List, take, min, length, true, false, None, Some, Ok, OnOk, IsOk, OnErr, IfOk, IfErr, IfSome, IsSome, MatchResult};
 ghost use Rattle.std.specs.List.{concat};
 ghost use Rattle.qh_conn.specs.Follows.{Follows, write_acts, write_chunks_acts, finish_acts, reset_by_acts, stop_acts, take_acts, received_reset_acts};
 ghost use Rattle.qh_conn.specs.Inner.{is_open, with_streams};
@@ -27,6 +27,7 @@ impl<S> Connection<S> {
             × IsOpened self.old.space.streams self.new.space.streams id.0 × (self.new ≡ with_streams self.old self.new.space.streams))) }
         ensures none { IfOk result (λ o. o ≡ None → (self.new ≡ self.old)
             × ((is_open self.old.state ≡ false) ⊎ ((counts_of self.old.space.streams (is_two_way dir)).opened ≡ (counts_of self.old.space.streams (is_two_way dir)).max_opened))) }
+        ensures limited { (is_open self.old.state ≡ false) ⊎ ((counts_of self.old.space.streams (is_two_way dir)).opened ≡ (counts_of self.old.space.streams (is_two_way dir)).max_opened) → IsOk result }
         ensures err { OnErr result (self.new ≡ self.old) }
         ensures follows { (t : List Act) → Follows self.old t → Follows self.new t }
         ensures unwritten { IfOk result (λ o. IfSome o (λ id. (t : List Act) → Follows self.old t → (written t id.0 ≡ []) × (finished t id.0 ≡ false) × (read t id.0 ≡ []))) }
@@ -100,7 +101,7 @@ impl<S> Connection<S> {
         self.inner.space.streams.finish(id)
     }
 
-    /// Gives the stream up, with this code: what waits isn't sent. A finished stream can be reset.
+    /// Resets the stream with this code: what waits isn't sent. A finished stream can be reset.
     pub fn reset(&mut self, id: StreamId, code: VarInt) -> Result<(), ClosedStream>
         ensures ok { OnOk result (IsStep (IsResetWith code) self.old.space.streams.send self.new.space.streams.send id.0 0
             × (self.new ≡ with_streams self.old (record self.old.space.streams { send = self.new.space.streams.send }))) }
@@ -135,9 +136,9 @@ impl<S> Connection<S> {
         self.inner.space.streams.set_priority(id, priority)
     }
 
-    /// Gives bytes of a stream that wait, at most so many, or the end, None, or the reset; in order or not. What was read permits
-    /// the peer as many bytes more. With a length of 0 it gives no bytes, and neither the end nor the reset. For want of memory it
-    /// gives nothing, and all stays as it was.
+    /// Gives bytes of a stream that wait, at most as many as are asked for, or the end, None, or the reset; in order or not. What
+    /// was read permits the peer as many bytes more. With a length of 0 it gives no bytes, and neither the end nor the reset. For
+    /// want of memory it gives nothing, and all stays as it was.
     pub fn read(
         &mut self,
         id: StreamId,

@@ -37,7 +37,7 @@ impl WinnerTree {
         }
     }
 
-    // So many places, at which no stream waits.
+    // A tree of this many places, at which no stream waits.
     fn with_places(alloc: Global, count: usize) -> Result<WinnerTree, Memory>
         ensures places { IfOk result (λ t. length t ≡ count) }
         ensures fits { OnOk result (count < 2 ^ 63) }
@@ -90,8 +90,7 @@ impl WinnerTree {
         }
     }
 
-    /// Takes room for a place where there is none, and then for at least as many again as there are. For want of memory nothing
-    /// changes.
+    /// Takes room for a place where there is none. For want of memory nothing changes.
     pub fn reserve(&mut self, place: usize) -> Result<(), Memory>
         ensures room { OnOk result (place < length self.new) }
         ensures more { length self.old ≤ length self.new }
@@ -104,7 +103,7 @@ impl WinnerTree {
         Ok(())
     }
 
-    // A tree with so many places, where the streams wait at the same ones.
+    // A tree with this many places, where the streams wait at the same ones.
     fn grown(&self, count: usize) -> Result<WinnerTree, Memory>
         requires { length self.now ≤ count }
         ensures places { IfOk result (λ t. length t ≡ count) }

@@ -1,11 +1,11 @@
 ghost use Rattle.std.specs.Prelude.{◌≡◌, ◌⊎◌, ◌||◌, take, min, length, true, false, Ok, Err, OnOk, OnErr, IfOk, IfErr, IfSome, MatchResult, None, Some, IsSome};
 ghost use Rattle.std.specs.List.{concat};
 ghost use Rattle.qh_half.specs.declared.fault.ReadFault.TheVariants.{Memory as Lacking};
-ghost use Rattle.qh_half.specs.declared.fault.WriteFault.TheVariants.{Memory as Wanting};
+ghost use Rattle.qh_half.specs.declared.fault.WriteFault.TheVariants.{Blocked, Memory as Wanting};
 ghost use Rattle.qh_half.specs.Send.{credit, chunks_after, whole_chunks};
 ghost use Rattle.qh_halves.specs.SendHalves.{send_at, write_limit, write_fault_at, finish_fault_at, is_reset_refused_at, half_priority, IsStep, IsAbsent, Takes, Finishes, IsResetWith, HasPriority};
 ghost use Rattle.qh_halves.specs.RecvHalves.{IsRecvStep, Reads, Begins, IsBegunRead, is_wanting, Stops, TakesReset, readable_fault_at, is_closed_at, is_credit_due};
-ghost use Rattle.qh_streams.specs.Streams.{counted_closed, is_live, with_blocked, KeepsOut};
+ghost use Rattle.qh_streams.specs.Streams.{counted_closed, is_live, with_blocked, IsWriteRefusal, KeepsOut};
 
 use crate::{ClosedStream, FinishFault, ReadFault, ReadableFault, Streams, WriteFault, Written};
 use bytes::Bytes;
@@ -26,7 +26,7 @@ impl Streams {
         ensures count { IfOk result (λ n. IfSome (send_at self.old.send id.0) (λ h. n ≡ min (length payload.now) (credit h (write_limit self.old.send)))) }
         ensures ok { IfOk result (λ n. IsStep (Takes (take n payload.now)) self.old.send self.new.send id.0 n × (self.new ≡ record self.old { send = self.new.send })) }
         ensures taken { OnOk result (write_fault_at self.old.send id.0 ≡ None) }
-        ensures fault { IfErr result (λ e. ((e ≡ Wanting) × (self.new ≡ self.old)) ⊎ ((write_fault_at self.old.send id.0 ≡ Some e) × (self.new ≡ with_blocked self.old id.0 e))) }
+        ensures fault { IfErr result (IsWriteRefusal self.old self.new id.0) }
         ensures keeps_out { KeepsOut self.old self.new }
     {
         match self.send.write(alloc, id.0, payload) {
@@ -47,7 +47,7 @@ impl Streams {
         ensures ok { IfOk result (λ w. IsStep (Takes (take w.bytes (concat chunks.old))) self.old.send self.new.send id.0 w.bytes × (self.new ≡ record self.old { send = self.new.send })) }
         ensures chunks { IfOk result (λ w. (chunks.new ≡ chunks_after w.bytes chunks.old) × (w.chunks ≡ whole_chunks w.bytes chunks.old)) }
         ensures taken { OnOk result (write_fault_at self.old.send id.0 ≡ None) }
-        ensures fault { IfErr result (λ e. ((e ≡ Wanting) × (self.new ≡ self.old)) ⊎ ((write_fault_at self.old.send id.0 ≡ Some e) × (self.new ≡ with_blocked self.old id.0 e))) }
+        ensures fault { IfErr result (IsWriteRefusal self.old self.new id.0) }
         ensures kept { OnErr result (chunks.new ≡ chunks.old) }
         ensures keeps_out { KeepsOut self.old self.new }
     {
@@ -59,7 +59,7 @@ impl Streams {
 
     // Notes a writer that is refused for the limits that all share. Answers the fault, or Memory.
     fn refuse(&mut self, id: StreamId, fault: WriteFault) -> WriteFault
-        ensures fault { ((result ≡ Wanting) × (self.new ≡ self.old)) ⊎ ((result ≡ fault) × (self.new ≡ with_blocked self.old id.0 fault)) }
+        ensures fault { ((result ≡ Wanting) × (fault ≡ Blocked) × (write_limit self.old.send ≡ 0) × (self.new ≡ self.old)) ⊎ ((result ≡ fault) × (self.new ≡ with_blocked self.old id.0 fault)) }
         ensures send { self.new.send ≡ self.old.send }
         ensures keeps_out { KeepsOut self.old self.new }
     {
@@ -81,7 +81,7 @@ impl Streams {
         self.send.finish(id.0)
     }
 
-    /// Gives the stream up, with this code: what waits isn't sent. A finished stream can be reset.
+    /// Resets the stream, with this code: what waits isn't sent. A finished stream can be reset.
     pub fn reset(&mut self, id: StreamId, code: VarInt) -> Result<(), ClosedStream>
         ensures ok { OnOk result (IsStep (IsResetWith code) self.old.send self.new.send id.0 0 × (self.new ≡ record self.old { send = self.new.send })) }
         ensures fault { OnErr result ((is_reset_refused_at self.old.send id.0 ≡ true) × (self.new ≡ self.old)) }
@@ -130,7 +130,7 @@ impl Streams {
         self.recv.is_closed(id.0)
     }
 
-    /// Gives bytes of a stream that wait, at most so many, or the end, None, or the reset. With a length of 0 it gives no
+    /// Gives bytes of a stream that wait, at most as many as are asked for, or the end, None, or the reset. With a length of 0 it gives no
     /// bytes, and neither the end nor the reset. What was read permits the peer as many bytes more.
     pub fn next(&mut self, id: StreamId, max_length: usize) -> Result<Option<Chunk>, ReadFault>
         requires { is_closed_at self.old.recv id.0 ≡ false }

@@ -1,8 +1,8 @@
-ghost use Rattle.std.specs.Prelude.{◌≡◌, ◌+◌, ◌<◌, ◌^◌, length, OnErr, OnOk, IfErr, MatchOption, None, true, false};
-ghost use Rattle.qh_streams.specs.declared.frames.StreamFrame.TheVariants.{Stream, Reset, Stop, MaxStreamData, MaxStreams};
+ghost use Rattle.std.specs.Prelude.{◌≡◌, ℕ, IsOk, ◌+◌, ◌<◌, ◌≤◌, ◌^◌, length, OnErr, OnOk, IfErr, MatchOption, None, true, false};
+ghost use Rattle.qh_streams.specs.declared.frames.StreamFrame.TheVariants.{Stream, Reset, Stop, MaxData, MaxStreamData, MaxStreams};
 ghost use Rattle.qh_halves.specs.Counts.{has_send, has_recv};
 ghost use Rattle.qh_spec.specs.FrameTypes as frame_types;
-ghost use Rattle.qh_streams.specs.Streams.{refusal_of, id_refusal, ingest_refusal, size_refusal, was_opened, IsPieceReceived, IsResetReceived, IsRefusal, IsRefusedBy, IsReceived, IsWithinCount, HasUnblocked, KeepsOut};
+ghost use Rattle.qh_streams.specs.Streams.{refusal_of, count_refusal, id_refusal, ingest_refusal, size_refusal, was_opened, IsPieceReceived, IsResetReceived, IsRefusal, IsRefusedBy, IsReceived, IsWithinCount, HasUnblocked, KeepsOut};
 
 use crate::{StreamEvent, StreamFault, StreamFrame, Streams};
 use bytes::Bytes;
@@ -33,6 +33,7 @@ impl Streams {
         ensures ok { OnOk result (IsReceived self.old self.new frame) }
         ensures taken { OnOk result (refusal_of self.old frame ≡ None) }
         ensures fault { IfErr result (λ e. IsRefusedBy e (refusal_of self.old frame)) }
+        ensures free { (limit : ℕ) → frame ≡ MaxData limit → IsOk result }
         ensures err { OnErr result (self.new ≡ self.old) }
         ensures keeps_out { KeepsOut self.old self.new }
     {
@@ -67,9 +68,36 @@ impl Streams {
         ensures ok { OnOk result (refusal_of self.now (Stream id offset payload.now fin) ≡ None) }
         ensures fault { IfErr result (λ e. IsRefusal e (refusal_of self.now (Stream id offset payload.now fin))) }
     {
-        self.check(id, self.reads(id), FrameType::STREAM)?;
+        self.check_id(id, self.reads(id), FrameType::STREAM)?;
         let to = offset.into_inner() + payload.len() as u64;
         self.check_size(id, to, fin, FrameType::STREAM)
+    }
+
+    /// Refuses a frame exactly if it is at fault, as `received` does, and takes no memory for that.
+    pub fn check(&self, frame: &StreamFrame) -> Result<(), StreamFault>
+        ensures ok { OnOk result (refusal_of self.now frame.now ≡ None) }
+        ensures fault { IfErr result (λ e. IsRefusal e (refusal_of self.now frame.now)) }
+    {
+        match frame {
+            StreamFrame::Stream {
+                id,
+                offset,
+                payload,
+                fin,
+            } => self.check_stream(*id, *offset, payload, *fin),
+            StreamFrame::Reset { id, size, .. } => {
+                self.check_id(*id, self.reads(*id), FrameType::RESET_STREAM)?;
+                self.check_size(*id, size.into_inner(), true, FrameType::RESET_STREAM)
+            }
+            StreamFrame::Stop { id, .. } => {
+                self.check_id(*id, self.sends(*id), FrameType::STOP_SENDING)
+            }
+            StreamFrame::MaxData(_) => Ok(()),
+            StreamFrame::MaxStreamData { id, .. } => {
+                self.check_id(*id, self.sends(*id), FrameType::MAX_STREAM_DATA)
+            }
+            StreamFrame::MaxStreams { dir, count } => check_count(*dir, *count),
+        }
     }
 
     // A STREAM frame came.
@@ -87,7 +115,7 @@ impl Streams {
         ensures err { OnErr result (self.new ≡ self.old) }
         ensures keeps_out { KeepsOut self.old self.new }
     {
-        self.check(id, self.reads(id), FrameType::STREAM)?;
+        self.check_id(id, self.reads(id), FrameType::STREAM)?;
         let piece = Chunk {
             offset: offset.into_inner(),
             bytes: payload,
@@ -168,7 +196,7 @@ impl Streams {
         ensures err { OnErr result (self.new ≡ self.old) }
         ensures keeps_out { KeepsOut self.old self.new }
     {
-        self.check(id, self.reads(id), FrameType::RESET_STREAM)?;
+        self.check_id(id, self.reads(id), FrameType::RESET_STREAM)?;
         if self.was_opened(id) {
             self.take_reset(id, code, final_size)
         } else {
@@ -247,7 +275,7 @@ impl Streams {
         ensures err { OnErr result (self.new ≡ self.old) }
         ensures keeps_out { KeepsOut self.old self.new }
     {
-        self.check(id, self.sends(id), FrameType::STOP_SENDING)?;
+        self.check_id(id, self.sends(id), FrameType::STOP_SENDING)?;
         let arrived = self.arrive(alloc, id)?;
         if self.events.try_reserve(self.send.len() + 1).is_err() {
             self.depart(id, arrived);
@@ -272,7 +300,7 @@ impl Streams {
         ensures err { OnErr result (self.new ≡ self.old) }
         ensures keeps_out { KeepsOut self.old self.new }
     {
-        self.check(id, self.sends(id), FrameType::MAX_STREAM_DATA)?;
+        self.check_id(id, self.sends(id), FrameType::MAX_STREAM_DATA)?;
         let arrived = self.arrive(alloc, id)?;
         if self.note_unblocked(id, limit).is_err() {
             self.depart(id, arrived);
@@ -305,14 +333,8 @@ impl Streams {
         ensures err { OnErr result (self.new ≡ self.old) }
         ensures keeps_out { KeepsOut self.old self.new }
     {
+        check_count(dir, count)?;
         let count = count.into_inner();
-        if count > MAX_STREAMS {
-            let frame = match dir {
-                Dir::Bi => FrameType::MAX_STREAMS_BIDI,
-                Dir::Uni => FrameType::MAX_STREAMS_UNI,
-            };
-            return Err(refused(TransportErrorCode::FRAME_ENCODING_ERROR, frame));
-        }
         if self.events.try_reserve(self.send.len() + 1).is_err() {
             return Err(StreamFault::Memory);
         }
@@ -325,7 +347,7 @@ impl Streams {
     }
 
     // Refuses a stream that has no such half, or wasn't opened and can't be.
-    fn check(&self, id: StreamId, has_half: bool, frame: FrameType) -> Result<(), StreamFault>
+    fn check_id(&self, id: StreamId, has_half: bool, frame: FrameType) -> Result<(), StreamFault>
         ensures ok { OnOk result (id_refusal self.now id.0 has_half frame.0 ≡ None) }
         ensures within { OnOk result (IsWithinCount self.now id.0) }
         ensures fault { IfErr result (λ e. IsRefusal e (id_refusal self.now id.0 has_half frame.0)) }
@@ -375,6 +397,22 @@ impl Streams {
     {
         self.is_own(id) || id.dir() == Dir::Bi
     }
+}
+
+// Refuses a count of streams that is too great (RFC 9000, section 19.11).
+fn check_count(dir: Dir, count: VarInt) -> Result<(), StreamFault>
+    ensures ok { OnOk result (count_refusal dir count ≡ None) }
+    ensures small { OnOk result (count ≤ 2 ^ 60) }
+    ensures fault { IfErr result (λ e. IsRefusal e (count_refusal dir count)) }
+{
+    if count.into_inner() <= MAX_STREAMS {
+        return Ok(());
+    }
+    let frame = match dir {
+        Dir::Bi => FrameType::MAX_STREAMS_BIDI,
+        Dir::Uni => FrameType::MAX_STREAMS_UNI,
+    };
+    Err(refused(TransportErrorCode::FRAME_ENCODING_ERROR, frame))
 }
 
 // The offset behind a piece.

@@ -1,4 +1,4 @@
-ghost use Rattle.std.specs.Prelude.{◌≡◌, ◌+◌, ◌-◌, ◌*◌, ◌<◌, ◌^◌, ◌==◌, ◌≤◌, ◌&&◌, if◌then◌else◌, ℕ, OnErr, OnOk, IfOk, IfSome, None, Some, true, false, MatchOption, length, min};
+ghost use Rattle.std.specs.Prelude.{◌≡◌, ◌+◌, ◌-◌, ◌*◌, ◌<◌, ◌^◌, ◌==◌, ◌≤◌, ◌&&◌, if◌then◌else◌, ℕ, OnErr, OnOk, IsOk, IfOk, IfSome, None, Some, true, false, MatchOption, length, min};
 ghost use Rattle.std.specs.Ordering.{nat_cmp};
 ghost use Rattle.std.specs.Map.{keys_of};
 ghost use Rattle.std.specs.List.Sorted.{IsStrictlySortedBy};
@@ -22,6 +22,7 @@ impl Streams {
         ensures some { IfOk result (λ o. IfSome o (λ id. (id.0 ≡ stream_id self.old.side dir (counts_of self.old (is_two_way dir)).opened)
             × ((counts_of self.old (is_two_way dir)).opened < (counts_of self.old (is_two_way dir)).max_opened) × IsOpened self.old self.new id.0)) }
         ensures none { IfOk result (λ o. o ≡ None → ((counts_of self.old (is_two_way dir)).opened ≡ (counts_of self.old (is_two_way dir)).max_opened) × (self.new ≡ self.old)) }
+        ensures limited { (counts_of self.old (is_two_way dir)).opened ≡ (counts_of self.old (is_two_way dir)).max_opened → IsOk result }
         ensures err { OnErr result (self.new ≡ self.old) }
         ensures keeps_out { KeepsOut self.old self.new }
     {
@@ -44,7 +45,7 @@ impl Streams {
     }
 
     // The first limit of the peer on a stream.
-    fn first_limit(&self, id: StreamId) -> VarInt
+    pub(super) fn first_limit(&self, id: StreamId) -> VarInt
         ensures { result ≡ first_limit self.now id.0 }
     {
         match (id.dir(), self.is_own(id)) {

@@ -135,17 +135,6 @@ impl Streams {
         }
     }
 
-    /// Frames are acknowledged, as by `acked`.
-    pub fn acked_all(&mut self, frames: Vec<SentFrame>)
-        requires { AreAllOut self.old frames.items }
-        ensures acked { AreAcked self.old self.new frames.items }
-        ensures keeps_out { KeepsOut self.old self.new }
-    {
-        for frame in frames {
-            self.acked(frame);
-        }
-    }
-
     /// Frames are lost, as by `lost`.
     pub fn lost_all(&mut self, frames: Vec<SentFrame>)
         requires { AreAllOut self.old frames.items }

@@ -14,10 +14,10 @@ use qh_frame::{
 };
 use qh_halves::{AnnouncedLimit, StreamControl, StreamCounts, Transmission};
 
-/// A frame's head is at most so long: type, stream, offset and length (RFC 9000, section 19.8).
+/// The greatest length of a frame's head: type, stream, offset and length (RFC 9000, section 19.8).
 const MAX_FRAME_HEADER: usize = 25;
 
-/// At most so many frames of single streams go before STREAM frames.
+/// The most frames of single streams that go before STREAM frames.
 const MOST_BEFORE: usize = 32;
 
 /// Which frames are written.
@@ -105,7 +105,7 @@ impl Streams {
         self.write_phase(Phase::MaxStreams(Dir::Uni), 1, left, out, sent)
     }
 
-    // Appends frames of a phase, at most so many.
+    // Appends frames of a phase, at most `most`.
     fn write_phase(
         &mut self,
         phase: Phase,

@@ -3,7 +3,7 @@ use Rattle.qh_buffers.specs.declared.assembler.Chunk.{Chunk}
 use Rattle.qh_buffers.specs.Ranges.{has, is_in, front_of, AreApart}
 use Rattle.qh_buffers.specs.Assembler.{PlainAssembler, pieces, run_of, first_of, all_bytes, IsGiven}
 use Rattle.qh_buffers.proofs.ChunkLaws.{none_below}
-use Rattle.qh_buffers.proofs.AssemblerReads.{IsNext, counted, none_ordered, next_at, range_end, read_fits, kept_after, gives, front_piece}
+use Rattle.qh_buffers.proofs.AssemblerReads.{IsNext, counted, none_ordered, next_at, range_end, read_fits, kept_after, gives, front_piece, waits_some, at_err}
 use Rattle.qh_buffers.proofs.assembler.Assembler.read.Goals as goal
 
 pub returns-then-length-eq0-clause-none_ordered : goal.returns-then-length-eq0-clause-none_ordered
@@ -117,3 +117,29 @@ returns-clause-least c = λ _ k low.
     let first : c.args.ordered ≡ false → n ≡ first_of max cs = λ h. rw (← c.self.view_is) at (c.next_length-length.ensures.unordered h) in
     let next : IsNext given cs max c.args.ordered at n = next_at given cs read max c.self.invariant.0 c.args.ordered at n c.front_offset-offset.ensures run first (omega arith) in
     rw (← c.self.view_is) (none_below cs at k next.front.in_order low)
+
+pub returns-in_err-bytes-clause-lacks : goal.returns-in_err-bytes-clause-lacks
+returns-in_err-bytes-clause-lacks c =
+    let given = c.self.inside.given in
+    let cs = pieces c.self.inside.chunks.entries in
+    let read = c.self.inside.bytes_read in
+    let max = c.args.max_length in
+    let n = c.next_length-length.result in
+    let at = c.front_offset-offset.result in
+    let run : c.args.ordered ≡ true → n ≡ run_of (front_of given) max cs = λ h. rw (← c.self.view_is) at (c.next_length-length.ensures.ordered h) in
+    let first : c.args.ordered ≡ false → n ≡ first_of max cs = λ h. rw (← c.self.view_is) at (c.next_length-length.ensures.unordered h) in
+    let next : IsNext given cs max c.args.ordered at n = next_at given cs read max c.self.invariant.0 c.args.ordered at n c.front_offset-offset.ensures run first (omega arith) in
+    at_err c.from_residual.result _ (rw (← c.self.view_is) (waits_some next))
+
+pub returns-in_err-insert-clause-lacks : goal.returns-in_err-insert-clause-lacks
+returns-in_err-insert-clause-lacks c =
+    let given = c.self.inside.given in
+    let cs = pieces c.self.inside.chunks.entries in
+    let read = c.self.inside.bytes_read in
+    let max = c.args.max_length in
+    let n = c.next_length-length.result in
+    let at = c.front_offset-offset.result in
+    let run : c.args.ordered ≡ true → n ≡ run_of (front_of given) max cs = λ h. rw (← c.self.view_is) at (c.next_length-length.ensures.ordered h) in
+    let first : c.args.ordered ≡ false → n ≡ first_of max cs = λ h. rw (← c.self.view_is) at (c.next_length-length.ensures.unordered h) in
+    let next : IsNext given cs max c.args.ordered at n = next_at given cs read max c.self.invariant.0 c.args.ordered at n c.front_offset-offset.ensures run first (omega arith) in
+    at_err c.from_residual-in_err-insert.result _ (rw (← c.self.view_is) (waits_some next))

@@ -1,3 +1,6 @@
+use Rattle.std.proofs.Common.{inl, inr, sym}
+use Rattle.std.proofs.lemmas.Bool.{both_ways}
+use Rattle.qh_conn.specs.Inner.{is_open}
 use Rattle.qh_conn.proofs.OpenCall.{open_go, open_connection, open_follows, open_unwritten}
 use Rattle.qh_conn.proofs.connection.Connection.open.Goals as goal
 
@@ -13,3 +16,9 @@ returns-clause-follows g c = λ t f.
 
 pub returns-clause-unwritten : goal.returns-clause-unwritten
 returns-clause-unwritten g c = rw (← c.self.view_is) (open_unwritten c.self.inside.inner c.open.new.self c.args.dir c.open.result c.if-not-is_open.ensures c.open.ensures.some c.self.invariant)
+
+pub returns-clause-limited : goal.returns-clause-limited
+returns-clause-limited g c = rw (← c.self.view_is) (λ limited. elim limited [
+  | inl closed ↦ absurd (both_ways (is_open c.self.inside.inner.state) closed (sym c.if-not-is_open.ensures))
+  | inr full ↦ c.open.ensures.limited full
+])

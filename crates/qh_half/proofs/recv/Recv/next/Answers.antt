@@ -12,7 +12,7 @@ returns-in-Some c = reset c.in-Some.code (omega arith) (sym c.reset_code.ensures
 pub returns-in_err-piece : goal.returns-in_err-piece
 returns-in_err-piece c =
     let p = err_from_is_err_and c.from_residual.result c.from_residual.ensures.1 in
-    rw (p.1, p.2) (memory c.in_err-piece.ensures.err)
+    rw (p.1, p.2) (memory (record { asked = omega arith; not_reset = sym c.reset_code.ensures ∙ c.in_default.is; waits = c.in_err-piece.ensures.lacks }) c.in_err-piece.ensures.err)
 
 pub returns-in-Some-2 : goal.returns-in-Some-2
 returns-in-Some-2 c = bytes c.in-Some-2.piece (omega arith) (rw c.in-Some-2.is at c.in_ok-piece.ensures.ok)

@@ -9,7 +9,7 @@ pub returns-then-is_wanting-clause-memory : goal.returns-then-is_wanting-clause-
 returns-then-is_wanting-clause-memory c = λ wanting.
     let half = c.in-Some.ensures in
     let written = c.get_mut.follows.holds c.read-result.new.self in
-    let same = same_written _ c.args.id _ _ (sym half.value) _ written.0 (c.read-result.ensures.memory wanting) in
+    let same = same_written _ c.args.id _ _ (sym half.value) _ written.0 (c.read-result.ensures.memory wanting).0 in
     rw (← c.self.view_is, same) refl
 
 pub overflow_sub-after : goal.overflow_sub-after
@@ -36,10 +36,10 @@ returns-then-is_wanting-clause-answer c =
     let half = c.in-Some.ensures in
     let written = c.get_mut.follows.holds c.read-result.new.self in
     let wanting = c.is_wanting.ensures.yes c.if-is_wanting.true in
-    let same = same_written _ c.args.id _ _ (sym half.value) _ written.0 (c.read-result.ensures.memory wanting) in
+    let same = same_written _ c.args.id _ _ (sym half.value) _ written.0 (c.read-result.ensures.memory wanting).0 in
     rw (← c.self.view_is, same)
     (unbegun_read _ _ c.args.id c.args.max_length c.args.ordered c.read-result.result c.in-Some.half.now (omega (arith, c.self.ranges)) (c.self.invariant.undone c.args.id c.in-Some.half.now (sym half.value))
-    (sym half.value) refl wanting)
+    (sym half.value) (c.read-result.ensures.memory wanting).1 refl wanting)
 
 pub returns-clause-answer : goal.returns-clause-answer
 returns-clause-answer c =

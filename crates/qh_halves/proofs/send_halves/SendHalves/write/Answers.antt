@@ -1,6 +1,6 @@
-use Rattle.std.proofs.Common.{◌≡◌, ◌≤◌, length, take, refl, sym, ◌∙◌, arith, to_z, of_z, w32, rules}
+use Rattle.std.proofs.Common.{◌≡◌, ◌≤◌, length, take, refl, sym, ap, ◌∙◌, arith, to_z, of_z, w32, rules}
 use Rattle.std.proofs.lemmas.Result.{err_from_is_err_and}
-use Rattle.qh_halves.specs.SendHalves.{Takes}
+use Rattle.qh_halves.specs.SendHalves.{Takes, write_limit}
 use Rattle.qh_halves.proofs.HalvesStepped.{put_stepped, room_for, same_again, spans_stay, is_step}
 use Rattle.qh_halves.proofs.HalfSteps.{write_goes, write_holds, write_spans}
 use Rattle.qh_halves.proofs.send_halves.SendHalves.write.Goals as goal
@@ -41,3 +41,8 @@ returns-clause-spans c k frame span =
     rw (c.get_mut.follows.holds c.write.new.self).0
     (spans_stay c.self.inside c.self.invariant c.args.id c.in-Some.half.now c.write.new.self c.in-Some.ensures.value
     (write_spans c.in-Some.half.now c.write.new.self _ c.in_ok-bytes.ensures.ok.1) k frame (rw (sym c.self.view_is) at span))
+
+pub returns-in_err-bytes-clause-fault : goal.returns-in_err-bytes-clause-fault
+returns-in_err-bytes-clause-fault c =
+    let p = err_from_is_err_and c.from_residual.result c.from_residual.ensures.1 in
+    rw (p.1, p.2, sym c.self.view_is, sym c.in-Some.ensures.value) (rw (c.write_limit-limit.ensures ∙ ap write_limit (sym c.self.view_is)) at c.in_err-bytes.ensures.fault)

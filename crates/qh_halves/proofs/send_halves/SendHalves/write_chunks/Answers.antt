@@ -1,7 +1,7 @@
-use Rattle.std.proofs.Common.{◌≡◌, ◌≤◌, length, take, refl, sym, ◌∙◌, arith, to_z, of_z, w32, rules}
+use Rattle.std.proofs.Common.{◌≡◌, ◌≤◌, length, take, refl, sym, ap, ◌∙◌, arith, to_z, of_z, w32, rules}
 use Rattle.std.specs.List.{concat}
 use Rattle.std.proofs.lemmas.Result.{err_from_is_err_and}
-use Rattle.qh_halves.specs.SendHalves.{Takes}
+use Rattle.qh_halves.specs.SendHalves.{Takes, write_limit}
 use Rattle.qh_halves.proofs.HalvesStepped.{put_stepped, room_for, same_again, is_step}
 use Rattle.qh_halves.proofs.HalfSteps.{write_goes, write_holds}
 use Rattle.qh_halves.proofs.send_halves.SendHalves.write_chunks.Goals as goal
@@ -37,3 +37,8 @@ returns-clause-ok c =
     rw (sym c.self.view_is)
     (is_step c.self.inside c.self.invariant c.args.id c.in-Some.half.now c.write_chunks.new.self c.in-Some.ensures.value (Takes (take c.in_ok-written.written.bytes (concat c.args.chunks.now))) _ _ c.in_ok-written.written.bytes
     (c.get_mut.follows.holds c.write_chunks.new.self).0 refl taken (write_goes c.in-Some.half.now c.write_chunks.new.self _ _ c.in_ok-written.ensures.open taken).undone)
+
+pub returns-in_err-written-clause-fault : goal.returns-in_err-written-clause-fault
+returns-in_err-written-clause-fault c =
+    let p = err_from_is_err_and c.from_residual.result c.from_residual.ensures.1 in
+    rw (p.1, p.2, sym c.self.view_is, sym c.in-Some.ensures.value) (rw (c.write_limit-limit.ensures ∙ ap write_limit (sym c.self.view_is)) at c.in_err-written.ensures.fault)
