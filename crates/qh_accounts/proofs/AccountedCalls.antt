@@ -27,7 +27,7 @@ use Rattle.qh_accounts.proofs.AccountedLike.{AreRecvUndone, AreSendUndone, IsNea
 use Rattle.qh_accounts.proofs.AccountedSteps.{AreSendSame, AreRecvSame, AreRecvStepped, alike, begin_keeps, read_stepped, recv_kept, recv_stepped, same_recv, same_send, send_same_stepped, step_same, stepped}
 use Rattle.qh_accounts.proofs.PeerIds.{counts_now}
 
--- ---- where the halves are the same
+-- ---- if the halves are the same
 
 pub record HasSameHalves (old new : PlainStreams) : Type 0 where
   pub side_is : new.side ≡ old.side

@@ -1,4 +1,4 @@
--- What carries the account of the peer's streams on: where no stream came or closed, where one closed, and where some came.
+-- What carries the account of the peer's streams on: if no stream came or closed, if one closed, and if some came.
 use Rattle.std.proofs.Common.{◌≡◌, ◌⊎◌, ℕ, ◌+◌, ◌-◌, ◌<◌, ◌≤◌, ◌^◌, ◌==◌, min, Bool, true, false, ◌&&◌, not, Some, refl, sym, ap, ◌∙◌, arith, inl, inr}
 use Rattle.std.proofs.lemmas.Bool.{false≢true, cases_Bool, eqb-true}
 use Rattle.qh_spec.specs.declared.sides.Dir.{Dir}

@@ -49,7 +49,7 @@ same_send e undone = record { same = λ k. rw e refl; undone = λ k h is. undone
 pub send_same_stepped : {old new : PlainSendHalves} (id : ℕ) → AreSendSame old new → AreSendStepped old new id
 send_same_stepped id s = record { here = λ there. sym (s.same id) ∙ there; away = λ k apart. s.same k; undone = s.undone }
 
--- where one half is another now, or gone, none is done
+-- if one half is another now, or gone, none is done
 other_undone : (f g : ℕ → Option PlainSend) (o : Option PlainSend) (h : PlainSend) (id k : ℕ) → ((j : ℕ) (i : PlainSend) → f j ≡ Some i → is_send_done i ≡ false) → (o ≡ Some h → is_send_done h ≡ false)
     → g k ≡ (if k == id then o else f k) → g k ≡ Some h → is_send_done h ≡ false
 other_undone f g o h id k undone here is there = elim (cases_Bool (k == id)) [

@@ -196,7 +196,7 @@ lost_all_no_more M again old new fs (more_lost _ mid _ front f before lost) = λ
 
 -- ---- frames that are acknowledged
 
--- each byte of a frame stands in one of these frames, where its stream has a half that isn't reset
+-- each byte of a frame stands in one of these frames, if its stream has a half that isn't reset
 abbrev pub AreKnown : PlainSendHalves → (f : SentFrame) → List SentFrame → Type 0
 AreKnown s f fs = (id n : ℕ) (h : PlainSend) → send_at s id ≡ Some h → is_reset h.state ≡ false → HasByte id n f → OneIs (HasByte id n) fs
 

@@ -46,7 +46,7 @@ goes_no_more M old new goes gains k n w =
 pub halves_no_more : (M : Option Mark → Bool) (old new : PlainSendHalves) → new.halves ≡ old.halves → NoMore M old new
 halves_no_more M old new e id n w = record { half = w.half; is = rw e at w.is; sent = w.sent }
 
--- where the bytes stay and the half was reset afterwards if it was before
+-- if the bytes stay, and the half was reset afterwards exactly if it was before
 pub same_gains : (M : Option Mark → Bool) (h next g : PlainSend) → next ≡ g → is_reset g.state ≡ is_reset h.state → ((n : ℕ) → mark_at g.buffer n ≡ mark_at h.buffer n) → GainsNothing M h next
 same_gains M h next g e state_is marks n c =
     let live : is_reset next.state ≡ is_reset g.state = ap (λ (x : PlainSend). is_reset x.state) e in

@@ -68,7 +68,7 @@ below_carried id n [] one = absurd one
 below_carried id n (f ∷ fs) (inl has) = let low = (carries id f).below n has in omega (arith, low)
 below_carried id n (f ∷ fs) (inr one) = let low = below_carried id n fs one in omega (arith, low)
 
--- where each byte before one that is carried is carried too
+-- if each byte before one that is carried is carried too
 pub carried_before : (fs : List SentFrame) (id n : ℕ) → ((id n k : ℕ) → OneIs (HasByte id n) fs → k ≤ n → OneIs (HasByte id k) fs) → (n < carried_to id fs → OneIs (HasByte id n) fs) × (OneIs (HasByte id n) fs → n < carried_to id fs)
 carried_before fs id n front = (
   λ low. front id (carried_to id fs - 1) n (last_carried id fs (omega (arith, low))) (omega (arith, low)),

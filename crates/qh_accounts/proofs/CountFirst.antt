@@ -1,4 +1,4 @@
--- How many of the first numbers pass a test, where the test changes.
+-- How many of the first numbers pass a test, when the test changes.
 use Rattle.std.proofs.Common.{◌≡◌, ℕ, zero, suc, ◌+◌, ◌<◌, ◌≤◌, ◌==◌, Bool, true, false, refl, ap, ◌∙◌, arith, inl, inr}
 use Rattle.std.proofs.lemmas.Bool.Decides.{eqb_tells}
 use Rattle.qh_accounts.specs.Accounts.{count_first}

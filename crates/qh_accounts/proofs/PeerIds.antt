@@ -58,7 +58,7 @@ other_index_apart Client Uni n m apart = grind (arith, apart)
 other_index_apart Server Bi n m apart = grind (arith, apart)
 other_index_apart Server Uni n m apart = grind (arith, apart)
 
--- the counts of a direction, where those of one direction are others now
+-- the counts of a direction, if those of one direction are others now
 pub counts_now : (s : PlainStreams) (a b : Bool) (c : StreamCounts) → ((b ≡ a) × (counts_of (with_counts s a c) b ≡ c)) ⊎ ((b ≡ a → ⊥) × (counts_of (with_counts s a c) b ≡ counts_of s b))
 counts_now s true true c = inl (refl, refl)
 counts_now s false false c = inl (refl, refl)

@@ -24,7 +24,7 @@ ghost use Rattle.qh_accounts.specs.Accounts.{AreAccounted, is_live_at};
 ghost use Rattle.qh_accounts.specs.Carried.{AreCarried, carried_to};
 
 /// Numbers without a gap are one range: ranges that stand apart and have exactly the numbers from a start on to before an end are that
-/// range alone, and no range where they have no number.
+/// range alone, and no range if they have no number.
 pub fn one_range()
     ensures none { (rs : List PlainRange) → AreApart 0 rs → ((k : ℕ) → has rs k ≡ false) → rs ≡ [] }
     ensures one { (rs : List PlainRange) (start end : ℕ) → AreApart 0 rs → start < end

@@ -4,7 +4,7 @@ use Rattle.std.specs.Prelude.{OnErr}
 use Rattle.std.proofs.lemmas.Bool.{cases_lt, cases_Bool, both_ways, false≢true, or_cases}
 use Rattle.qh_buffers.specs.declared.assembler.Chunk.{Chunk}
 use Rattle.qh_buffers.specs.Ranges.{PlainRange, is_in, has, count_of, front_of, AreApart}
-use Rattle.qh_buffers.specs.Assembler.{byte_in, waits_in, chunk_at, all_bytes, run_of, first_of, after_front, is_over, AreInOrder, IsKept, IsGiven, IsFrontPiece, HasNothing}
+use Rattle.qh_buffers.specs.Assembler.{byte_in, waits_in, chunk_at, all_bytes, run_of, first_of, after_front, is_over, AreInOrder, IsKept, IsGiven, IsFrontPiece, HasNext}
 use Rattle.qh_buffers.proofs.RangeLaws.{inside, before, behind}
 use Rattle.qh_buffers.proofs.RangeCounts.{count_added, front_has, in_start, in_end}
 use Rattle.qh_buffers.proofs.ChunkLaws.{none_below, order_lower, waits_at, inside as byte_inside}
@@ -156,9 +156,14 @@ module _ (given : List PlainRange) (cs : List Chunk) (read max : ℕ) (kept : Is
         longest = rw size (next.longest h);
       }
 
--- a read that gives a byte finds one that waits
-pub waits_some : {given : List PlainRange} {cs : List Chunk} {max at n : ℕ} {ordered : Bool} → IsNext given cs max ordered at n → HasNothing (record { given = given; chunks = cs }) → ⊥
-waits_some {at = at} next none = false≢true (sym (ap is_some (none at)) ∙ next.front.waits at (omega arith) (omega (arith, next.some)))
+-- a read that gives a byte finds it
+pub finds_next : {given : List PlainRange} {cs : List Chunk} {max at n : ℕ} {ordered : Bool} → IsNext given cs max ordered at n → HasNext (record { given = given; chunks = cs }) ordered
+finds_next {given = given} {cs = cs} {at = at} next =
+    let here = next.front.waits at (omega arith) (omega (arith, next.some)) in
+    record {
+      waits = λ none. false≢true (sym (ap is_some (none at)) ∙ here);
+      next = λ ordered none. false≢true (sym (ap is_some none) ∙ ap (λ (k : ℕ). is_some (byte_in cs k)) (sym (next.from_front ordered)) ∙ here);
+    }
 
 pub at_err : {T E : Type 0} (r : Result T E) (P : Type 0) → P → OnErr r P
 at_err (Ok x) P p = tt

@@ -1,6 +1,7 @@
 -- Pieces that stand in order: at which offsets their bytes are, and what a cut of the list leaves.
-use Rattle.std.proofs.Common.{◌≡◌, ℕ, zero, suc, ◌-◌, ◌<◌, ◌≤◌, true, ◌||◌, List, [], ◌∷◌, ◌++◌, length, get_or, Option, Some, None, is_some, refl, sym, ap, ◌∙◌, arith}
+use Rattle.std.proofs.Common.{◌≡◌, ℕ, zero, suc, ◌-◌, ◌<◌, ◌≤◌, ◌^◌, true, ◌||◌, List, [], ◌∷◌, ◌++◌, length, get_or, take, drop, Option, Some, None, is_some, refl, sym, ap, ◌∙◌, subst, arith}
 use Rattle.std.proofs.lemmas.Bool.{lt-ltb, le-ltb, or_right}
+use Rattle.std.proofs.lemmas.List.{take-append-drop}
 use Rattle.std.proofs.lemmas.Option.{slice_get-get_or, slice_get_past}
 use Rattle.qh_buffers.specs.declared.assembler.Chunk.{Chunk}
 use Rattle.qh_buffers.specs.Assembler.{byte_of, byte_in, or_byte, end_of, waits_in, end_behind, chunk_at, AreInOrder}
@@ -60,9 +61,21 @@ pub order_join : (cs ds : List Chunk) (low : ℕ) → AreInOrder low cs → AreI
 order_join [] ds low order rest = rest
 order_join (c ∷ cs) ds low order rest = (order.0, order.1, order.2, order_join cs ds (end_of c) order.3 rest)
 
+pub order_take : (cs : List Chunk) (i low : ℕ) → AreInOrder low cs → AreInOrder low (take i cs)
+order_take cs i low order =
+    order_front (take i cs) (drop i cs) low (subst (λ (ds : List Chunk). AreInOrder low ds) (sym (take-append-drop i cs)) order)
+
 pub order_lower : (cs : List Chunk) (low low' : ℕ) → low ≤ low' → AreInOrder low' cs → AreInOrder low cs
 order_lower [] low low' h order = tt
 order_lower (c ∷ cs) low low' h order = (omega (arith, order.0), order.1, order.2, order.3)
+
+-- the piece at an index
+pub order_at : (cs : List Chunk) (i low : ℕ) → AreInOrder low cs → i < length cs → (low ≤ (chunk_at cs i).offset) × (0 < length (chunk_at cs i).bytes) × (end_of (chunk_at cs i) < 2 ^ 62)
+order_at [] i low order h = absurd (omega arith)
+order_at (c ∷ cs) zero low order h = (order.0, order.1, order.2)
+order_at (c ∷ cs) (suc i) low order h =
+    let later = order_at cs i (end_of c) order.3 (omega arith) in
+    (omega (arith, order.0, later.0), later.1, later.2)
 
 pub waits_at : (cs : List Chunk) (i k : ℕ) → i < length cs → (chunk_at cs i).offset ≤ k → k < end_of (chunk_at cs i) → waits_in cs k ≡ true
 waits_at [] i k h low high = absurd (omega arith)

@@ -1,9 +1,11 @@
 -- What putting parts among pieces gives, where no byte waits in both.
-use Rattle.std.proofs.Common.{◌≡◌, ◌⊎◌, ℕ, ◌≤◌, List, [], ◌∷◌, ◌++◌, Option, None, sym, ap, ◌∙◌, arith, inl, inr}
+use Rattle.std.proofs.Common.{◌≡◌, ◌⊎◌, ℕ, ◌<◌, ◌≤◌, ◌^◌, false, List, [], ◌∷◌, ◌++◌, length, Option, None, is_some, sym, ap, ◌∙◌, arith, inl, inr}
 use Rattle.std.proofs.lemmas.Bool.{cases_lt, or_right}
 use Rattle.qh_buffers.specs.declared.assembler.Chunk.{Chunk}
-use Rattle.qh_buffers.specs.Assembler.{byte_in, or_byte, waits_in, end_behind, AreInOrder, AreExclusive, AreMerged}
-use Rattle.qh_buffers.proofs.ChunkLaws.{before, or_assoc, in-append, waits-append, none_below, none_behind, order_front, order_rest, order_lower}
+use Rattle.qh_buffers.specs.Ranges.{PlainRange, has}
+use Rattle.qh_buffers.specs.Assembler.{byte_of, byte_in, or_byte, end_of, waits_in, end_behind, AreInOrder, AreExclusive, AreMerged, IsAmong}
+use Rattle.qh_buffers.proofs.ChunkLaws.{before, behind, or_none, or_assoc, in-append, waits-append, none_below, none_behind, order_front, order_rest, order_join, order_lower}
+use Rattle.qh_buffers.proofs.ChunkParts.{missing_none, fresh}
 use Rattle.qh_buffers.proofs.StoredPieces.{waits_not}
 
 -- while the parts are put among the pieces, from the first on
@@ -46,3 +48,28 @@ behind_exclusive cs new order ends k h =
       | inl below ↦ absurd (waits_not (new ∷ []) k h (rw (before new k below)))
       | inr above ↦ none_behind cs 0 k order (omega arith)
     ]
+
+-- a piece behind all that was given and all that waits
+pub behind_among : (given : List PlainRange) (cs : List Chunk) (new : Chunk) → AreInOrder 0 cs → 0 < length new.bytes → end_of new < 2 ^ 62 → ((k : ℕ) → new.offset ≤ k → has given k ≡ false) → end_behind 0 cs ≤ new.offset
+    → IsAmong given cs new (cs ++ new ∷ [])
+behind_among given cs new order some fits lacks ends = record {
+  in_order = order_join cs (new ∷ []) 0 order (ends, some, fits, tt);
+  bytes_are = λ k. in-append cs (new ∷ []) k ∙ ap (or_byte (byte_in cs k)) (elim (cases_lt k new.offset) [
+    | inl below ↦ or_none (byte_of new k) ∙ before new k below ∙ sym (missing_none given cs new fits k (before new k below))
+    | inr above ↦
+        let none : byte_in cs k ≡ None = none_behind cs 0 k order (omega arith) in
+        or_none (byte_of new k) ∙ sym (fresh given cs new fits k (lacks k above) (ap (λ (o : Option ℕ). is_some o) none))
+  ]);
+}
+
+-- a piece without a byte
+pub none_among : (given : List PlainRange) (cs : List Chunk) (new : Chunk) → AreInOrder 0 cs → end_of new < 2 ^ 62 → length new.bytes ≡ 0 → IsAmong given cs new cs
+none_among given cs new order fits empty = record {
+  in_order = order;
+  bytes_are = λ k.
+      let none : byte_of new k ≡ None = elim (cases_lt k new.offset) [
+        | inl below ↦ before new k below
+        | inr above ↦ behind new k (omega arith)
+      ] in
+      sym (ap (or_byte (byte_in cs k)) (missing_none given cs new fits k none) ∙ or_none (byte_in cs k));
+}

@@ -14,6 +14,7 @@ pub mod PairedLists
 pub mod PairedRanges
 pub mod PieceSteps
 pub mod Pieces
+pub mod QueuedChunks
 pub mod QueuedPieces
 pub mod RangeCounts
 pub mod RangeEdits

@@ -19,7 +19,7 @@ use Rattle.qh_buffers.specs.Ranges.{kept}
 use Rattle.qh_buffers.proofs.ChunkParts.{part_inside, part_order, part_end}
 use Rattle.qh_buffers.proofs.ChunkLaws.{inside, before, behind, or_none, or_assoc, some_or, in-append, none_below, order_join, order_lower}
 
-abbrev Entry : Type 0
+abbrev pub Entry : Type 0
 Entry = ℕ × List ℕ
 
 abbrev pub piece_of : ℕ × List ℕ → Chunk
@@ -145,13 +145,13 @@ twice e es p k fits apart low high low' high' =
     let none = or_parts (byte_of (piece_of e) k) (byte_in (pieces es) k) (apart k (waits_one p k low' high')) in
     none-some _ (sym none.0 ∙ inside (piece_of e) k low (omega arith))
 
-abbrev put : List Entry → Chunk → List Entry
+abbrev pub put : List Entry → Chunk → List Entry
 put es p = insert_entry nat_cmp es (end_of p) p.bytes
 
 put_before : (e : Entry) (es : List Entry) (p : Chunk) → end_of p < e.0 → put (e ∷ es) p ≡ (end_of p, p.bytes) ∷ e ∷ es
 put_before e es p h = ap (λ (o : Ordering). match_ordering o ((end_of p, p.bytes) ∷ e ∷ es) ((e.0, p.bytes) ∷ es) (e ∷ put es p)) (less_is (end_of p) e.0 h)
 
-put_behind : (e : Entry) (es : List Entry) (p : Chunk) → e.0 < end_of p → put (e ∷ es) p ≡ e ∷ put es p
+pub put_behind : (e : Entry) (es : List Entry) (p : Chunk) → e.0 < end_of p → put (e ∷ es) p ≡ e ∷ put es p
 put_behind e es p h = ap (λ (o : Ordering). match_ordering o ((end_of p, p.bytes) ∷ e ∷ es) ((e.0, p.bytes) ∷ es) (e ∷ put es p)) (greater_is (end_of p) e.0 h)
 
 pub record IsPut (low : ℕ) (es new : List Entry) (p : Chunk) : Type 0 where

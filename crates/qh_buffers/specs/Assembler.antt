@@ -71,6 +71,11 @@ IsLeastPiece old c = (k : ℕ) → k < c.offset → to_give old k ≡ None
 abbrev pub HasNothing : PlainAssembler → Type 0
 HasNothing v = (k : ℕ) → to_give v k ≡ None
 
+-- what a read may give waits: in order the next byte, otherwise some byte
+pub record HasNext (v : PlainAssembler) (ordered : Bool) : Type 0 where
+  pub waits : HasNothing v → ⊥
+  pub next : ordered ≡ true → to_give v (read_to v) ≡ None → ⊥
+
 -- What follows are words of what an assembler keeps, and of the private functions.
 
 -- the offset behind a piece
@@ -91,6 +96,12 @@ pieces es = map (λ (e : ℕ × List ℕ). record { offset = e.0 - length e.1; b
 abbrev pub AreStored : ℕ → List (ℕ × List ℕ) → Type 0
 AreStored low [] = Unit {0}
 AreStored low (e ∷ es) = (low + length e.1 ≤ e.0) × (0 < length e.1) × (e.0 < 2 ^ 62) × AreStored e.0 es
+
+-- the pieces that wait stand in order in a queue or in a map, and one of the two is empty
+pub record AreQueuedOrStored (queue : List Chunk) (es : List (ℕ × List ℕ)) : Type 0 where
+  pub in_order : AreInOrder 0 queue
+  pub stored : AreStored 0 es
+  pub one : (queue ≡ []) ⊎ (es ≡ [])
 
 -- a byte waits at the offset
 abbrev pub waits_in : List Chunk → ℕ → Bool

@@ -1,15 +1,16 @@
 ghost use Rattle.std.specs.Prelude.{◌≡◌, ℕ, ◌+◌, ◌<◌, ◌≤◌, ◌^◌, length, None, true, false, OnOk, OnErr, IfOk, MatchOption};
-ghost use Rattle.qh_buffers.specs.Assembler.{empty_assembler, read_to, to_give, was_given, run_of, first_of, end_of, IsInserted, IsGiven, IsFrontPiece, IsLeastPiece, HasNothing};
+ghost use Rattle.qh_buffers.specs.Assembler.{empty_assembler, read_to, to_give, was_given, run_of, first_of, end_of, IsInserted, IsGiven, IsFrontPiece, IsLeastPiece, HasNext, HasNothing};
 ghost use Rattle.qh_buffers.specs.Ranges.{count_of, front_of};
 
 use crate::RangeSet;
 use bytes::Bytes;
 use qh_base::Memory;
 use std::alloc::Global;
-use std::collections::BTreeMap;
 use std::marker::Model;
 
 mod chunks;
+mod map;
+mod queue;
 
 /// A piece of a stream, and where it begins.
 #[derive(Drop)]
@@ -32,9 +33,17 @@ impl Chunk {
 
 /// The bytes of a stream that came and wait to be read.
 ///
-/// Each piece that waits costs more than its bytes: up to about 125 bytes of the map's nodes (an entry takes 48, and every node
-/// but the root is at least 7 of 15 full), and, unless another piece shares its buffer, the two allocations of a `Bytes`: the
-/// buffer itself, and 32 bytes that count its owners. What the allocator adds to an allocation isn't counted.
+/// As long as each piece begins behind all that came before it, the pieces stand in a queue, and one is put in or taken out in
+/// constant time. A piece that doesn't, since it fills a gap or came before, moves them all into a map, which costs the logarithm
+/// of how many wait for each of them, and it is put there itself. So are those that come after it, until reads have taken out all
+/// that wait: then a queue begins again. A piece is moved once at most.
+///
+/// Each piece that waits costs more than its bytes. In the queue it takes 48 bytes. The room of the queue doubles when it is full,
+/// and a read that leaves three quarters of it unused gives back all but twice what the pieces take, unless the room is for at
+/// most 64 pieces: so it is at most four times what the pieces take, or that of 64. In the map a piece takes up to about 125 bytes
+/// of the nodes (an entry takes 48, and every node but the root is at least 7 of 15 full). While pieces are moved into the map the
+/// queue stands too. Unless another piece shares its buffer there are the two allocations of a `Bytes` as well: the buffer itself,
+/// and 32 bytes that count its owners. What the allocator adds to an allocation isn't counted.
 ///
 /// A piece that comes whole isn't copied. Of one that is cut, since some of its bytes came or were given before, a part of at
 /// least half its length stays a slice of its buffer, and a lesser part is copied: so what waits keeps at most twice its bytes.
@@ -47,19 +56,17 @@ pub struct Assembler {
     alloc: Global,
     given: RangeSet,
     bytes_read: u64,
-    /// The pieces that wait, by the offset behind the last byte: a read that takes a part of the first piece cuts it in place, so
-    /// that it takes no memory and can't fail halfway.
-    chunks: BTreeMap<u64, Bytes>,
+    chunks: chunks::Chunks,
 }
 
 impl Model for Assembler {
-    ghost use Rattle.qh_buffers.specs.Assembler.{PlainAssembler, pieces, AreStored, IsKept};
+    ghost use Rattle.qh_buffers.specs.Assembler.{PlainAssembler, IsKept};
 
     ghost Value = { PlainAssembler };
 
-    ghost view = { λ s. record { given = s.given; chunks = pieces s.chunks.entries } };
+    ghost view = { λ s. record { given = s.given; chunks = s.chunks } };
 
-    ghost invariant = { λ s. IsKept s.given (pieces s.chunks.entries) s.bytes_read × AreStored 0 s.chunks.entries };
+    ghost invariant = { λ s. IsKept s.given s.chunks s.bytes_read };
 }
 
 impl Assembler {
@@ -71,7 +78,7 @@ impl Assembler {
             alloc,
             given: RangeSet::new(alloc),
             bytes_read: 0,
-            chunks: BTreeMap::new(alloc),
+            chunks: chunks::Chunks::new(alloc),
         }
     }
 
@@ -97,8 +104,9 @@ impl Assembler {
         let _ = &self.given;
     }
 
-    /// Keeps the bytes of a piece that didn't come before. Of those that came before the first ones stay. Each part that is put
-    /// in, and each piece or given range that it is cut at, costs the logarithm of how many there are.
+    /// Keeps the bytes of a piece that didn't come before. Of those that came before the first ones stay. A piece behind all that
+    /// came costs constant time while a queue is kept. Each part that is put into the map, and each piece or given range that it
+    /// is cut at, costs the logarithm of how many there are, and so does each piece of a queue that is moved into the map for it.
     pub fn insert(&mut self, offset: u64, payload: Bytes) -> Result<(), Memory>
         requires { offset + length payload < 2 ^ 62 }
         ensures ok { OnOk result (IsInserted self.old self.new (record { offset = offset; bytes = payload })) }
@@ -108,13 +116,13 @@ impl Assembler {
             offset,
             bytes: payload,
         };
-        chunks::insert(self.alloc, &self.given, &mut self.chunks, new)
+        self.chunks.insert(self.alloc, &self.given, new)
     }
 
-    /// Gives bytes that wait, at most as many as are asked for; None where none waits, in an ordered read where the next one doesn't. An
+    /// Gives bytes that wait, at most as many as are asked for; None if none waits, in an ordered read if the next one doesn't. An
     /// ordered read gives all that it may from the first offset on that no read gave, an unordered one a piece. The bytes are a
-    /// slice of the first piece if it has them all, and a copy of several pieces if not. Each piece that is taken out costs the
-    /// logarithm of how many wait.
+    /// slice of the first piece if it has them all, and a copy of several pieces if not. A piece is taken out of a queue in
+    /// constant time, and out of the map in the logarithm of how many wait.
     pub fn read(&mut self, max_length: usize, ordered: bool) -> Result<Option<Chunk>, Memory>
         requires { 0 < max_length }
         ensures none { IfOk result (λ o. o ≡ None → self.new ≡ self.old) }
@@ -125,27 +133,27 @@ impl Assembler {
         ensures least { IfOk result (λ o. ordered ≡ false → MatchOption o (Unit {0}) (IsLeastPiece self.old)) }
         ensures counted { IfOk result (λ o. MatchOption o (Unit {0}) (λ c. count_of self.new.given ≡ count_of self.old.given + length c.bytes)) }
         ensures err { OnErr result (self.new ≡ self.old) }
-        ensures lacks { OnErr result (HasNothing self.old → ⊥) }
+        ensures lacks { OnErr result (HasNext self.old ordered) }
     {
         let length = self.next_length(max_length, ordered);
         if length == 0 {
             return Ok(None);
         }
-        let offset = chunks::front_offset(&self.chunks);
-        let bytes = chunks::front_bytes(self.alloc, &self.chunks, length)?;
+        let offset = self.chunks.front_offset();
+        let bytes = self.chunks.front_bytes(self.alloc, length)?;
         self.given.insert(offset..offset + length as u64)?;
         self.given.is_apart();
-        chunks::drop_front(&mut self.chunks, length);
+        self.chunks.drop_front(length);
         self.bytes_read += length as u64;
         Ok(Some(Chunk { offset, bytes }))
     }
 
-    /// Drops all bytes that wait.
+    /// Drops all bytes that wait, and keeps no room for others.
     pub fn clear(&mut self)
         ensures waits { HasNothing self.new }
         ensures given { self.new.given ≡ self.old.given }
     {
-        self.chunks.clear();
+        self.chunks = chunks::Chunks::new(self.alloc);
     }
 
     /// How many bytes the next read gives of the first pieces.
@@ -155,11 +163,8 @@ impl Assembler {
         ensures lacks { ordered ≡ true → was_given self.now (read_to self.now) ≡ false }
     {
         if ordered {
-            return chunks::run(&self.chunks, self.given.front(), max_length);
+            return self.chunks.run(self.given.front(), max_length);
         }
-        match self.chunks.first_key_value() {
-            Some((_, first)) => max_length.min(first.len()),
-            None => 0,
-        }
+        self.chunks.first_length(max_length)
     }
 }

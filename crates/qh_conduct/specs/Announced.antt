@@ -74,7 +74,7 @@ module _ {S : Type 0} where
   -- a count is no greater than the one that was announced last; a stream that is named was opened, and has the half that sends such
   -- a frame; a CONNECTION_CLOSE comes only once the connection is closed.
   pub data IsKeptFrame (c : Inner S) (came : List (List ℕ)) (f : QuicFrame) : Type 0 where
-    ping : f ≡ frame 1 [] → IsKeptFrame c came f
+    ping : f ≡ frame frame_types.ping [] → IsKeptFrame c came f
     response : (echoed : List ℕ) → f ≡ frame frame_types.path_response (Text echoed ∷ []) → IsKeptFrame c came f
     ack : (ranges : List AckRange) → f ≡ ack_frame 0 ranges → AreApart ranges → ((n : ℕ) → Covers f n → HasComeWith c came n) → IsKeptFrame c came f
     stream : (run : StreamFrame) → f ≡ stream_form run → IsSending c.space.streams run.id → IsKeptFrame c came f
@@ -82,7 +82,7 @@ module _ {S : Type 0} where
     stop : (id code : ℕ) → f ≡ frame frame_types.stop_sending (Num id ∷ Num code ∷ []) → IsReading c.space.streams id → IsKeptFrame c came f
     max_data : (limit : ℕ) → f ≡ frame frame_types.max_data (Num limit ∷ []) → limit ≤ c.space.streams.recv.announced.value → IsKeptFrame c came f
     max_stream_data : (id limit : ℕ) → f ≡ frame frame_types.max_stream_data (Num id ∷ Num limit ∷ []) → IsReading c.space.streams id → IsLimited c.space.streams id limit → IsKeptFrame c came f
-    max_streams : (dir : Dir) (count : ℕ) → f ≡ frame (by_dir dir 18 19) (Num count ∷ []) → count ≤ (counts_of c.space.streams (is_two_way dir)).announced.value → IsKeptFrame c came f
+    max_streams : (dir : Dir) (count : ℕ) → f ≡ frame (by_dir dir frame_types.max_streams_bidi frame_types.max_streams_uni) (Num count ∷ []) → count ≤ (counts_of c.space.streams (is_two_way dir)).announced.value → IsKeptFrame c came f
     close : (reason : Close) → f ≡ close_frame reason → is_open c.state ≡ false → IsKeptFrame c came f
 
   -- ---- datagrams
@@ -136,7 +136,7 @@ module _ {S : Type 0} where
     pub datagrams : (datagram : List ℕ) → In datagram (handed_out t) → IsKeptDatagram c (handed_in t) datagram
     pub frames : (f : QuicFrame) → HasSent c t f → IsKeptFrame c (handed_in t) f
     pub limit : (n : ℕ) → HasSent c t (frame frame_types.max_data (Num n ∷ [])) → n ≤ c.space.streams.recv.announced.value
-    pub counts : (dir : Dir) (n : ℕ) → HasSent c t (frame (by_dir dir 18 19) (Num n ∷ [])) → (n ≤ (counts_of c.space.streams (is_two_way dir)).announced.value) × (n ≤ 2 ^ 60)
+    pub counts : (dir : Dir) (n : ℕ) → HasSent c t (frame (by_dir dir frame_types.max_streams_bidi frame_types.max_streams_uni) (Num n ∷ [])) → (n ≤ (counts_of c.space.streams (is_two_way dir)).announced.value) × (n ≤ 2 ^ 60)
     pub stream_limit : (id n : ℕ) → HasSent c t (frame frame_types.max_stream_data (Num id ∷ Num n ∷ [])) → IsReading c.space.streams id × IsLimited c.space.streams id n
     pub streams : (run : StreamFrame) → HasSent c t (stream_form run) → IsSending c.space.streams run.id
     pub resets : (id code size : ℕ) → HasSent c t (frame frame_types.reset_stream (Num id ∷ Num code ∷ Num size ∷ [])) → IsSending c.space.streams id

@@ -10,6 +10,8 @@ use Rattle.qh_conn.proofs.Handed.{HandNothing}
 use Rattle.qh_conn.proofs.QuietCalls.{same_call, send_set}
 use Rattle.qh_conn.proofs.StreamsGo.{StreamsGo, IsCall, stands_now}
 use Rattle.qh_conn.specs.Streams.{IsRead}
+use Rattle.qh_conn.specs.declared.fault.TakeFault.{TakeFault}
+use Rattle.qh_conn.specs.declared.fault.TakeFault.TheVariants.{Readable, Read}
 use Rattle.qh_half.specs.Recv.{PlainRecv, is_closed, readable_fault}
 use Rattle.qh_half.specs.declared.fault.ClosedStream.{ClosedStream}
 use Rattle.qh_half.specs.declared.fault.ReadFault.{ReadFault}
@@ -34,6 +36,14 @@ use Rattle.qh_transcript.proofs.WithinFrames.{closed_set}
 use Rattle.qh_transcript.proofs.WithinKept as within
 use Rattle.qh_transcript.specs.Receiving.{StandsIn, piece_acts, read_acts, reset_acts}
 use Rattle.qh_transcript.specs.Sending.{WriteNothing}
+
+abbrev fault_of : TakeFault → ReadFault
+fault_of (Read fault) = fault
+fault_of (Readable fault) = Blocked
+
+-- two faults of a read of a connection are those of the streams
+pub read_fault : {a b : ReadFault} → Read a ≡ Read b → a ≡ b
+read_fault e = ap fault_of e
 
 -- ---- the receiving halves alone change, and how many streams of the peer's are closed
 

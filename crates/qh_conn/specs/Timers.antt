@@ -11,7 +11,7 @@ use Rattle.qh_conn.specs.declared.state.Close.{Close}
 use Rattle.qh_conn.specs.declared.state.State.{State}
 use Rattle.qh_conn.specs.declared.state.State.TheVariants.{Closed, Draining, Drained}
 use Rattle.qh_recovery.specs.Rtt.{pto_base, loss_delay}
-use Rattle.qh_recovery.specs.SentPackets.{IsBelow, IsLossTime, NoneIs}
+use Rattle.qh_recovery.specs.SentPackets.{IsLossTime}
 use Rattle.qh_recovery.specs.declared.paths.RttEstimator.{RttEstimator}
 use Rattle.qh_space.specs.Receiving.{IsLossTaken}
 use Rattle.qh_space.specs.Timers.{IsProbeDue, IsProbeTime}
@@ -52,10 +52,6 @@ pub record IsLossMoment (s : DataSpace) (moment : ℕ) : Type 0 where
   pub largest : ℕ
   pub acked : s.largest_acked ≡ Some largest
   pub time : IsLossTime s.sent largest (loss_delay s.rtt) moment
-
--- no packet that is out was sent before one that is acknowledged
-abbrev pub NoneIsOlder : DataSpace → Type 0
-NoneIsOlder s = (n : ℕ) → s.largest_acked ≡ Some n → NoneIs (IsBelow n) s.sent
 
 -- What is lost by its age is lost.
 pub data AreLostByAge (now : ℕ) (old new : DataSpace) : Type 0 where

@@ -123,7 +123,7 @@ impl<S> Inner<S> {
     }
 
     // Want of memory in the middle of a step: the connection is lost and drained, and all that it held of its streams is
-    // dropped. So many packets were lost before, and so many probes sent.
+    // dropped, with the log of what they were brought. The counts of lost packets and of probes stay.
     fn fail(&mut self, alloc: Global, stats: ConnectionStats)
         ensures failed { IsFailedBy self.old self.new }
         ensures counts { (self.new.space.packets_lost ≡ stats.packets_lost) × (self.new.space.probes_sent ≡ stats.probes) }

@@ -11,10 +11,10 @@ pub enum ExchangeError {
     /// The link failed.
     #[error("the link failed")]
     Link,
-    /// An end heard nothing for its idle time.
+    /// An end's idle time ran out.
     #[error("timed out")]
     TimedOut,
-    /// All rounds were made, and some answer is missing.
+    /// The rounds were used up before all answers came.
     #[error("out of rounds")]
     OutOfRounds,
     /// An end lost its connection, for this reason: the client's where both did.

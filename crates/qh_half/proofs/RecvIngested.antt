@@ -20,7 +20,7 @@ admitted r to fin received max_data none =
       ]
     ]
 
--- the offset behind the piece, where it isn't refused
+-- the offset behind the piece, if it isn't refused
 pub end_exact : (r : PlainRecv) (to end : ℕ) (fin : Bool) (received max_data : ℕ) → IsRecv r → to ≡ min end (2 ^ 64 - 1) → ingest_fault r to fin received max_data ≡ None → to ≡ end
 end_exact r to end fin received max_data ok to_is none =
     let fits = admitted r to fin received max_data none in

@@ -1,13 +1,13 @@
 -- What a read leaves in a receiving half.
-use Rattle.std.proofs.Common.{◌≡◌, ℕ, ◌<◌, ◌≤◌, Bool, true, false, Option, Some, None, MatchOption, is_some, Err, if◌then◌else◌, refl, sym, ap, ◌∙◌, inl, inr}
-use Rattle.std.proofs.lemmas.Bool.{cases_lt, or_cases, both_ways}
+use Rattle.std.proofs.Common.{◌≡◌, ℕ, ◌<◌, ◌≤◌, Bool, true, false, not, ◌||◌, MatchBool, Option, Some, None, MatchOption, is_some, Err, if◌then◌else◌, refl, sym, ap, ◌∙◌, inl, inr, subst}
+use Rattle.std.proofs.lemmas.Bool.{cases_Bool, cases_lt, or_cases, both_ways}
 use Rattle.qh_buffers.specs.declared.assembler.Chunk.{Chunk}
 use Rattle.qh_buffers.specs.Ranges.{count_of}
-use Rattle.qh_buffers.specs.Assembler.{PlainAssembler, byte_of, end_of, is_over, to_give, was_given, IsGiven}
+use Rattle.qh_buffers.specs.Assembler.{PlainAssembler, byte_of, end_of, is_over, to_give, was_given, read_to, IsGiven, HasNothing, HasNext}
 use Rattle.qh_buffers.proofs.RangeCounts.{in_start, in_end}
 use Rattle.qh_buffers.proofs.ChunkLaws.{inside}
 use Rattle.qh_half.specs.declared.fault.ReadFault.TheVariants.{Memory}
-use Rattle.qh_half.specs.Recv.{PlainRecv, IsRecv, IsReadAnswer, WantsMemory}
+use Rattle.qh_half.specs.Recv.{PlainRecv, IsRecv, IsReadAnswer, WantsMemory, WaitsForMore, with_order}
 use Rattle.qh_half.specs.Recv.IsReadAnswer.{memory}
 
 -- a piece has a byte at each of its offsets
@@ -58,3 +58,16 @@ nothing_read old new max_length (memory wants same) = (same, wants)
 -- whatever the order that was marked
 pub wants_unmarked : (old new : PlainRecv) (is_unordered : Bool) (max_length : ℕ) → new ≡ record old { is_unordered = is_unordered } → WantsMemory new max_length → WantsMemory old max_length
 wants_unmarked old new is_unordered max_length e w = record { asked = w.asked; not_reset = rw e at w.not_reset; waits = rw e at w.waits }
+
+-- what a read may give waits, in the order that is marked
+pub next_waits : (r : PlainRecv) → HasNext r.assembler (not r.is_unordered) → WaitsForMore r → ⊥
+next_waits r has none = elim (cases_Bool r.is_unordered) [
+  | inl unordered ↦ has.waits (subst (λ (b : Bool). MatchBool b (HasNothing r.assembler) ((to_give r.assembler (read_to r.assembler) ≡ None) × (was_given r.assembler (read_to r.assembler) ≡ false))) unordered none)
+  | inr ordered ↦
+      has.next (ap not ordered) (subst (λ (b : Bool). MatchBool b (HasNothing r.assembler) ((to_give r.assembler (read_to r.assembler) ≡ None) × (was_given r.assembler (read_to r.assembler) ≡ false))) ordered none).0
+]
+
+-- what doesn't wait for a read that is to begin doesn't wait when it is begun
+pub waits_begun : (old new : PlainRecv) (ordered is_unordered : Bool) → new ≡ record old { is_unordered = is_unordered } → is_unordered ≡ (old.is_unordered || not ordered)
+    → WaitsForMore (with_order old ordered) → WaitsForMore new
+waits_begun old new ordered is_unordered e is waits = rw (e, is) waits

@@ -41,7 +41,7 @@ acked_as_taken old new from to all span acked = λ k h.
     let within = cut_within old to all span.is_cut_to in
     acked.marks k ∙ rw (between_high from to k (omega (arith, acked.taken_is))) (all k (omega (arith, acked.taken_is)))
 
--- where the last byte was sent a piece ends behind it
+-- if the last byte was sent a piece ends behind it
 ends_there : (ps : List Piece) (to k : ℕ) → to ≡ k + 1 → ((j : ℕ) → to ≤ j → mark_in ps j ≡ None) → (mark_in ps k ≡ None → ⊥) → In to (map (λ (p : Piece). p.end) ps)
 ends_there [] to k next none some = some refl
 ends_there (p ∷ ps) to k next none some = elim (cases_lt k p.end) [
@@ -57,7 +57,7 @@ ends_there (p ∷ ps) to k next none some = elim (cases_lt k p.end) [
       (λ e. some (mark_later p ps k later ∙ e)))
 ]
 
--- where no byte waits, all that was taken was sent
+-- if no byte waits, all that was taken was sent
 pub all_is_sent : (v : PlainSendBuffer) → IsSentAsTaken v → ((k : ℕ) → is_queued v k ≡ false) → IsCut v (taken_to v)
 all_is_sent v all none = elim (cases_lt v.start (taken_to v)) [
   | inr empty ↦ inl empty
@@ -77,7 +77,7 @@ queued_end (DataSent Queued) e = refl
 queued_end (DataSent Acked) e = absurd (false≢true e)
 queued_end (ResetSent code mark) e = absurd (false≢true e)
 
--- the end is handed out where no byte waits
+-- the end is handed out if no byte waits
 pub end_is_out : (old : PlainSend) (end : ℕ) → IsSentAsTaken old.buffer → ((k : ℕ) → is_queued old.buffer k ≡ false) → is_end_queued old.state ≡ true
     → end ≡ taken_to old.buffer → IsEndOut old (record old { state = DataSent Sent }) end end true
 end_is_out old end all none queued is = record {

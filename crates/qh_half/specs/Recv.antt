@@ -32,10 +32,10 @@ pub record PlainRecv : Type 0 where
   pub is_unordered : Bool
   -- what was done with the last limit that was announced
   pub limit_mark : Mark
-  -- the STOP_SENDING frame, where the peer is told
+  -- the STOP_SENDING frame, if the peer is told
   pub stop_frame : Option StopFrame
 
--- the final size, where it is known
+-- the final size, if it is known
 abbrev pub final_size : RecvState → Option ℕ
 final_size (Recv size) = size
 final_size (ResetRecvd size code) = Some size
@@ -64,7 +64,7 @@ bytes_read r = count_of r.assembler.given
 
 -- ---- faults (RFC 9000, sections 4.1 and 4.5), by the first that fits
 
--- Bytes up to this offset pass the stream's limit or, where the connection has received so many of this stream and others,
+-- Bytes up to this offset pass the stream's limit or, if the connection has received `received` bytes of this stream and others,
 -- its limit.
 abbrev pub passes_limit : PlainRecv → (received max_data to : ℕ) → Bool
 passes_limit r received max_data to = nat_lt r.sent_max_stream_data to || nat_lt max_data (received + (to - r.end))
@@ -82,7 +82,7 @@ abbrev pub ingest_fault : PlainRecv → (to : ℕ) → (is_end : Bool) → (rece
 ingest_fault r to is_end received max_data =
     if passes_limit r received max_data to then Some FlowControl else if contradicts_size r to is_end then Some FinalSize else None
 
--- the answer for bytes that aren't taken: why they are refused or, where nothing is wrong with them, want of memory
+-- the answer for bytes that aren't taken: why they are refused or, if nothing is wrong with them, want of memory
 abbrev pub IsFaultOf : IngestFault → Option IngestFault → Type 0
 IsFaultOf e refusal = ((e ≡ Wanting) × (refusal ≡ None)) ⊎ (refusal ≡ Some e)
 
@@ -101,7 +101,7 @@ is_reset (ResetRecvd size code) = true
 abbrev pub keeps_bytes : PlainRecv → Bool
 keeps_bytes r = not (r.is_stopped || is_reset r.state)
 
--- A piece came, and with it so many bytes behind the last that came before.
+-- A piece came, and with it `fresh` bytes behind the last that came before.
 pub record IsIngested (old new : PlainRecv) (c : Chunk) (fin : Bool) (fresh : ℕ) : Type 0 where
   pub bytes_are : keeps_bytes old ≡ true → IsInserted old.assembler new.assembler c
   pub dropped : keeps_bytes old ≡ false → new.assembler ≡ old.assembler
@@ -110,7 +110,7 @@ pub record IsIngested (old new : PlainRecv) (c : Chunk) (fin : Bool) (fresh : �
   pub state_is : new.state ≡ (if fin then with_size (c.offset + length c.bytes) old.state else old.state)
   pub rest_is : new ≡ record old { assembler = new.assembler; end = new.end; state = new.state }
 
--- A reset came, and with it so many bytes behind the last that came before. What waited to be read is dropped.
+-- A reset came, and with it `fresh` bytes behind the last that came before. What waited to be read is dropped.
 pub record IsResetBy (old new : PlainRecv) (code size fresh : ℕ) : Type 0 where
   pub again : reset_code old.state ≡ None → new.state ≡ ResetRecvd size code
   pub kept : (known : ℕ) → reset_code old.state ≡ Some known → new.state ≡ old.state
@@ -180,7 +180,7 @@ acked_stop f = record { code = f.code; mark = Acked }
 abbrev pub lost_stop : StopFrame → StopFrame
 lost_stop f = record { code = f.code; mark = lost_mark f.mark }
 
--- the frame of a stream that is stopped, where the final size isn't known
+-- the frame of a stream that is stopped, if the final size isn't known
 abbrev pub new_stop : RecvState → (code : ℕ) → Option StopFrame
 new_stop (Recv None) code = Some (record { code = code; mark = Queued })
 new_stop _ code = None
@@ -204,8 +204,9 @@ readable_fault r ordered =
 abbrev pub with_order : PlainRecv → (ordered : Bool) → PlainRecv
 with_order r ordered = record r { is_unordered = r.is_unordered || not ordered }
 
--- Bytes that wait are given, in an ordered read the longest front.
+-- Bytes that wait are given, in an ordered read the longest prefix.
 pub record IsRead (old new : PlainRecv) (max_length : ℕ) (c : Chunk) : Type 0 where
+  pub not_reset : reset_code old.state ≡ None
   pub given : IsGiven old.assembler new.assembler max_length c
   pub front : old.is_unordered ≡ false → IsFrontPiece old.assembler max_length c
   pub least : old.is_unordered ≡ true → IsLeastPiece old.assembler c
@@ -222,7 +223,7 @@ pub record WantsMemory (r : PlainRecv) (max_length : ℕ) : Type 0 where
   pub not_reset : reset_code r.state ≡ None
   pub waits : HasNothing r.assembler → ⊥
 
--- The answer of a read: bytes, the end or the reset, each only where it is its turn.
+-- The answer of a read: bytes, the end or the reset, each only if it is its turn.
 pub data IsReadAnswer (old new : PlainRecv) (max_length : ℕ) : Result (Option Chunk) ReadFault → Type 0 where
   bytes : (c : Chunk) → 0 < max_length → IsRead old new max_length c → IsReadAnswer old new max_length (Ok (Some c))
   nothing : max_length ≡ 0 → new ≡ old → (c : Chunk) → length c.bytes ≡ 0 → IsReadAnswer old new max_length (Ok (Some c))
@@ -232,14 +233,14 @@ pub data IsReadAnswer (old new : PlainRecv) (max_length : ℕ) : Result (Option 
   blocked : 0 < max_length → WaitsForMore old → is_at_end old ≡ false → reset_code old.state ≡ None → new ≡ old → IsReadAnswer old new max_length (Err Blocked)
   memory : WantsMemory old max_length → new ≡ old → IsReadAnswer old new max_length (Err Memory)
 
--- The stream is stopped: what waited is dropped, and the peer is told where the final size isn't known.
+-- The stream is stopped: what waited is dropped, and the peer is told if the final size isn't known.
 pub record IsStopped (old new : PlainRecv) (code : ℕ) : Type 0 where
   pub not_closed : is_closed old ≡ false
   pub none : HasNothing new.assembler
   pub given_is : new.assembler.given ≡ old.assembler.given
   pub rest_is : new ≡ record old { assembler = new.assembler; is_stopped = true; stop_frame = new_stop old.state code }
 
--- the reset counts as given, where one came
+-- the reset counts as given, if one came
 abbrev pub with_reset_given : PlainRecv → PlainRecv
 with_reset_given r = record r { is_given = is_some (reset_code r.state) }
 

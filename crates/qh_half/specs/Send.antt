@@ -16,7 +16,7 @@ pub record PlainSend : Type 0 where
   -- the peer's limit: bytes from this offset on may not be sent
   pub max_data : ℕ
   pub state : SendState
-  -- the code of the peer's STOP_SENDING, where one came
+  -- the code of the peer's STOP_SENDING, if one came
   pub stop_reason : Option ℕ
   pub priority : ℤ
 
@@ -61,12 +61,12 @@ IsWriteFault e refusal = ((e ≡ Memory) × (refusal ≡ None)) ⊎ (refusal ≡
 abbrev pub with_bytes : PlainSend → List ℕ → PlainSend
 with_bytes s bytes = record s { buffer = record s.buffer { bytes = s.buffer.bytes ++ bytes } }
 
--- chunks once so many of their first bytes were taken
+-- chunks once their first `count` bytes were taken
 abbrev pub chunks_after : (count : ℕ) → List (List ℕ) → List (List ℕ)
 chunks_after count [] = []
 chunks_after count (chunk ∷ chunks) = drop count chunk ∷ chunks_after (count - length chunk) chunks
 
--- how many chunks in front are taken whole with so many bytes
+-- how many chunks in front are taken whole with `count` bytes
 abbrev pub whole_chunks : (count : ℕ) → List (List ℕ) → ℕ
 whole_chunks count [] = 0
 whole_chunks count (chunk ∷ chunks) = if nat_lt count (length chunk) then 0 else whole_chunks (count - length chunk) chunks + 1
@@ -105,7 +105,7 @@ IsPending s = (is_reset s.state ≡ false) × (((k : ℕ) → is_queued s.buffer
 abbrev pub IsHeld : PlainSendBuffer → (from to : ℕ) → Type 0
 IsHeld v from to = (v.start ≤ from) × (from ≤ to) × (to ≤ taken_to v)
 
--- Bytes in between are handed out, with the end where they reach it and the stream was finished.
+-- Bytes in between are handed out, with the end if they reach it and the stream was finished.
 pub record IsPieceOut (old new : PlainSend) (room from to : ℕ) (fin : Bool) : Type 0 where
   pub not_reset : is_reset old.state ≡ false
   pub bytes_are : IsHandedOut old.buffer new.buffer room from to
@@ -114,7 +114,7 @@ pub record IsPieceOut (old new : PlainSend) (room from to : ℕ) (fin : Bool) : 
   pub state_is : new.state ≡ (if fin then with_end_sent old.state else old.state)
   pub rest_is : new ≡ record old { buffer = new.buffer; state = new.state }
 
--- the end alone is handed out, where no byte waits
+-- the end alone is handed out, if no byte waits
 pub record IsEndOut (old new : PlainSend) (from to : ℕ) (fin : Bool) : Type 0 where
   pub none : (k : ℕ) → is_queued old.buffer k ≡ false
   pub queued : is_end_queued old.state ≡ true
@@ -132,14 +132,14 @@ abbrev pub with_end_lost : SendState → SendState
 with_end_lost (DataSent Sent) = DataSent Queued
 with_end_lost other = other
 
--- the bytes in between, and the end with them, are acknowledged; where the stream was reset nothing changes
+-- the bytes in between, and the end with them, are acknowledged; if the stream was reset nothing changes
 pub record IsPieceAcked (old new : PlainSend) (from to : ℕ) (fin : Bool) : Type 0 where
   pub bytes_are : is_reset old.state ≡ false → IsAcknowledged old.buffer new.buffer from to
   pub kept : is_reset old.state ≡ true → new ≡ old
   pub state_is : new.state ≡ (if fin then with_end_acked old.state else old.state)
   pub rest_is : new ≡ record old { buffer = new.buffer; state = new.state }
 
--- the bytes in between, and the end with them, are to be sent again; where the stream was reset nothing changes
+-- the bytes in between, and the end with them, are to be sent again; if the stream was reset nothing changes
 pub record IsPieceQueued (old new : PlainSend) (from to : ℕ) (fin : Bool) : Type 0 where
   pub bytes_are : is_reset old.state ≡ false → IsQueuedAgain old.buffer new.buffer from to
   pub kept : is_reset old.state ≡ true → new ≡ old

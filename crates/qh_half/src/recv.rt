@@ -18,14 +18,14 @@ use std::marker::Model;
 /// What a receiving half knows (RFC 9000, section 3.2).
 #[derive(Clone, Copy)]
 pub enum RecvState {
-    /// Bytes come; the final size, where it is known.
+    /// Bytes come; the final size, if it is known.
     Recv(Option<u64>),
     /// It was reset, with this final size and this code.
     ResetRecvd(u64, VarInt),
 }
 
 impl RecvState {
-    /// The final size, where it is known (RFC 9000, section 4.5).
+    /// The final size, if it is known (RFC 9000, section 4.5).
     pub fn final_size(self) -> Option<u64>
         ensures { result ≡ final_size self }
     {
@@ -35,7 +35,7 @@ impl RecvState {
         }
     }
 
-    /// The code of the reset, where one came.
+    /// The code of the reset, if one came.
     pub fn reset_code(self) -> Option<VarInt>
         ensures { result ≡ reset_code self }
     {
@@ -156,8 +156,8 @@ impl Recv {
         }
     }
 
-    /// A piece came, where the connection has received so many bytes and has announced this limit. Answers how many bytes lie
-    /// behind the last that came before: they count against the connection's limit.
+    /// A piece came, when the connection has received `received` bytes and has announced the limit `max_data`. Answers how many
+    /// bytes lie behind the last that came before: they count against the connection's limit.
     pub fn ingest(
         &mut self,
         piece: Chunk,
@@ -224,7 +224,8 @@ impl Recv {
     /// neither the end nor the reset.
     pub fn next(&mut self, max_length: usize) -> Result<Option<Chunk>, ReadFault>
         requires { is_closed self.old ≡ false }
-        ensures { IsReadAnswer self.old self.new max_length result }
+        ensures answer { IsReadAnswer self.old self.new max_length result }
+        ensures lacks { result ≡ Err Lacking → WaitsForMore self.old → ⊥ }
     {
         if max_length == 0 {
             return Ok(Some(no_bytes()));
@@ -249,6 +250,7 @@ impl Recv {
         requires { readable_fault self.old ordered ≡ None }
         ensures answer { (result ≡ Err Lacking → ⊥) → IsReadAnswer (with_order self.old ordered) self.new max_length result }
         ensures memory { result ≡ Err Lacking → (self.new ≡ self.old) × WantsMemory self.old max_length }
+        ensures lacks { result ≡ Err Lacking → WaitsForMore (with_order self.old ordered) → ⊥ }
     {
         let was_unordered = self.is_unordered;
         self.set_unordered(was_unordered || !ordered);
@@ -268,7 +270,7 @@ impl Recv {
         self.is_unordered = is_unordered;
     }
 
-    /// No more bytes are wanted: what waits is dropped. Where the final size isn't known the peer is to be told, with this code.
+    /// No more bytes are wanted: what waits is dropped. If the final size isn't known the peer is to be told, with this code.
     pub fn stop(&mut self, code: VarInt) -> Result<(), ClosedStream>
         ensures ok { OnOk result (IsStopped self.old self.new code) }
         ensures fault { OnErr result ((is_closed self.old ≡ true) × (self.new ≡ self.old)) }
@@ -282,7 +284,7 @@ impl Recv {
         Ok(())
     }
 
-    /// The code of the peer's reset, where one came. It counts as given then.
+    /// The code of the peer's reset, if one came. It counts as given then.
     pub fn take_reset(&mut self) -> Result<Option<VarInt>, ClosedStream>
         ensures ok { IfOk result (λ code. (is_closed self.old ≡ false) × (code ≡ reset_code self.old.state) × (self.new ≡ with_reset_given self.old)) }
         ensures fault { OnErr result ((is_closed self.old ≡ true) × (self.new ≡ self.old)) }
@@ -328,7 +330,7 @@ impl Recv {
         self.is_stopped
     }
 
-    /// The stream's limit that is to be announced, where it rose over the last one or a frame with the last one is lost: the
+    /// The stream's limit that is to be announced, if it rose over the last one or a frame with the last one is lost: the
     /// bytes that were read and the window, at most 2^62 - 1, and not less than was announced. It counts as announced then.
     pub fn max_stream_data(&mut self, window: u64) -> Option<VarInt>
         ensures some { IfSome result (λ limit. (limit ≡ limit_of self.old window) × (is_limit_due self.old window ≡ true) × (self.new ≡ record self.old { sent_max_stream_data = limit; limit_mark = Sent })) }
@@ -355,7 +357,7 @@ impl Recv {
         };
     }
 
-    /// A MAX_STREAM_DATA frame with this limit is lost: where none with a greater one was sent, it waits again.
+    /// A MAX_STREAM_DATA frame with this limit is lost: if none with a greater one was sent, it waits again.
     pub fn lose_max_stream_data(&mut self, limit: VarInt)
         ensures { self.new ≡ record self.old { limit_mark = (if limit == self.old.sent_max_stream_data then lost_mark self.old.limit_mark else self.old.limit_mark) } }
     {
@@ -377,7 +379,7 @@ impl Recv {
             && self.limit_mark != Mark::Acked
     }
 
-    /// The code of the STOP_SENDING frame that is to be sent; None where none waits. It counts as sent.
+    /// The code of the STOP_SENDING frame that is to be sent; None if none waits. It counts as sent.
     pub fn take_stop_frame(&mut self) -> Option<VarInt>
         ensures some { IfSome result (λ code. (is_stop_due self.old ≡ true) × (self.old.stop_frame ≡ Some (record { code = code; mark = Queued })) × (self.new ≡ record self.old { stop_frame = Some (record { code = code; mark = Sent }) })) }
         ensures none { result ≡ None → (is_stop_due self.old ≡ false) × (self.new ≡ self.old) }
@@ -400,7 +402,7 @@ impl Recv {
         self.stop_frame = self.stop_frame.map(StopFrame::acked);
     }
 
-    /// The STOP_SENDING frame is lost: where it isn't acknowledged it waits again.
+    /// The STOP_SENDING frame is lost: if it isn't acknowledged it waits again.
     pub fn lose_stop(&mut self)
         ensures { self.new ≡ record self.old { stop_frame = option_map lost_stop self.old.stop_frame } }
     {
@@ -508,7 +510,7 @@ impl Recv {
         None
     }
 
-    /// The code of the peer's reset, where one came.
+    /// The code of the peer's reset, if one came.
     fn reset_code(&self) -> Option<VarInt>
         ensures { result ≡ reset_code self.now.state }
     {
@@ -524,10 +526,12 @@ impl Recv {
 
     /// Gives bytes that wait, at most as many as are asked for.
     fn give_bytes(&mut self, max_length: usize) -> Result<Option<Chunk>, Memory>
-        requires { 0 < max_length }
+        requires some { 0 < max_length }
+        requires not_reset { reset_code self.old.state ≡ None }
         ensures ok { IfOk result (λ o. MatchOption o ((self.new ≡ self.old) × WaitsForMore self.old) (IsRead self.old self.new max_length)) }
         ensures err { OnErr result (self.new ≡ self.old) }
-        ensures lacks { OnErr result (HasNothing self.old.assembler → ⊥) }
+        ensures waits { OnErr result (HasNothing self.old.assembler → ⊥) }
+        ensures lacks { OnErr result (WaitsForMore self.old → ⊥) }
     {
         let piece = self.assembler.read(max_length, !self.is_unordered)?;
         self.assembler.counts_below(self.end);
@@ -565,7 +569,7 @@ impl StopFrame {
     }
 }
 
-/// The STOP_SENDING frame of a stream that is stopped in this state, where the peer is to be told.
+/// The STOP_SENDING frame of a stream that is stopped in this state, if the peer is to be told.
 fn stop_frame(state: RecvState, code: VarInt) -> Option<StopFrame>
     ensures { result ≡ new_stop state code }
 {
@@ -595,7 +599,7 @@ fn end_of(piece: &Chunk) -> u64
     piece.offset.saturating_add(piece.bytes.len() as u64)
 }
 
-/// Keeps a piece where it is wanted.
+/// Keeps a piece if it is wanted.
 fn keep(assembler: &mut Assembler, is_wanted: bool, piece: Chunk) -> Result<(), Memory>
     requires { end_of piece < 2 ^ 62 }
     ensures wanted { OnOk result (is_wanted ≡ true → IsInserted assembler.old assembler.new piece) }

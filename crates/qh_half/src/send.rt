@@ -77,7 +77,7 @@ impl SendState {
         }
     }
 
-    // The state once the end went out, where it did.
+    // The state once the end went out, if it did.
     fn with_end_sent(self, fin: bool) -> SendState
         ensures { result ≡ (if fin then with_end_sent self else self) }
     {
@@ -87,7 +87,7 @@ impl SendState {
         }
     }
 
-    // The state once the end is acknowledged, where it is.
+    // The state once the end is acknowledged, if it is.
     fn with_end_acked(self, fin: bool) -> SendState
         ensures { result ≡ (if fin then with_end_acked self else self) }
     {
@@ -97,7 +97,7 @@ impl SendState {
         }
     }
 
-    // The state once the end is lost, where it is.
+    // The state once the end is lost, if it is.
     fn with_end_lost(self, fin: bool) -> SendState
         ensures { result ≡ (if fin then with_end_lost self else self) }
     {
@@ -226,6 +226,13 @@ impl Send {
         self.pending.offset()
     }
 
+    /// Whether its end is acknowledged.
+    pub fn is_end_acked(&self) -> bool
+        ensures { result ≡ is_end_acked self.now.state }
+    {
+        self.state.is_end_acked()
+    }
+
     /// How many bytes were taken and are held: those from the first that isn't acknowledged on.
     pub fn unacked(&self) -> u64
         ensures { result ≡ length self.now.buffer.bytes }
@@ -272,8 +279,8 @@ impl Send {
         self.pending.write(bytes)
     }
 
-    /// Takes the first bytes, as many as the stream's limit and this one permit. Where no byte may be taken it answers
-    /// ClosedStream, Stopped or Blocked, the first that fits; where the allocator has no memory, Memory. Then nothing changes.
+    /// Takes the first bytes, as many as the stream's limit and this one permit. If no byte may be taken it answers
+    /// ClosedStream, Stopped or Blocked, the first that fits; if the allocator has no memory, Memory. Then nothing changes.
     pub fn write(&mut self, alloc: Global, payload: &[u8], limit: u64) -> Result<usize, WriteFault>
         ensures ok { IfOk result (λ n. (n ≡ min (length payload.now) (credit self.old limit)) × (self.new ≡ with_bytes self.old (take n payload.now))) }
         ensures open { IfOk result (λ n. write_fault self.old limit ≡ None) }
@@ -286,7 +293,7 @@ impl Send {
         Ok(count)
     }
 
-    // Takes the first bytes of chunks, so many where they have as many.
+    // Takes the first `budget` bytes of chunks, or all if they have fewer.
     fn take_front(&mut self, alloc: Global, chunks: &[Bytes], budget: u64) -> Result<usize, Memory>
         requires { taken_to self.old.buffer + budget ≤ self.old.max_data }
         ensures ok { IfOk result (λ n. (n ≡ min (length (concat chunks.now)) budget) × (self.new ≡ with_bytes self.old (take n (concat chunks.now)))) }
@@ -299,7 +306,7 @@ impl Send {
     }
 
     /// Takes the first bytes of chunks, as many as the stream's limit and this one permit, and leaves the rest in them: a
-    /// chunk that was taken whole is left empty. Refuses as `write` does. Where the allocator has no memory the chunks are
+    /// chunk that was taken whole is left empty. Refuses as `write` does. If the allocator has no memory the chunks are
     /// left as they were.
     pub fn write_chunks(
         &mut self,
@@ -391,8 +398,8 @@ impl Send {
         is_blocked && self.max_data < max.into_inner()
     }
 
-    /// What is to be sent next, at most so many bytes; None where nothing waits. It counts as sent. Bytes come first, and the
-    /// end goes with those that reach it, or alone where no byte waits.
+    /// What is to be sent next, at most `max_len` bytes; None if nothing waits. It counts as sent. Bytes come first, and the
+    /// end goes with those that reach it, or alone if no byte waits.
     pub fn poll_transmit(&mut self, max_len: usize) -> Result<Option<Outgoing>, Memory>
         requires { 0 < max_len }
         ensures none { IfOk result (λ o. o ≡ None → (self.new ≡ self.old) × (IsPending self.old → ⊥)) }
@@ -490,7 +497,7 @@ impl Send {
         self.pending.has_unsent_data() || self.state.is_end_queued()
     }
 
-    /// The priority among the streams that wait to be sent, 0 at first. ClosedStream where the half is done.
+    /// The priority among the streams that wait to be sent, 0 at first. ClosedStream if the half is done.
     pub fn priority(&self) -> Result<i32, ClosedStream>
         ensures { MatchResult result (λ n. (is_done self.now ≡ false) × (n ≡ self.now.priority)) (λ e. is_done self.now ≡ true) }
     {
@@ -507,7 +514,7 @@ impl Send {
         self.priority
     }
 
-    /// Sets the priority among the streams that wait to be sent. ClosedStream where the half is done.
+    /// Sets the priority among the streams that wait to be sent. ClosedStream if the half is done.
     pub fn set_priority(&mut self, priority: i32) -> Result<(), ClosedStream>
         ensures ok { OnOk result ((is_done self.old ≡ false) × (self.new ≡ record self.old { priority = priority })) }
         ensures fault { OnErr result ((is_done self.old ≡ true) × (self.new ≡ self.old)) }
@@ -519,7 +526,7 @@ impl Send {
         Ok(())
     }
 
-    /// What the RESET_STREAM frame says that is to be sent; None where none waits. It counts as sent.
+    /// What the RESET_STREAM frame says that is to be sent; None if none waits. It counts as sent.
     pub fn reset_frame(&mut self) -> Option<ResetFrame>
         ensures some { IfSome result (λ f. (self.old.state ≡ ResetSent f.code Queued) × (f.final_size ≡ taken_to self.old.buffer) × (self.new ≡ record self.old { state = with_reset_mark Sent self.old.state })) }
         ensures none { result ≡ None → (is_reset_queued self.old.state ≡ false) × (self.new ≡ self.old) }
@@ -537,7 +544,7 @@ impl Send {
         self.state = self.state.with_reset_mark(Mark::Acked);
     }
 
-    /// The RESET_STREAM frame is lost: where it isn't acknowledged it waits again.
+    /// The RESET_STREAM frame is lost: if it isn't acknowledged it waits again.
     pub fn lose_reset(&mut self)
         ensures { self.new ≡ record self.old { state = with_reset_lost self.old.state } }
     {

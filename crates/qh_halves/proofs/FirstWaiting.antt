@@ -1,4 +1,4 @@
--- The stream in front of the queue, where something waits in its half and where nothing does.
+-- The stream in front of the queue, if something waits in its half and if nothing does.
 use Rattle.std.proofs.Common.{◌≡◌, ℕ, ℤ, ◌==◌, Bool, Option, Some, None, IsSomeAnd, IfSome, unwrap_or, if◌then◌else◌, refl, sym, ap, ◌∙◌, inl, inr}
 use Rattle.std.proofs.lemmas.Bool.Decides.{eqb_tells}
 use Rattle.qh_halves.specs.declared.pending.PendingStream.{PendingStream}
@@ -9,7 +9,7 @@ use Rattle.qh_halves.specs.declared.send_halves.Transmission.{Transmission}
 use Rattle.qh_halves.proofs.PendingOrder.{same_parts}
 
 module _ (s : PlainSendHalves) (pending : PlainPending) (max_data data_sent count : ℕ) (ok : AreSendHalves s.halves pending max_data data_sent count) where
-  -- none waits where none waits in the queue
+  -- none waits if none waits in the queue
   pub none_waits : ((k : ℕ) → waits pending k ≡ None) → NoneWaits s
   none_waits empty = λ k h e waiting. let listed = ok.listed k h e waiting in let none = empty k in absurd (cc)
 
@@ -24,7 +24,7 @@ module _ (s : PlainSendHalves) (pending : PlainPending) (max_data data_sent coun
             ∙ first.before k g.priority (ok.listed k g e others) apart,
       )
 
-  -- the first in the queue is the next where something waits in it
+  -- the first in the queue is the next if something waits in it
   pub next_is : (p : PendingStream) → IsFirst pending p → IsSomeAnd (half_in s.halves p.id) Waits → IsNextToSend s p.id
   next_is p first waiting = first_of p first (half_in s.halves p.id) refl waiting
 
@@ -52,7 +52,7 @@ sent_next old new room id t next step =
     let found = rw step.was at next in
     record { step = step; is_first = found.1 }
 
--- something waits where one is the next to be sent
+-- something waits if one is the next to be sent
 pub one_waits : (s : PlainSendHalves) (id : ℕ) → IsNextToSend s id → NoneWaits s → ⊥
 one_waits s id next none = waits_in (send_at s id) refl next
   where

@@ -34,7 +34,7 @@ queued_not_reset Ready h = refl
 queued_not_reset (DataSent mark) h = refl
 queued_not_reset (ResetSent code mark) h = absurd (false≢true h)
 
--- the half goes on, something waited in it, it holds the same bytes, and frames that were out are out
+-- the half stays, something waited in it, it holds the same bytes, and frames that were out are out
 pub record Sends (h next : PlainSend) : Type 0 where
   pub on : GoesOn h next
   pub waited : Waits next → Waits h

@@ -141,7 +141,7 @@ module _ (es : List (ℕ × PlainSend)) (pending : PlainPending) (max_data data_
   unwaited None e = refl
   unwaited (Some n) e = absurd (let live = ok.live id n e in let missing = ap half_priority none in cc)
 
-  -- the halves as before, where the stream left the queue again
+  -- the halves as before, if the stream left the queue again
   pub put_back : (new : List (ℕ × PlainSend)) (queue after : PlainPending) → new ≡ es → ((k : ℕ) → waits queue k ≡ waits pending k) → ((k : ℕ) → has_room queue k ≡ (k == id || has_room pending k))
       → ((k : ℕ) → waits after k ≡ (if k == id then None else waits queue k)) → ((k : ℕ) → has_room after k ≡ (not (k == id) && has_room queue k)) → AreSendHalves new after max_data data_sent count
   put_back new queue after new_is same room left room_left =

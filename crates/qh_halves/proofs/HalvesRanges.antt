@@ -67,7 +67,7 @@ module _ {X : Type 0} where
     | inr outside ↦ rw outside at (gone k) ∙ rw outside at (added k)
   ])
 
-  -- where there are none, none is left
+  -- if there are none, none is left
   pub none_left : (es : List (ℕ × X)) (first count : ℕ) → length es ≡ 0 → (k : ℕ) → lookup (is_at (nat_cmp k)) es ≡ (if is_in_range first count k then None else lookup (is_at (nat_cmp k)) es)
   none_left [] first count none k = elim (cases_Bool (is_in_range first count k)) [
     | inl inside ↦ rw inside refl

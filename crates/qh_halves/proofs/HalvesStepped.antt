@@ -95,7 +95,7 @@ set_after old new id priority set room_is = record {
   room_is = room_is;
 }
 
--- where a stream has no half nothing changes
+-- if a stream has no half nothing changes
 pub is_absent : (s : Inside) (id : ℕ) (new : List (ℕ × PlainSend)) → None ≡ half_in s.halves.entries id → new ≡ s.halves.entries
     → IsAbsent (record { halves = s.halves.entries; max_data = s.max_data; data_sent = s.data_sent; send_window = s.send_window })
     (record { halves = new; max_data = s.max_data; data_sent = s.data_sent; send_window = s.send_window }) id
@@ -106,7 +106,7 @@ pub same_again : (s : Inside) (id : ℕ) (h next : PlainSend) (new : List (ℕ �
     → new ≡ set_value (is_at (nat_cmp id)) s.halves.entries next → new ≡ s.halves.entries
 same_again s id h next new was same written = written ∙ ap (λ (x : PlainSend). set_value (is_at (nat_cmp id)) s.halves.entries x) same ∙ set_value_same (is_at (nat_cmp id)) s.halves.entries h (sym was)
 
--- a half goes on with its priority
+-- a half stays, with its priority
 pub record GoesOn (h next : PlainSend) : Type 0 where
   pub priority_is : next.priority ≡ h.priority
   pub undone : is_done next ≡ false
@@ -150,7 +150,7 @@ module _ (s : Inside) (ok : AreSendHalves s.halves.entries s.pending s.max_data 
     | inr apart ↦ ap (λ (o : Option PlainSend). is_some o) (sym (half_apart k apart.0))
   ]
 
-  -- the half goes on
+  -- the half stays
   stepped : (queue : PlainPending) (priority : Option ℤ) (sent' count' : ℕ)
       → IsQueueAfter pending queue id priority → ((n : ℤ) → priority ≡ Some n → n ≡ next.priority) → (Waits next → priority ≡ Some next.priority)
       → is_done next ≡ false → count' + held h ≡ s.unacked_data + held next → sent' ≤ s.max_data
@@ -173,7 +173,7 @@ module _ (s : Inside) (ok : AreSendHalves s.halves.entries s.pending s.max_data 
     credit = credit;
   }
 
-  -- the half goes on, and the stream waits in the queue from now on
+  -- the half stays, and the stream waits in the queue from now on
   pub moved_stepped : (queue : PlainPending) (priority : ℤ) (sent' count' : ℕ)
       → IsWaitSet pending queue id (Some priority) → IsRoomKept pending queue
       → priority ≡ next.priority → is_done next ≡ false → count' + held h ≡ s.unacked_data + held next → sent' ≤ s.max_data
@@ -188,7 +188,7 @@ module _ (s : Inside) (ok : AreSendHalves s.halves.entries s.pending s.max_data 
       → AreSendHalves written queue s.max_data sent' count'
   put_stepped queue priority sent' count' put room_is is on counted credit = moved_stepped queue priority sent' count' put room_is is on.undone counted credit
 
-  -- the half goes on, and nothing waits in it
+  -- the half stays, and nothing waits in it
   pub taken_stepped : (queue : PlainPending)
       → IsWaitSet pending queue id None → IsRoomKept pending queue → (Waits next → ⊥) → is_done next ≡ false → held next ≡ held h
       → AreSendHalves written queue s.max_data s.data_sent s.unacked_data
@@ -196,7 +196,7 @@ module _ (s : Inside) (ok : AreSendHalves s.halves.entries s.pending s.max_data 
       stepped queue None s.data_sent s.unacked_data (set_after pending queue id None taken room_is)
       (λ n e. absurd (cc)) (λ w. absurd (waiting w)) undone (omega (arith, same)) ok.credit
 
-  -- the half goes on with its priority, and nothing waits in it that didn't
+  -- the half stays, with its priority, and nothing waits in it that didn't
   pub kept_stepped : (count' : ℕ) → GoesOn h next → (Waits next → Waits h) → count' + held h ≡ s.unacked_data + held next
       → AreSendHalves written pending s.max_data s.data_sent count'
   kept_stepped count' on waiting counted =

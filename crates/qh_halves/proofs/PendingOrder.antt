@@ -28,7 +28,7 @@ before_cases false false true same = refl
 before_cases false false false true = refl
 before_cases false false false false = refl
 
--- it goes before the other just where it ranks lower
+-- it goes before the other exactly if it ranks lower
 before_is : (p q : PendingStream) → goes_before p q ≡ is_lt (rank p q)
 before_is p q = before_cases (int_lt q.priority p.priority) (int_lt p.priority q.priority) (nat_lt p.id q.id) (p.id == q.id)
 

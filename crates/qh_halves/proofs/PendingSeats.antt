@@ -1,4 +1,4 @@
--- What the queue shows of a stream by its place in the tree, and what becomes of it where a place is taken, left or set.
+-- What the queue shows of a stream by its place in the tree, and what becomes of it when a place is taken, left or set.
 use Rattle.std.proofs.Common.{◌≡◌, ℕ, ℤ, ◌<◌, ◌≤◌, ◌==◌, Bool, true, false, not, ◌&&◌, ◌||◌, cond, List, [], ◌∷◌, map, length, set, Option, Some, None, is_some, MatchOption, if◌then◌else◌, nat_cmp, int_eq, refl, sym, ap, ◌∙◌, arith, inl, inr}
 use Rattle.std.specs.BTreeMap.{is_at}
 use Rattle.std.specs.List.Sorted.{IsStrictlySortedBy}
@@ -60,7 +60,7 @@ keys_same leaves (e ∷ es) = ap (λ (ks : List ℕ). e.0 ∷ ks) (keys_same lea
 pub shown_same : (old new : List Leaf) (seats : List (ℕ × ℕ)) → ((place : ℕ) → leaf new place ≡ leaf old place) → shown new seats ≡ shown old seats
 shown_same old new seats same = λ i. record { streams = map (λ (e : ℕ × ℕ). (e.0, priority_of (same e.1 i))) seats }
 
--- two places are one where the same stream sits there
+-- two places are one if the same stream sits there
 one_place : (a b k : ℕ) (seat : Option ℕ) → seat ≡ Some a → seat ≡ Some b → a ≡ b
 one_place a b k seat e f = ap (λ (o : Option ℕ). unwrap_or o a) (sym e ∙ f)
 
@@ -318,6 +318,6 @@ pub none_there : (o : Option ℕ) → is_some o ≡ false → o ≡ None
 none_there None e = refl
 none_there (Some n) e = absurd (false≢true (sym e))
 
--- where a look-up finds no place, the stream has no room
+-- if a look-up finds no place, the stream has no room
 pub unroomed : (leaves : List Leaf) (seats : List (ℕ × ℕ)) (id : ℕ) (v : PlainPending) (found : Bool) → shown leaves seats ≡ v → found ≡ is_some (seat_in seats id) → found ≡ false → has_room v id ≡ true → ⊥
 unroomed leaves seats id v found v_is found_is none = both_ways (has_room v id) (ap (λ (p : PlainPending). has_room p id) (sym v_is) ∙ room_is leaves seats id ∙ sym found_is ∙ none)

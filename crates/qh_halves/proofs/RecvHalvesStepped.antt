@@ -1,5 +1,5 @@
 -- What a step of one receiving half leaves of all that the receiving halves keep.
-use Rattle.std.proofs.Common.{◌≡◌, ◌⊎◌, ℕ, ℤ, ◌+◌, ◌<◌, ◌≤◌, ◌^◌, ◌==◌, Bool, true, false, ◌&&◌, ◌||◌, not, List, Option, Some, None, is_some, Result, Err, pos, if◌then◌else◌, refl, sym, ap, ap₂, ◌∙◌, arith, inl, inr}
+use Rattle.std.proofs.Common.{◌≡◌, ◌⊎◌, ℕ, ℤ, ◌+◌, ◌<◌, ◌≤◌, ◌^◌, ◌==◌, Bool, true, false, ◌&&◌, ◌||◌, not, List, Option, Some, None, MatchOption, is_some, Result, Err, pos, if◌then◌else◌, refl, sym, ap, ap₂, ◌∙◌, arith, inl, inr}
 use Rattle.std.specs.Ordering.{nat_cmp}
 use Rattle.std.specs.BTreeMap.{is_at}
 use Rattle.std.specs.Map.{set_value}
@@ -47,7 +47,7 @@ left_none false next r e = (cc, refl)
 pub room_for : (es : List (ℕ × PlainRecv)) (due : PlainPending) (received window : ℕ) (announced : AnnouncedLimit) (ok : AreRecvHalves es due received window announced) (id : ℕ) (h : PlainRecv) → recv_half_in es id ≡ Some h → has_room due id ≡ true
 room_for es due received window announced ok id h was = ok.room id ∙ ap (λ (o : Option PlainRecv). is_some o) was
 
--- the half of each stream, once one was written and left where it is done
+-- the half of each stream, once one was written and left if it is done
 pub halves_settled : (es written after : List (ℕ × PlainRecv)) (due queue : PlainPending) (id : ℕ) (h next : PlainRecv) (is_due done : Bool)
     → recv_half_in es id ≡ Some h → written ≡ set_value (is_at (nat_cmp id)) es next → done ≡ is_done next → IsSettled written after due queue id done is_due
     → (k : ℕ) → recv_half_in after k ≡ (if k == id then unless_done next else recv_half_in es k)
@@ -73,7 +73,7 @@ module _ (es : List (ℕ × PlainRecv)) (due : PlainPending) (received window : 
     | inr apart ↦ inr (apart.0, sym (half_apart k apart.0) ∙ e)
   ]
 
-  -- after a step of one half the halves are kept as before, where a frame that is due now was due or is marked
+  -- after a step of one half the halves are kept as before, if a frame that is due now was due or is marked
   pub are_settled : (received' : ℕ) → (is_done next ≡ false → is_frame_due next window ≡ true → (is_due ≡ true) ⊎ (is_frame_due h window ≡ true)) → received' ≤ announced.value
       → AreRecvHalves after queue received' window announced
   are_settled received' waiting within = record {
@@ -191,7 +191,11 @@ unbegun_read old new id max ordered answer h within undone was wants same wantin
 pub order_is : (ordered : Bool) (answer : Result (Option Chunk) ReadFault) → is_wanting answer ≡ false → (ordered || is_wanting answer) ≡ ordered
 order_is ordered answer some = ap (λ (b : Bool). ordered || b) some ∙ or-false ordered
 
--- where none waits in the queue no frame is due
+-- if none waits in the queue no frame is due
+pub of_none : {X : Type 0} (o : Option X) (P : Type 0) (Q : X → Type 0) → is_some o ≡ false → MatchOption o P Q → P
+of_none None P Q e p = p
+of_none (Some x) P Q e q = absurd (cc)
+
 pub none_is_due : (es : List (ℕ × PlainRecv)) (due : PlainPending) (received window : ℕ) (announced : AnnouncedLimit) → AreRecvHalves es due received window announced
     → ((k : ℕ) → waits due k ≡ None) → (k : ℕ) (r : PlainRecv) → recv_half_in es k ≡ Some r → is_frame_due r window ≡ false
 none_is_due es due received window announced ok empty k r e = elim (cases_Bool (is_frame_due r window)) [

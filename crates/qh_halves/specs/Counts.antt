@@ -53,6 +53,6 @@ other_side Server = Client
 abbrev pub with_max_opened : (count : ℕ) → StreamCounts → StreamCounts
 with_max_opened count c = record c { max_opened = max c.max_opened (min count (2 ^ 60)) }
 
--- each fourth id from the first on, so many: streams of one side and direction
+-- each fourth id from the first on, `count` of them: streams of one side and direction
 abbrev pub is_in_range : (first count : ℕ) → (k : ℕ) → Bool
 is_in_range first count k = k % 4 == first % 4 && (nat_le first k && nat_lt k (first + 4 * count))

@@ -21,7 +21,7 @@ stream_in streams id = lookup (is_at (nat_cmp id)) streams
 abbrev pub has_room : PlainPending → (id : ℕ) → Bool
 has_room p id = is_some (stream_in p.streams id)
 
--- the priority with which the stream waits; none where it doesn't
+-- the priority with which the stream waits; none if it doesn't
 abbrev pub waits : PlainPending → (id : ℕ) → Option ℤ
 waits p id = option_flatten (stream_in p.streams id)
 

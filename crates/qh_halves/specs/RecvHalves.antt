@@ -1,5 +1,5 @@
 -- The receiving halves of a connection's streams by their ids, and what they share: the connection's limit.
-use Rattle.std.specs.Prelude.{◌≡◌, ℕ, ◌+◌, ◌-◌, ◌<◌, ◌≤◌, ◌^◌, ◌==◌, min, max, Bool, true, false, ◌&&◌, ◌||◌, not, List, Option, Some, None, is_some, pos, Result, Err, if◌then◌else◌}
+use Rattle.std.specs.Prelude.{◌≡◌, ℕ, ◌+◌, ◌-◌, ◌<◌, ◌≤◌, ◌^◌, ◌==◌, min, max, Bool, true, false, ◌&&◌, ◌||◌, not, List, Option, Some, None, IfSome, is_some, pos, Result, Err, if◌then◌else◌}
 use Rattle.std.specs.Ordering.{nat_cmp}
 use Rattle.std.specs.BTreeMap.{is_at}
 use Rattle.std.specs.Map.{lookup, set_value}
@@ -17,7 +17,7 @@ use Rattle.qh_halves.specs.declared.recv_halves.StreamControl.TheVariants.{StopS
 use Rattle.qh_halves.specs.Counts.{is_in_range}
 use Rattle.qh_halves.specs.Limit.{is_due}
 use Rattle.qh_halves.specs.Pending.{PlainPending, has_room, waits}
-use Rattle.qh_half.specs.Recv.{PlainRecv, new_recv, ingest_fault, readable_fault, with_order, IsIngested, IsResetBy, IsReadAnswer, IsStopped, with_reset_given, reset_code, is_closed, is_done, counted, limit_of, is_limit_due, owes_limit, is_stop_due, owes_stop, is_frame_due, acked_stop, lost_stop}
+use Rattle.qh_half.specs.Recv.{PlainRecv, new_recv, ingest_fault, readable_fault, with_order, IsIngested, IsResetBy, IsReadAnswer, WaitsForMore, IsStopped, with_reset_given, reset_code, is_closed, is_done, counted, limit_of, is_limit_due, owes_limit, is_stop_due, owes_stop, is_frame_due, acked_stop, lost_stop}
 use Rattle.qh_buffers.specs.SendBuffer.{lost_mark}
 use Rattle.qh_halves.specs.declared.limit.AnnouncedLimit.{AnnouncedLimit}
 
@@ -28,7 +28,7 @@ pub record PlainRecvHalves : Type 0 where
   pub received : ℕ
   -- how many of them count as read
   pub credited : ℕ
-  -- so many bytes more than are read may come, of all streams, and of one
+  -- how many bytes more than are read may come, of all streams, and of one
   pub receive_window : ℕ
   pub stream_window : ℕ
   -- the connection's limit that was announced
@@ -39,7 +39,7 @@ pub record PlainRecvHalves : Type 0 where
 abbrev pub recv_half_in : List (ℕ × PlainRecv) → (id : ℕ) → Option PlainRecv
 recv_half_in halves id = lookup (is_at (nat_cmp id)) halves
 
--- the half of a stream; none where it is done or never was
+-- the half of a stream; none if it is done or never was
 abbrev pub recv_at : PlainRecvHalves → (id : ℕ) → Option PlainRecv
 recv_at s id = recv_half_in s.halves id
 
@@ -47,15 +47,15 @@ recv_at s id = recv_half_in s.halves id
 abbrev pub data_limit : PlainRecvHalves → ℕ
 data_limit s = max (min (2 ^ 62 - 1) (s.credited + s.receive_window)) s.announced.value
 
--- a half, or none where it is done
+-- a half, or none if it is done
 abbrev pub unless_done : PlainRecv → Option PlainRecv
 unless_done r = if is_done r then None else Some r
 
--- so many bytes more count as read, as far as a number of 64 bits holds them
+-- how many bytes count as read then, as far as a number of 64 bits holds them
 abbrev pub credited_after : (before : ℕ) → (old new : PlainRecv) → ℕ
 credited_after before old new = min (2 ^ 64 - 1) (before + (counted new - counted old))
 
--- The half of a stream becomes another one, and goes where that one is done; all others are as they were. So many bytes more
+-- The half of a stream becomes another one, and goes if that one is done; all others are as they were. `fresh` more bytes
 -- came, what the half newly counts as read is credited, and nothing else that the halves share changed.
 pub record IsRecvStep (P : PlainRecv → PlainRecv → Type 0) (old new : PlainRecvHalves) (id fresh : ℕ) : Type 0 where
   pub half : PlainRecv
@@ -75,7 +75,7 @@ pub record IsRecvHalf (old new : PlainRecvHalves) (id : ℕ) (half : Option Plai
   pub halves_are : (k : ℕ) → recv_at new k ≡ (if k == id then half else recv_at old k)
   pub rest_is : new ≡ record old { halves = new.halves }
 
--- streams got their halves: so many, each fourth id from the first on
+-- streams got their halves: `count` of them, each fourth id from the first on
 pub record AreRecvAdded (old new : PlainRecvHalves) (first count : ℕ) : Type 0 where
   pub halves_are : (k : ℕ) → recv_at new k ≡ (if is_in_range first count k then Some (new_recv (min old.stream_window (2 ^ 62 - 1))) else recv_at old k)
   pub rest_is : new ≡ record old { halves = new.halves }
@@ -125,6 +125,13 @@ Begins ordered r next = next ≡ with_order r ordered
 abbrev pub is_wanting : Result (Option Chunk) ReadFault → Bool
 is_wanting (Err Memory) = true
 is_wanting other = false
+
+-- nothing waits that a read of the half would give, in the order that its reads have, and in order or not; a half that isn't there has nothing
+abbrev pub WaitsAt : PlainRecvHalves → (id : ℕ) → Type 0
+WaitsAt s id = IfSome (recv_at s id) WaitsForMore
+
+abbrev pub WaitsInOrderAt : PlainRecvHalves → (id : ℕ) → (ordered : Bool) → Type 0
+WaitsInOrderAt s id ordered = IfSome (recv_at s id) (λ r. WaitsForMore (with_order r ordered))
 
 -- a read that begins, in order or not, and then answers so
 pub record IsBegunRead (max_length : ℕ) (ordered : Bool) (answer : Result (Option Chunk) ReadFault) (old new : PlainRecvHalves) (id : ℕ) : Type 0 where
@@ -213,7 +220,7 @@ pub record IsHalfWritten (P : PlainRecv → PlainRecv → Type 0) (old new : Lis
   pub step : P half next
   pub written : new ≡ set_value (is_at (nat_cmp id)) old next
 
--- no frame is due of a half, where it is there
+-- no frame is due of a half, if it is there
 abbrev pub IsNoneDue : Option PlainRecv → (window : ℕ) → Type 0
 IsNoneDue None window = Unit {0}
 IsNoneDue (Some r) window = is_frame_due r window ≡ false

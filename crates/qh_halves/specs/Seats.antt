@@ -1,4 +1,4 @@
--- How the queue of waiting streams is kept: each stream that has room has a place of its own, at which it stands where it waits.
+-- How the queue of waiting streams is kept: each stream that has room has a place of its own, at which it stands if it waits.
 use Rattle.std.specs.Prelude.{◌≡◌, ℕ, ℤ, ◌<◌, List, length, map, slice_index_or, Option, Some, None}
 use Rattle.std.specs.Ordering.{nat_cmp}
 use Rattle.std.specs.BTreeMap.{is_at}

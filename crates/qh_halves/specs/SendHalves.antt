@@ -19,7 +19,7 @@ use Rattle.qh_halves.specs.declared.send_halves.Transmission.{Transmission}
 use Rattle.qh_halves.specs.declared.send_halves.Transmission.TheVariants.{Stream, Reset}
 use Rattle.qh_halves.specs.Counts.{is_in_range}
 use Rattle.qh_halves.specs.Pending.{PlainPending, has_room, waits, goes_before}
-use Rattle.qh_half.specs.Send.{PlainSend, new_send, is_reset, is_done, write_fault, finish_fault, is_reset_refused, IsPieceOut, IsEndOut, IsPieceAcked, IsPieceQueued, IsSettled, with_reset_mark, with_reset_lost, with_bytes, owes_reset, held, Waits, is_writable, IsHeld}
+use Rattle.qh_half.specs.Send.{PlainSend, new_send, is_reset, is_done, write_fault, finish_fault, is_reset_refused, IsPieceOut, IsEndOut, IsPieceAcked, IsPieceQueued, IsSettled, with_reset_mark, with_reset_lost, with_bytes, owes_reset, held, Waits, is_writable, IsHeld, is_end_acked}
 
 pub record PlainSendHalves : Type 0 where
   -- the halves that aren't done, by id
@@ -28,22 +28,27 @@ pub record PlainSendHalves : Type 0 where
   pub max_data : ℕ
   -- how many bytes were taken, over all streams that ever were
   pub data_sent : ℕ
-  -- so many bytes may be held that aren't acknowledged
+  -- how many bytes may be held that aren't acknowledged
   pub send_window : ℕ
 
 abbrev pub half_in : List (ℕ × PlainSend) → (id : ℕ) → Option PlainSend
 half_in halves id = lookup (is_at (nat_cmp id)) halves
 
--- the half of a stream; none where it is done or never was
+-- the half of a stream; none if it is done or never was
 abbrev pub send_at : PlainSendHalves → (id : ℕ) → Option PlainSend
 send_at s id = half_in s.halves id
+
+-- the end of a half is acknowledged, as it is of one that is done
+abbrev pub half_end_acked : Option PlainSend → Bool
+half_end_acked None = true
+half_end_acked (Some h) = is_end_acked h.state
 
 -- how many bytes all halves hold
 abbrev pub unacked : List (ℕ × PlainSend) → ℕ
 unacked [] = 0
 unacked (e ∷ es) = held e.1 + unacked es
 
--- so many bytes may be taken now by the limits that the streams share
+-- how many bytes may be taken now by the limits that the streams share
 abbrev pub write_limit : PlainSendHalves → ℕ
 write_limit s = min (s.max_data - s.data_sent) (s.send_window - unacked s.halves)
 
@@ -52,7 +57,7 @@ abbrev pub held_of : Option PlainSend → ℕ
 held_of None = 0
 held_of (Some h) = held h
 
--- One half is another now, or gone, and all others are as they were. So many bytes more were taken, and nothing else that
+-- One half is another now, or gone, and all others are as they were. `taken` more bytes were taken, and nothing else that
 -- the halves share changed.
 pub record IsHalf (old new : PlainSendHalves) (id : ℕ) (half : Option PlainSend) (taken : ℕ) : Type 0 where
   pub halves_are : (k : ℕ) → send_at new k ≡ (if k == id then half else send_at old k)
@@ -85,7 +90,7 @@ pub record IsAbsent (old new : PlainSendHalves) (id : ℕ) : Type 0 where
   pub none : send_at old id ≡ None
   pub same : new ≡ old
 
--- streams got their halves: so many, each fourth id from the first on
+-- streams got their halves: `count` of them, each fourth id from the first on
 pub record AreAdded (old new : PlainSendHalves) (first count limit : ℕ) : Type 0 where
   pub halves_are : (k : ℕ) → send_at new k ≡ (if is_in_range first count k then Some (new_send limit) else send_at old k)
   pub rest_is : new ≡ record old { halves = new.halves }
@@ -153,7 +158,7 @@ IsResetAcked h next = next ≡ record h { state = with_reset_mark Acked h.state 
 abbrev pub IsResetLost : PlainSend → PlainSend → Type 0
 IsResetLost h next = next ≡ record h { state = with_reset_lost h.state }
 
--- an acknowledgement: the half goes on, goes, or is no more; it tells whether the half goes by it
+-- an acknowledgement: the half stays, goes, or is no more; it tells whether the half goes by it
 pub data IsSettledBy (P : PlainSend → PlainSend → Type 0) (old new : PlainSendHalves) (id : ℕ) : Bool → Type 0 where
   absent : IsAbsent old new id → IsSettledBy P old new id false
   on : IsStep P old new id 0 → IsSettledBy P old new id false

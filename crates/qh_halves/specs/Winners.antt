@@ -24,7 +24,7 @@ winner None b = b
 winner (Some p) None = Some p
 winner (Some p) (Some q) = if goes_before q p then Some q else Some p
 
--- it stands at a place, where it is one, and none that goes first stands at any
+-- it stands at a place, if it is one, and none that goes first stands at any
 pub record IsWinner (leaves : List Leaf) (o : Leaf) : Type 0 where
   pub is_there : (p : PendingStream) → o ≡ Some p → (place : ℕ) × (leaf leaves place ≡ Some p)
   pub before : (place : ℕ) → goes_first (leaf leaves place) o ≡ false

@@ -19,7 +19,7 @@ pub struct StreamCounts {
     pub accepted: u64,
     /// How many of these are closed: each half is done.
     pub closed: u64,
-    /// So many of them may be open at once.
+    /// How many of them may be open at once.
     pub max_concurrent: u64,
     /// The count that was announced to the peer.
     pub announced: AnnouncedLimit,
@@ -49,7 +49,7 @@ impl StreamCounts {
         limit.min(MAX_STREAMS).max(self.announced.value)
     }
 
-    /// The counts once the peer permits so many streams, at most 2^60. It never falls.
+    /// The counts once the peer permits `count` streams, at most 2^60. It never falls.
     pub fn with_max_opened(self, count: u64) -> StreamCounts
         ensures { result ≡ with_max_opened count self }
     {

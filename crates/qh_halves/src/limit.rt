@@ -25,7 +25,7 @@ impl AnnouncedLimit {
         }
     }
 
-    /// Whether a frame is to be sent where the limit is this one now: it rose, or the last frame is lost.
+    /// Whether a frame is to be sent if the limit is `limit` now: it rose, or the last frame is lost.
     pub fn is_due(self, limit: u64) -> bool
         ensures { result ≡ is_due self limit }
     {

@@ -15,7 +15,7 @@ use winner_tree::WinnerTree;
 pub struct PendingStream {
     /// The greater goes first.
     pub priority: i32,
-    /// Where the priority is the same, the lesser goes first.
+    /// If the priority is the same, the lesser goes first.
     pub id: u64,
 }
 
@@ -29,7 +29,7 @@ impl PendingStream {
 }
 
 /// Streams that wait for something to be sent, in the order in which they are served. A stream waits once, with one priority,
-/// and gets room before that: so no memory is taken where it waits. A call costs O(log n), `first` O(1), and `admit` O(log n)
+/// and gets room before that: so no memory is taken when it waits. A call costs O(log n), `first` O(1), and `admit` O(log n)
 /// amortized, with the n streams that had room at once at most so far. Each of them takes about 100 to 200 bytes: what a stream leaves
 /// is given to the next one, and is never given back to the allocator.
 #[derive(Drop)]
@@ -100,14 +100,14 @@ impl PendingStreamsQueue {
         self.ids.remove(place);
     }
 
-    /// The stream that is served first, None where none waits.
+    /// The stream that is served first, None if none waits.
     pub fn first(&self) -> Option<PendingStream>
         ensures { MatchOption result ((k : ℕ) → waits self.now k ≡ None) (IsFirst self.now) }
     {
         self.tree.first()
     }
 
-    /// Lets a stream wait that has room. Where it waits with another priority it waits with this one from now on.
+    /// Lets a stream wait that has room. If it waits with another priority it waits with this one from now on.
     pub fn insert(&mut self, stream: PendingStream)
         requires { has_room self.old stream.id ≡ true }
         ensures waits { (k : ℕ) → waits self.new k ≡ (if k == stream.id then Some stream.priority else waits self.old k) }

@@ -7,7 +7,7 @@ ghost use Rattle.qh_buffers.specs.declared.send_buffer.Mark.TheVariants.{Sent, A
 ghost use Rattle.qh_half.specs.declared.fault.ReadFault.TheVariants.{Memory as Lacking};
 ghost use Rattle.qh_halves.specs.Limit.{is_due, acked_at, lost_at, owes_value};
 ghost use Rattle.qh_half.specs.Recv.{PlainRecv, new_recv, ingest_fault, is_frame_due, IsFaultOf};
-ghost use Rattle.qh_halves.specs.RecvHalves.{recv_at, recv_half_in, data_limit, IsRecvHalf, IsRecvStep, IsRecvAbsent, ingest_fault_at, IsPieceTaken, IsResetTaken, readable_fault_at, is_closed_at, Reads, Begins, IsBegunRead, is_wanting, Stops, TakesReset, NoneIsDue, GivesControl, IsLimitAcked, IsLimitLost, IsStopAcked, IsStopLost, half_owes_limit, half_owes_stop, half_is_wanted, due_entry, is_credit_due, AreRecvAdded, PlainRecvHalves, IsSettled, IsHalfWritten, IsNoneDue};
+ghost use Rattle.qh_halves.specs.RecvHalves.{recv_at, recv_half_in, data_limit, IsRecvHalf, IsRecvStep, IsRecvAbsent, ingest_fault_at, IsPieceTaken, IsResetTaken, readable_fault_at, is_closed_at, Reads, Begins, WaitsAt, WaitsInOrderAt, IsBegunRead, is_wanting, Stops, TakesReset, NoneIsDue, GivesControl, IsLimitAcked, IsLimitLost, IsStopAcked, IsStopLost, half_owes_limit, half_owes_stop, half_is_wanted, due_entry, is_credit_due, AreRecvAdded, PlainRecvHalves, IsSettled, IsHalfWritten, IsNoneDue};
 ghost use Rattle.qh_halves.specs.Counts.{is_in_range};
 ghost use Rattle.qh_halves.specs.Pending.{has_room};
 
@@ -130,7 +130,7 @@ impl RecvHalves {
         let _ = self.halves.remove(&id);
     }
 
-    /// Streams get their halves, so many, each fourth id from the first on.
+    /// Gives `count` streams their halves, each fourth id from the first on.
     pub fn insert_range(&mut self, alloc: Global, first: u64, count: u64) -> Result<(), Memory>
         requires fits { first + 4 * count < 2 ^ 64 }
         requires fresh { (k : ℕ) → is_in_range first count k ≡ true → recv_at self.old k ≡ None }
@@ -172,7 +172,7 @@ impl RecvHalves {
         self.receive_window = bytes;
     }
 
-    /// A piece of a stream came, with its end or not. Where the stream has no half it is dropped.
+    /// A piece of a stream came, with its end or not. If the stream has no half it is dropped.
     pub fn ingest(&mut self, id: u64, piece: Chunk, fin: bool) -> Result<(), IngestFault>
         ensures ok { OnOk result (IsPieceTaken self.old self.new id piece fin ⊎ IsRecvAbsent self.old self.new id) }
         ensures taken { OnOk result (ingest_fault_at self.old id (piece.offset + length piece.bytes) fin ≡ None) }
@@ -211,7 +211,7 @@ impl RecvHalves {
         None
     }
 
-    /// A reset of a stream came, with its final size. Where the stream has no half it is dropped.
+    /// A reset of a stream came, with its final size. If the stream has no half it is dropped.
     pub fn received_reset(&mut self, id: u64, code: VarInt, size: VarInt) -> Result<(), IngestFault>
         ensures ok { OnOk result (IsResetTaken self.old self.new id code size ⊎ IsRecvAbsent self.old self.new id) }
         ensures taken { OnOk result (ingest_fault_at self.old id size true ≡ None) }
@@ -230,7 +230,7 @@ impl RecvHalves {
         Ok(())
     }
 
-    /// Begins to read, in order or not. An ordered read after an unordered one is refused; ClosedStream where the stream has no
+    /// Begins to read, in order or not. An ordered read after an unordered one is refused; ClosedStream if the stream has no
     /// half, or was stopped.
     pub fn begin_read(&mut self, id: u64, ordered: bool) -> Result<(), ReadableFault>
         ensures ok { OnOk result ((readable_fault_at self.old id ordered ≡ None) × IsRecvStep (Begins ordered) self.old self.new id 0) }
@@ -263,6 +263,7 @@ impl RecvHalves {
         requires { readable_fault_at self.old id ordered ≡ None }
         ensures answer { IsBegunRead max_length (ordered || is_wanting result) result self.old self.new id }
         ensures memory { result ≡ Err Lacking → self.new ≡ self.old }
+        ensures lacks { result ≡ Err Lacking → WaitsInOrderAt self.old id ordered → ⊥ }
     {
         let Some(half) = self.halves.get_mut(&id) else {
             return Err(ReadFault::Blocked);
@@ -290,11 +291,12 @@ impl RecvHalves {
         }
     }
 
-    /// Gives bytes that wait, at most so many, or the end, None, or the reset. Where it gives the end or the reset the half is
+    /// Gives at most `max_length` bytes that wait, or the end, None, or the reset. If it gives the end or the reset the half is
     /// done and leaves.
     pub fn next(&mut self, id: u64, max_length: usize) -> Result<Option<Chunk>, ReadFault>
         requires { is_closed_at self.old id ≡ false }
-        ensures { IsRecvStep (Reads max_length result) self.old self.new id 0 }
+        ensures answer { IsRecvStep (Reads max_length result) self.old self.new id 0 }
+        ensures lacks { result ≡ Err Lacking → WaitsAt self.old id → ⊥ }
     {
         let Some(half) = self.halves.get_mut(&id) else {
             return Err(ReadFault::Blocked);
@@ -309,8 +311,8 @@ impl RecvHalves {
         result
     }
 
-    /// No more bytes of a stream are wanted: what waits is dropped, and what comes. Where the final size isn't known the peer is
-    /// to be told, with this code; else the half is done and leaves. ClosedStream where the stream has no half, or was stopped.
+    /// No more bytes of a stream are wanted: what waits is dropped, and what comes. If the final size isn't known the peer is
+    /// to be told, with this code; else the half is done and leaves. ClosedStream if the stream has no half, or was stopped.
     pub fn stop(&mut self, id: u64, code: VarInt) -> Result<(), ClosedStream>
         ensures ok { OnOk result (IsRecvStep (Stops code) self.old self.new id 0) }
         ensures fault { OnErr result ((is_closed_at self.old id ≡ true) × (self.new ≡ self.old)) }
@@ -327,7 +329,7 @@ impl RecvHalves {
         Ok(())
     }
 
-    /// The code of the peer's reset, where one came: the half is done then and leaves. ClosedStream as `stop`.
+    /// The code of the peer's reset, if one came: the half is done then and leaves. ClosedStream as `stop`.
     pub fn take_reset(&mut self, id: u64) -> Result<Option<VarInt>, ClosedStream>
         ensures ok { IfOk result (λ code. IsRecvStep (TakesReset code) self.old self.new id 0) }
         ensures fault { OnErr result ((is_closed_at self.old id ≡ true) × (self.new ≡ self.old)) }
@@ -341,7 +343,7 @@ impl RecvHalves {
         Ok(code)
     }
 
-    /// The next STOP_SENDING or MAX_STREAM_DATA frame that is to be sent, and its stream. It counts as sent. None where none is
+    /// The next STOP_SENDING or MAX_STREAM_DATA frame that is to be sent, and its stream. It counts as sent. None if none is
     /// due.
     pub fn next_control(&mut self) -> Option<(u64, StreamControl)>
         ensures some { IfSome result (λ t. IsRecvStep (GivesControl self.old.stream_window t.1) self.old self.new t.0 0) }
@@ -356,6 +358,14 @@ impl RecvHalves {
         None
     }
 
+    /// Whether `next_control` has anything to look at: if not, no STOP_SENDING or MAX_STREAM_DATA frame is due. A stream of which
+    /// the frame is no longer due may still be there.
+    pub fn has_control(&self) -> bool
+        ensures { result ≡ false → NoneIsDue self.now }
+    {
+        self.due.first().is_some()
+    }
+
     /// The connection's limit: the bytes read and the window, at most 2^62 - 1. It never falls.
     pub fn max_data(&self) -> u64
         ensures { result ≡ data_limit self.now }
@@ -364,7 +374,7 @@ impl RecvHalves {
         limit.min(VarInt::MAX_VALUE).max(self.announced.value)
     }
 
-    /// The connection's limit that is to be announced, where it rose over the last one or the frame with the last one is lost.
+    /// The connection's limit that is to be announced, if it rose over the last one or the frame with the last one is lost.
     /// It counts as announced then.
     pub fn next_max_data(&mut self) -> Option<VarInt>
         ensures some { IfSome result (λ limit. (limit ≡ data_limit self.old) × (is_due self.old.announced limit ≡ true) × (self.new ≡ record self.old { announced = record { value = limit; mark = Sent } })) }
@@ -376,6 +386,13 @@ impl RecvHalves {
         }
         self.announced = AnnouncedLimit::sent(limit);
         VarInt::from_u64(limit)
+    }
+
+    /// Whether the connection's limit is to be announced, as `next_max_data` has it.
+    pub fn is_max_data_due(&self) -> bool
+        ensures { result ≡ is_due self.now.announced (data_limit self.now) }
+    {
+        self.announced.is_due(self.max_data())
     }
 
     /// Whether the connection's limit is to be announced, or that of a stream.
@@ -396,7 +413,7 @@ impl RecvHalves {
         self.announced = self.announced.acked(limit.into_inner());
     }
 
-    /// A MAX_DATA frame with this limit is lost: where none with a greater one was sent, it waits again.
+    /// A MAX_DATA frame with this limit is lost: if none with a greater one was sent, it waits again.
     pub fn lose_max_data(&mut self, limit: VarInt)
         ensures { self.new ≡ record self.old { announced = lost_at limit self.old.announced } }
     {
@@ -420,7 +437,7 @@ impl RecvHalves {
         half.ack_max_stream_data(limit);
     }
 
-    /// A MAX_STREAM_DATA frame with this limit is lost: where none with a greater one was sent, it waits again.
+    /// A MAX_STREAM_DATA frame with this limit is lost: if none with a greater one was sent, it waits again.
     pub fn lose_max_stream_data(&mut self, id: u64, limit: VarInt)
         ensures { IsRecvStep (IsLimitLost limit) self.old self.new id 0 ⊎ IsRecvAbsent self.old self.new id }
     {
@@ -451,7 +468,7 @@ impl RecvHalves {
         half.ack_stop();
     }
 
-    /// A STOP_SENDING frame is lost: where it isn't acknowledged it waits again.
+    /// A STOP_SENDING frame is lost: if it isn't acknowledged it waits again.
     pub fn lose_stop(&mut self, id: u64)
         ensures { IsRecvStep IsStopLost self.old self.new id 0 ⊎ IsRecvAbsent self.old self.new id }
     {

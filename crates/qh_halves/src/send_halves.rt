@@ -8,7 +8,7 @@ ghost use Rattle.std.specs.List.Sorted.{IsStrictlySortedBy};
 ghost use Rattle.qh_buffers.specs.SendBuffer.{empty_buffer, bytes_between, taken_to};
 ghost use Rattle.qh_half.specs.declared.send.SendState.TheVariants.{Ready};
 ghost use Rattle.qh_half.specs.Send.{PlainSend, IsWriteFault, credit, chunks_after, whole_chunks, Waits, new_send};
-ghost use Rattle.qh_halves.specs.SendHalves.{send_at, write_limit, write_fault_at, finish_fault_at, is_reset_refused_at, IsHalf, IsStep, IsAbsent, IsSettledBy, Takes, Finishes, IsResetWith, HasPriority, IsStoppedWith, HasLimit, IsUnblocked, IsAcked, IsLost, IsResetAcked, IsResetLost, IsSentNext, NoneWaits, IsSpanAt, IsOutNow, half_holds, half_in, KeepsSpans, IsSettledAt, half_owes_reset, half_priority, half_is_writable, Gives, AreAdded, HasForm, PlainSendHalves, half_is_out, IsNextToSend};
+ghost use Rattle.qh_halves.specs.SendHalves.{send_at, write_limit, write_fault_at, finish_fault_at, is_reset_refused_at, IsHalf, IsStep, IsAbsent, IsSettledBy, Takes, Finishes, IsResetWith, HasPriority, IsStoppedWith, HasLimit, IsUnblocked, IsAcked, IsLost, IsResetAcked, IsResetLost, IsSentNext, NoneWaits, IsSpanAt, IsOutNow, half_holds, half_in, KeepsSpans, IsSettledAt, half_owes_reset, half_priority, half_is_writable, half_end_acked, Gives, AreAdded, HasForm, PlainSendHalves, half_is_out, IsNextToSend};
 ghost use Rattle.qh_halves.specs.Counts.{is_in_range};
 
 use crate::{PendingStream, PendingStreamsQueue};
@@ -116,6 +116,16 @@ impl SendHalves {
     {
         let half = self.halves.get(&id)?;
         Some(half.offset() - half.unacked())
+    }
+
+    /// Whether the end of a stream is acknowledged, or its half is done or was never there.
+    pub fn is_end_acked(&self, id: u64) -> bool
+        ensures { result ≡ half_end_acked (send_at self.now id) }
+    {
+        match self.halves.get(&id) {
+            Some(half) => half.is_end_acked(),
+            None => true,
+        }
     }
 
     /// How many bytes of a stream were taken. None if its half is done, or was never there.
@@ -238,8 +248,8 @@ impl SendHalves {
         self.send_window = bytes;
     }
 
-    /// Takes the first bytes, as many as the limits permit: the stream's, the connection's and the send window. Where no byte
-    /// may be taken it answers ClosedStream, Stopped or Blocked, the first that fits; where the allocator has no memory,
+    /// Takes the first bytes, as many as the limits permit: the stream's, the connection's and the send window. If no byte
+    /// may be taken it answers ClosedStream, Stopped or Blocked, the first that fits; if the allocator has no memory,
     /// Memory. Then nothing changes.
     pub fn write(&mut self, alloc: Global, id: u64, payload: &[u8]) -> Result<usize, WriteFault>
         ensures count { IfOk result (λ n. IfSome (send_at self.old id) (λ h. n ≡ min (length payload.now) (credit h (write_limit self.old)))) }
@@ -319,7 +329,7 @@ impl SendHalves {
         Ok(())
     }
 
-    /// Whether the peer asked to stop, and with which code. ClosedStream where the half is done.
+    /// Whether the peer asked to stop, and with which code. ClosedStream if the half is done.
     pub fn stopped(&self, id: u64) -> Result<Option<VarInt>, ClosedStream>
         ensures code { MatchResult result (λ code. IfSome (send_at self.now id) (λ h. code ≡ h.stop_reason)) (λ e. send_at self.now id ≡ None) }
         ensures ok { OnOk result (IsSome (send_at self.now id)) }
@@ -330,7 +340,7 @@ impl SendHalves {
         }
     }
 
-    /// The priority among the streams that wait to be sent, 0 at first. ClosedStream where the half is done.
+    /// The priority among the streams that wait to be sent, 0 at first. ClosedStream if the half is done.
     pub fn priority(&self, id: u64) -> Result<i32, ClosedStream>
         ensures { MatchResult result (λ n. half_priority (send_at self.now id) ≡ Some n) (λ e. send_at self.now id ≡ None) }
     {
@@ -340,7 +350,7 @@ impl SendHalves {
         }
     }
 
-    /// Sets the priority among the streams that wait to be sent. ClosedStream where the half is done.
+    /// Sets the priority among the streams that wait to be sent. ClosedStream if the half is done.
     pub fn set_priority(&mut self, id: u64, priority: i32) -> Result<(), ClosedStream>
         ensures ok { OnOk result (IsStep (HasPriority priority) self.old self.new id 0) }
         ensures fault { OnErr result (IsAbsent self.old self.new id) }
@@ -383,7 +393,7 @@ impl SendHalves {
     }
 
     /// What is to be sent next, of the first stream in which something waits: the greater priority goes first, then the lesser
-    /// id. A STREAM frame has at most `max_len` bytes. It counts as sent. None where nothing waits in any stream.
+    /// id. A STREAM frame has at most `max_len` bytes. It counts as sent. None if nothing waits in any stream.
     pub fn poll_transmit(&mut self, max_len: usize) -> Result<Option<(u64, Transmission)>, Memory>
         requires { 0 < max_len }
         ensures none { IfOk result (λ o. o ≡ None → (self.new ≡ self.old) × NoneWaits self.old) }

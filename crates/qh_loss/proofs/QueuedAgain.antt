@@ -71,7 +71,7 @@ queued_packet kind old mid new es number packet any first second =
 some_more : (fs : List SentFrame) (f : SentFrame) → fs ++ f ∷ [] ≡ [] → ⊥
 some_more fs f none = let sum = sym (length-append fs (f ∷ [])) ∙ ap (λ (l : List SentFrame). length l) none in omega (arith, sum)
 
--- where no frame is queued, all is as it was
+-- if no frame is queued, all is as it was
 pub none_changed : (old new : PlainStreams) (fs : List SentFrame) (any : Bool) → AreQueuedAgain old new fs any → fs ≡ [] → new ≡ old
 none_changed old new fs any (none_queued _) none = refl
 none_changed old new fs any (owed_queued _ mid _ front was f before lost owes) none = absurd (some_more front f none)

@@ -42,7 +42,7 @@ pub record AreAckTaken (P : ℕ → SentPacket SentFrame → Type 0) (old new : 
 abbrev pub IsAckTaken : (ack : QuicFrame) (old new : List (ℕ × SentPacket SentFrame)) (streams_old streams_new : PlainStreams) (window_old window_new : WindowController) → Type 0
 IsAckTaken ack old new streams_old streams_new window_old window_new = AreAckTaken (λ k q. Covers ack k) old new streams_old streams_new window_old window_new
 
--- The same, and what that confirms is kept in a log; nothing is kept where it is off.
+-- The same, and what that confirms is kept in a log; nothing is kept if it is off.
 pub record AreAckConfirmed (P : ℕ → SentPacket SentFrame → Type 0) (old new : List (ℕ × SentPacket SentFrame)) (streams_old streams_new : PlainStreams) (window_old window_new : WindowController)
     (log_old log_new : Option (List Item)) : Type 0 where
   pub taken : AreAckTaken P old new streams_old streams_new window_old window_new
@@ -62,7 +62,7 @@ abbrev pub window_lost : (next_number : ℕ) → List (ℕ × SentPacket SentFra
 window_lost next_number [] c = c
 window_lost next_number (e ∷ es) c = window_lost next_number es (lost e.0 next_number c)
 
--- The packets that are lost by now are out no more, and their frames are lost; so many they are.
+-- The packets that are lost by now are out no more, and their frames are lost; `count` is how many packets they are.
 pub record AreLostTaken (largest_acked now delay next_number : ℕ) (old new : List (ℕ × SentPacket SentFrame)) (streams_old streams_new : PlainStreams)
     (window_old window_new : WindowController) (count : ℕ) : Type 0 where
   pub taken : List (ℕ × SentPacket SentFrame)
@@ -94,8 +94,8 @@ pub data AreQueuedAgain : (old new : PlainStreams) → List SentFrame → Bool �
 abbrev pub chosen : (SentFrame → Bool) → List SentFrame → List SentFrame
 chosen p fs = filter p fs
 
--- What a probe queues: the STREAM frames of the oldest packet in which one is owed; where there is none, the other frames of the
--- oldest packet; where nothing of them is owed, a PING.
+-- What a probe queues: the STREAM frames of the oldest packet in which one is owed; if there is none, the other frames of the
+-- oldest packet; if nothing of them is owed, a PING.
 pub data IsProbeQueued (old new : PlainStreams) (packets : List (ℕ × SentPacket SentFrame)) : Probe → Type 0 where
   stream : (mid : PlainStreams) (before after : List (ℕ × SentPacket SentFrame)) (number : ℕ) (packet : SentPacket SentFrame) → packets ≡ before ++ (number, packet) ∷ after
       → AreQueuedAgain old mid (chosen is_stream (frames_out before)) false → AreQueuedAgain mid new (chosen is_stream packet.frames.items) true

@@ -5,7 +5,7 @@ ghost use Rattle.qh_streams.specs.Streams.{PlainStreams, AreAllOut, IsWrittenBy,
 ghost use Rattle.qh_streams.specs.Tracked.{IsFresh};
 ghost use Rattle.qh_streams.specs.declared.frames.SentFrame.{SentFrame};
 
-/// What is owed is queued or out, with no packet at first, and where a packet goes out with all frames that were written for it.
+/// What is owed is queued or out, with no packet at first, and when a packet goes out with all frames that were written for it.
 pub fn owed()
     ensures fresh { (s : PlainStreams) → IsFresh s → AreOwed s [] }
     ensures sent { (room : ℕ) (old new : PlainStreams) (bytes_old bytes_new : List ℕ) (number : ℕ) (packet : SentPacket SentFrame) (packets : List (ℕ × SentPacket SentFrame))

@@ -18,7 +18,7 @@ pub enum Probe {
     Ping,
 }
 
-/// A probe is due (RFC 9002, section 6.2.4): the STREAM frames of the oldest packet in which one is owed wait again. Where there
+/// A probe is due (RFC 9002, section 6.2.4): the STREAM frames of the oldest packet in which one is owed wait again. If there
 /// is none, the other frames of the oldest packet do. No packet is lost by it. Packet numbers are below 2^62 (RFC 9000, section
 /// 12.3).
 pub fn queue_probe(streams: &mut Streams, sent: &SentPackets<SentFrame>) -> Probe

@@ -1,4 +1,4 @@
--- What is left of ranges where the least of them go.
+-- What is left of ranges when the least of them go.
 use Rattle.std.proofs.Common.{◌≡◌, ℕ, zero, suc, ◌-◌, ◌<◌, ◌≤◌, ◌==◌, ◌^◌, Bool, true, false, ◌&&◌, ◌||◌, nat_le, List, [], ◌∷◌, length, take, drop, Option, Some, None, MatchOption, sym, ap, ◌∙◌, arith, inl, inr, length-drop}
 use Rattle.std.proofs.lemmas.Bool.{cases_lt, cases_eq, le-leb, lt-leb, eq-eqb, ne_eqb, or_cases, both_ways, false_from_ne_true}
 use Rattle.std.specs.declared.ops.Range.{Range}
@@ -35,7 +35,7 @@ module _ (rs : List PlainRange) (i : ℕ) (apart : AreApart 0 rs) where
   cut_whole : 0 < bound_at → has rs bound_at ≡ false
   cut_whole some = has_cut rs i bound_at ∙ rw (gone bound_at (omega arith), left bound_at (omega arith))
 
--- the bound where none goes
+-- the bound if none goes
 bound_none : (rs : List PlainRange) (i : ℕ) (apart : AreApart 0 rs) → 0 < bound_at rs i apart → 0 < i
 bound_none rs zero apart h = absurd (omega arith)
 bound_none rs (suc i) apart h = omega arith
@@ -70,7 +70,7 @@ few_last old mid n apart few small numbers =
       ];
     }
 
--- the least range goes where there are more than 32
+-- the least range goes if there are more than 32
 pub last_step : (r : PlainRange) (rs : List PlainRange) → 32 < length (r ∷ rs) → last_ranges (r ∷ rs) ≡ last_ranges rs
 last_step r rs h =
     let e : length (r ∷ rs) - 32 ≡ suc (length rs - 32) = omega arith in

@@ -57,7 +57,7 @@ best_at_start w low e n m p q above first =
       | inr (inr more) ↦ let far = apart w low m n q p more in absurd (omega arith)
     ]
 
--- the candidate of a window: it ends in the low bytes, and it is a packet number where the expected one is
+-- the candidate of a window: it ends in the low bytes, and it is a packet number if the expected one is
 record IsFirst (e low w c : ℕ) : Type 0 where
   same_low : c % w ≡ low
   number : e < 2 ^ 62 → c < 2 ^ 62

@@ -25,7 +25,7 @@ le_or_eq k n h = elim (cases_eq k n) [
 below_or_not : (k n : ℕ) → (k < n) ⊎ (n ≤ k)
 below_or_not k n = grind arith
 
--- where no answer means this, it means that
+-- if no answer means this, it means that
 pub none_means : {X A B : Type 0} (P : X → Type 0) (o : Option X) → (A → B) → MatchOption o A P → MatchOption o B P
 none_means P None f was = f was
 none_means P (Some x) f was = was
@@ -92,7 +92,7 @@ module _ {F : Type 0} where
       → frame_count (without number es) + length packet.frames.items ≡ frame_count es
   taken_frames es number packet was = taken_sum (λ p. length p.frames.items) es number packet was
 
-  -- where none is at or above 0, there is none
+  -- if none is at or above 0, there is none
   pub none_out : (es : List (ℕ × SentPacket F)) → NoneIs (IsFrom 0) es → es ≡ []
   none_out [] none = refl
   none_out (e ∷ es) none = absurd (none e.0 e.1 (first_at e es) (omega arith))
@@ -111,7 +111,7 @@ module _ {F : Type 0} where
   pub none_far : (es : List (ℕ × SentPacket F)) (largest near : ℕ) → near ≡ largest - 2 → NoneIs (IsReordered largest) es → NoneIs (IsBelow near) es
   none_far es largest near near_is none = λ k q there below. none k q there (omega (arith, below, near_is))
 
-  -- the moment stays, where the next one comes no earlier
+  -- the moment stays, if the next one comes no earlier
   time_kept : (es : List (ℕ × SentPacket F)) (number delay moment : ℕ) → IsLossTime es number delay moment
       → ((q : SentPacket F) → packet_at es number ≡ Some q → moment ≤ overdue_at delay q) → IsLossTime es (number + 1) delay moment
   time_kept es number delay moment was later = record {
@@ -126,7 +126,7 @@ module _ {F : Type 0} where
     ];
   }
 
-  -- the next one's moment is taken, where the others come no earlier
+  -- the next one's moment is taken, if the others come no earlier
   time_taken : (es : List (ℕ × SentPacket F)) (number delay moment : ℕ) (packet : SentPacket F) → packet_at es number ≡ Some packet → moment ≡ overdue_at delay packet
       → ((k : ℕ) (q : SentPacket F) → packet_at es k ≡ Some q → k < number → moment ≤ overdue_at delay q) → IsLossTime es (number + 1) delay moment
   time_taken es number delay moment packet out then later = record {

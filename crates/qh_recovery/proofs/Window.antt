@@ -73,7 +73,7 @@ module _ (accepted : List ℕ) (kept : List PlainRange) (memory : Remembers acce
         is_last = λ m h. omega (arith, all_below (g + 1) next m h);
       }
 
--- nothing is kept only where nothing came
+-- nothing is kept only if nothing came
 none_is : (accepted : List ℕ) → Remembers accepted [] → accepted ≡ []
 none_is [] memory = refl
 none_is (x ∷ xs) memory =

@@ -18,7 +18,7 @@ pub record IsGreatestOf (accepted : List ℕ) (n : ℕ) : Type 0 where
   pub is_there : In n accepted
   pub is_last : (m : ℕ) → In m accepted → m ≤ n
 
--- the greatest accepted number plus 1, or 0 where none was accepted
+-- the greatest accepted number plus 1, or 0 if none was accepted
 pub record IsNextOf (accepted : List ℕ) (next : ℕ) : Type 0 where
   pub is_above : (m : ℕ) → In m accepted → m < next
   pub is_least : 0 < next → In (next - 1) accepted
@@ -34,7 +34,7 @@ pub record IsWindow (kept : List PlainRange) : Type 0 where
   pub few : length kept ≤ 65
   pub below : (k : ℕ) → has kept k ≡ true → k < 2 ^ 62
 
--- the greatest number plus 1, or 0 where there is none
+-- the greatest number plus 1, or 0 if there is none
 pub record IsNextIn (kept : List PlainRange) (next : ℕ) : Type 0 where
   pub is_above : (k : ℕ) → has kept k ≡ true → k < next
   pub is_least : 0 < next → has kept (next - 1) ≡ true

@@ -13,8 +13,8 @@ pub record PlainPendingAcks : Type 0 where
   -- an ACK is due
   pub is_due : Bool
 
--- A number joins the others, and the least ranges go, whole, where there would be more than 32: all numbers below a bound,
--- which is 0 where none goes. No two ranges touch.
+-- A number joins the others, and the least ranges go, whole, if there would be more than 32: all numbers below a bound,
+-- which is 0 if none goes. No two ranges touch.
 pub record IsJoined (old new : List PlainRange) (n bound : ℕ) : Type 0 where
   pub numbers : (k : ℕ) → has new k ≡ (nat_le bound k && (k == n || has old k))
   pub apart : AreApartRanges 0 new

@@ -4,7 +4,7 @@ use Rattle.std.specs.Int.{abs_diff}
 use Rattle.qh_base.specs.declared.time.Span.{Span}
 use Rattle.qh_recovery.specs.declared.paths.RttEstimator.{RttEstimator}
 
--- a length of time of so many nanoseconds
+-- a length of time of this many nanoseconds
 abbrev pub span : (nanoseconds : ℕ) → Span
 span nanoseconds = record { 0 = nanoseconds }
 
@@ -24,7 +24,7 @@ varied var smoothed sample = (3 * var + abs_diff smoothed sample) / 4
 abbrev pub smoothed_by : (smoothed sample : ℕ) → ℕ
 smoothed_by smoothed sample = (7 * smoothed + sample) / 8
 
--- after a later sample, where this was the smoothed time before it (sections 5.2 and 5.3)
+-- after a later sample, if this was the smoothed time before it (sections 5.2 and 5.3)
 abbrev pub later_sample : (smoothed sample : ℕ) → RttEstimator → RttEstimator
 later_sample smoothed sample e = record { latest = span sample; smoothed = Some (span (smoothed_by smoothed sample)); var = span (varied e.var.0 smoothed sample); min = span (min e.min.0 sample) }
 

@@ -9,7 +9,7 @@ use Rattle.qh_base.specs.declared.time.Moment.{Moment}
 use Rattle.qh_recovery.specs.declared.sent_packets.SentPacket.{SentPacket}
 
 module _ {F : Type 0} where
-  -- the packet with a number; none where it isn't out
+  -- the packet with a number; none if it isn't out
   abbrev pub packet_at : List (ℕ × SentPacket F) → (number : ℕ) → Option (SentPacket F)
   packet_at packets number = lookup (is_at (nat_cmp number)) packets
 
@@ -86,7 +86,7 @@ module _ {F : Type 0} where
   abbrev pub IsReordered : (largest_acked : ℕ) → ℕ → SentPacket F → Type 0
   IsReordered largest_acked k q = k + 3 ≤ largest_acked
 
-  -- sent before one that is acknowledged, and longer ago than the delay (section 6.1.2); no time has passed where it was sent
+  -- sent before one that is acknowledged, and longer ago than the delay (section 6.1.2); no time has passed if it was sent
   -- later than now
   abbrev pub IsOverdue : (largest_acked now delay : ℕ) → ℕ → SentPacket F → Type 0
   IsOverdue largest_acked now delay k q = (k < largest_acked) × (delay < now - q.time_sent.0)

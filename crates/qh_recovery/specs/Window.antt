@@ -2,7 +2,7 @@
 use Rattle.std.specs.Prelude.{ℕ, ◌+◌, ◌-◌, ◌/◌, ◌^◌, ◌==◌, nat_lt, nat_le, min, max, Bool, true, ◌||◌, Option, Some, None, if◌then◌else◌}
 use Rattle.qh_recovery.specs.declared.congestion.WindowController.{WindowController}
 
--- a count stands still at the greatest number of its type
+-- a count saturates at the greatest number of its type
 abbrev pub counted : ℕ → ℕ
 counted n = min (2 ^ 64 - 1) n
 
@@ -39,7 +39,7 @@ halved window = max (window / 2) 2400
 abbrev pub cut : (next_number : ℕ) → WindowController → WindowController
 cut next_number c = record { window = halved c.window; ssthresh = Some (halved c.window); bytes_acked = 0; recovery_from = next_number }
 
--- after a packet is lost: nothing changes where it was sent before the last cut (section 7.3.2)
+-- after a packet is lost: nothing changes if it was sent before the last cut (section 7.3.2)
 abbrev pub lost : (number next_number : ℕ) → WindowController → WindowController
 lost number next_number c = if nat_le c.recovery_from number then cut next_number c else c
 

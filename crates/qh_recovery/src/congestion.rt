@@ -30,7 +30,7 @@ pub struct ControllerMetrics {
 }
 
 impl WindowController {
-    /// A window of so many bytes.
+    /// A window of `initial_window` bytes.
     pub fn new(initial_window: u64) -> WindowController
         ensures { result ≡ new_controller initial_window }
     {
@@ -42,7 +42,7 @@ impl WindowController {
         }
     }
 
-    /// Bytes that were in flight are acknowledged (RFC 9002, sections 7.3.1 and 7.3.3). Each count stands still at the greatest
+    /// Bytes that were in flight are acknowledged (RFC 9002, sections 7.3.1 and 7.3.3). Each count saturates at the greatest
     /// number of 64 bits.
     pub fn on_ack(&mut self, bytes: u64)
         ensures { self.new ≡ acked bytes self.old }
@@ -70,7 +70,7 @@ impl WindowController {
         }
     }
 
-    /// The packet with a number is lost, and the next packet will bear the next number. The window is halved where the lost one
+    /// The packet with a number is lost, and the next packet will bear the next number. The window is halved if the lost one
     /// was sent after the last cut (RFC 9002, section 7.3.2). Then no loss of a packet that was sent before halves it again.
     pub fn on_loss(&mut self, number: u64, next_number: u64)
         ensures value { self.new ≡ lost number next_number self.old }
@@ -98,7 +98,7 @@ impl WindowController {
         }
     }
 
-    /// Whether one more datagram of 1,200 bytes may be sent while so many bytes are in flight: it fits into the window, or
+    /// Whether one more datagram of 1,200 bytes may be sent while `in_flight` bytes are in flight: it fits into the window, or
     /// none is (RFC 9002, section 7).
     pub fn allows(self, in_flight: u64) -> bool
         ensures { result ≡ allows self in_flight }

@@ -8,8 +8,8 @@ const PACKET_NUMBERS: u64 = 1 << 62;
 /// number that came, or 0 before any (RFC 9000, section 17.1 and appendix A.3). It is the nearest to the expected one that ends
 /// in these bytes, and the greater of two that are as near.
 ///
-/// No number of 2^62 or more is meant while the expected one is below 2^62. Where that is 2^62, so that no packet number is
-/// left, the result is 2^62 or more exactly where `low` is at most half of `256^width`. Who called drops such a packet.
+/// No number of 2^62 or more is meant while the expected one is below 2^62. If that is 2^62, so that no packet number is
+/// left, the result is 2^62 or more exactly if `low` is at most half of `256^width`. Who called drops such a packet.
 pub fn expand(expected: u64, low: u64, width: usize) -> u64
     requires some { 1 ≤ width }
     requires few { width ≤ 4 }
@@ -27,8 +27,8 @@ pub fn one_number()
     ensures { (expected low width n m : ℕ) → IsExpanded expected low width n → IsExpanded expected low width m → n ≡ m }
 {}
 
-/// The nearest to the expected number of a candidate, the one a window above it, where that is a packet number, and the one a
-/// window below it, where there is one.
+/// The nearest to the expected number of a candidate, the one a window above it, if that is a packet number, and the one a
+/// window below it, if there is one.
 fn nearest(expected: u64, candidate: u64, window: u64) -> u64
     requires expected { expected ≤ 2 ^ 62 }
     requires above { candidate < expected + window }

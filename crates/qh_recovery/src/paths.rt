@@ -86,8 +86,8 @@ impl RttEstimator {
         Span(self.pto_base().0.saturating_mul(factor))
     }
 
-    /// How much later than a packet an acknowledged one was sent where the packet counts as lost, or the greatest time that
-    /// there is (RFC 9002, section 6.1.2).
+    /// The time after which a packet counts as lost if a later one is acknowledged, or the greatest time that there is (RFC
+    /// 9002, section 6.1.2).
     pub fn loss_delay(self) -> Span
         ensures { result.0 ≡ loss_delay self }
     {

@@ -18,7 +18,7 @@ pub struct SentPacket<F> {
     pub time_sent: Moment,
     /// How many bytes its datagram has.
     pub size: u64,
-    /// What it bears that is to be sent again where it is lost.
+    /// What it bears that is to be sent again if it is lost.
     pub frames: Vec<F>,
 }
 
@@ -120,7 +120,7 @@ impl<F: Drop> SentPackets<F> {
         Some(packet.time_sent)
     }
 
-    /// A packet is sent. Its number is greater than all that are out. Where the allocator has no memory, or the bytes in flight
+    /// A packet is sent. Its number is greater than all that are out. If the allocator has no memory, or the bytes in flight
     /// or the count of frames would exceed what 64 bits hold, the packet is dropped.
     pub fn insert(&mut self, number: u64, packet: SentPacket<F>) -> Result<(), Memory>
         requires { IsNext number self.old }

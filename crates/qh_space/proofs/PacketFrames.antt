@@ -80,7 +80,7 @@ module _ (room left : ℕ) (old new : PlainStreams) (out_old out_mid out_new due
       let fits = written_fits left old new written.frames written.bytes written.written in
       (omega (arith, first, second), omega (arith, first, second, fits, few, left_is, wide))
 
-  -- where nothing was appended nothing waits
+  -- if nothing was appended nothing waits
   pub eliciting_idle : IsIdle new ⊎ (left < length out_new - length out_mid + max_frame_header + 1) → out_new ≡ out_old → (length due ≡ 0) × IsIdle new
   eliciting_idle full same =
       let first = ap length mid_is ∙ length-append out_old due in
@@ -98,7 +98,7 @@ module _ (room left : ℕ) (old new : PlainStreams) (out_old out_mid out_new due
       let first = ap length mid_is ∙ length-append out_old due in
       subst (AreShared old new) (sym written.sent_is) (written.shared (omega (arith, first, few, left_is, enough)))
 
--- where no byte is due, no PING and no PATH_RESPONSE is
+-- if no byte is due, no PING and no PATH_RESPONSE is
 pub none_due : (ping : Bool) (response : Option (List ℕ)) → length (bytes_if ping ping_bytes ++ response_bytes response) ≡ 0 → (ping ≡ false) × (response ≡ None)
 none_due true response e =
     let sum = length-append ping_bytes (response_bytes response) in

@@ -10,7 +10,7 @@ use Rattle.qh_space.specs.Space.{IsSpace}
 use Rattle.qh_space.specs.declared.data_space.DataSpace.{DataSpace}
 use Rattle.std.proofs.lemmas.Option.{same_Some}
 
--- where packets only went, those that are left have numbers below the next one
+-- if packets only went, those that are left have numbers below the next one
 pub next_left : (P : ℕ → SentPacket SentFrame → Type 0) (number : ℕ) (old new taken : List (ℕ × SentPacket SentFrame)) → AreTaken P old new taken → IsNext number old → IsNext number new
 next_left P number old new taken packets next k q there = next k q ((packets.left k q).0 there).0
 

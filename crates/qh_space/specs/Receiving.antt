@@ -1,6 +1,6 @@
 -- What a frame of the peer's does to the space, and which are refused (RFC 9000, sections 12.4, 13 and 19; RFC 9002, sections 5
 -- and 6).
-use Rattle.std.specs.Prelude.{◌≡◌, ℕ, ◌+◌, ◌-◌, ◌^◌, ◌==◌, nat_lt, min, max, take, Bool, true, false, List, Option, Some, None, if◌then◌else◌}
+use Rattle.std.specs.Prelude.{◌≡◌, ℕ, ◌+◌, ◌-◌, ◌^◌, ◌==◌, nat_lt, min, max, take, Bool, true, false, List, Option, Some, None, is_some, if◌then◌else◌}
 use Rattle.qh_base.specs.declared.connection_error.ConnectionError.{ConnectionError}
 use Rattle.qh_base.specs.declared.connection_error.ConnectionError.TheVariants.{ConnectionClosed, ApplicationClosed}
 use Rattle.qh_frame.specs.Plain.{ack_of}
@@ -59,7 +59,14 @@ frame_refusal s kind.HandshakeDone = refused_at_server s.streams.side frame_type
 frame_refusal s (kind.Datagram payload has_length) = refused codes.protocol_violation (type_of (kind.Datagram payload has_length))
 frame_refusal s f = coming_refusal s.streams (coming_of f)
 
--- a round-trip time was measured where the packet with the greatest acknowledged number was out (RFC 9002, section 5.1)
+-- Want of memory may come for a frame of which something is to be kept: of a stream, or of a count; of a limit on all bytes and of an
+-- ACK only if the log is on.
+abbrev pub may_want_memory : DataSpace → Frame → Bool
+may_want_memory s (kind.Ack a) = is_some s.log
+may_want_memory s (kind.MaxData limit) = is_some s.log
+may_want_memory s f = is_some (coming_of f)
+
+-- a round-trip time was measured if the packet with the greatest acknowledged number was out (RFC 9002, section 5.1)
 abbrev pub measured : Option (SentPacket SentFrame) → (now : ℕ) → RttEstimator → RttEstimator
 measured None now rtt = rtt
 measured (Some p) now rtt = sampled (now - p.time_sent.0) rtt
@@ -68,13 +75,13 @@ abbrev pub greatest_of : Option ℕ → ℕ → ℕ
 greatest_of None n = n
 greatest_of (Some m) n = max m n
 
--- What is lost by now is lost, where this is the greatest number that was acknowledged (RFC 9002, section 6.1).
+-- What is lost by now is lost, if this is the greatest number that was acknowledged (RFC 9002, section 6.1).
 pub record IsLossTaken (largest_acked now : ℕ) (old new : DataSpace) : Type 0 where
   pub count : ℕ
   pub lost : AreLostTaken largest_acked now (loss_delay old.rtt) old.next_number old.sent new.sent old.streams new.streams old.congestion new.congestion count
   pub rest_is : new ≡ record old { streams = new.streams; sent = new.sent; congestion = new.congestion; packets_lost = min (2 ^ 64 - 1) (old.packets_lost + count) }
 
--- An ACK came (RFC 9002, appendix A.7): a sample is taken, what it covers is acknowledged, which the log keeps where it is on, and
+-- An ACK came (RFC 9002, appendix A.7): a sample is taken, what it covers is acknowledged, which the log keeps if it is on, and
 -- what is lost by it is lost.
 pub record IsAckReceived (now : ℕ) (old new : DataSpace) (a : Ack) : Type 0 where
   pub mid : DataSpace

@@ -25,7 +25,7 @@ bytes_if false bytes = []
 abbrev pub ping_bytes : List ℕ
 ping_bytes = frame_bytes (frame frame_types.ping [])
 
--- a PATH_RESPONSE, where one is due (RFC 9000, section 19.18)
+-- a PATH_RESPONSE, if one is due (RFC 9000, section 19.18)
 abbrev pub response_bytes : Option (List ℕ) → List ℕ
 response_bytes None = []
 response_bytes (Some echoed) = frame_bytes (frame frame_types.path_response (Text echoed ∷ []))
@@ -39,7 +39,7 @@ ReadsBack (Some echoed) = IsReadBack (frame frame_types.path_response (Text echo
 abbrev pub due_bytes : DataSpace → List ℕ
 due_bytes s = bytes_if s.is_ping_due ping_bytes ++ response_bytes s.path_response
 
--- What was appended for ack-eliciting frames, in so much room, where they may be sent: the PING and the PATH_RESPONSE that are due,
+-- What was appended for ack-eliciting frames, in this much room, if they may be sent: the PING and the PATH_RESPONSE that are due,
 -- then frames of the streams, until nothing waits or there is no room for a frame's head and one byte.
 pub record AreElicitingPut (room : ℕ) (old new : DataSpace) (out_old out_new : List ℕ) (frames : List SentFrame) : Type 0 where
   pub streams : IsWrittenBy (room - length (due_bytes old)) old.streams new.streams (out_old ++ due_bytes old) out_new [] frames
@@ -47,11 +47,11 @@ pub record AreElicitingPut (room : ℕ) (old new : DataSpace) (out_old out_new :
   pub reads_back : ReadsBack old.path_response
   pub full : IsIdle new.streams ⊎ (room < length out_new - length out_old + (max_frame_header + 1))
 
--- an ACK is put first, where one is due (RFC 9000, section 13.2.1)
+-- an ACK is put first, if one is due (RFC 9000, section 13.2.1)
 abbrev pub IsAckFirst : DataSpace → (out_old out_mid : List ℕ) → Type 0
 IsAckFirst s out_old out_mid = MatchBool s.acks.is_due (IsAckPut s.acks.ranges out_old out_mid) (out_mid ≡ out_old)
 
--- the space once a packet was sent with these frames: it is out where it has more than an ACK, and then it is the probe packet
+-- the space once a packet was sent with these frames: it is out if it has more than an ACK, and then it is the probe packet
 -- that was due
 abbrev pub with_sent : DataSpace → (packet : SentPacket SentFrame) → (is_eliciting : Bool) → DataSpace
 with_sent s packet true = record s {
@@ -63,7 +63,7 @@ with_sent s packet true = record s {
 }
 with_sent s packet false = record s { next_number = s.next_number + 1 }
 
--- A packet was made: an ACK where one is due, then ack-eliciting frames where they may be sent. It has some frame, and no more
+-- A packet was made: an ACK if one is due, then ack-eliciting frames if they may be sent. It has some frame, and no more
 -- bytes of frames than there is room for.
 pub record IsPacketMade (now overhead room : ℕ) (old new : DataSpace) (out_old out_new : List ℕ) : Type 0 where
   pub out_mid : List ℕ

@@ -1,11 +1,11 @@
-ghost use Rattle.std.specs.Prelude.{◌≡◌, [], None, Some, false, OnOk, OnErr};
+ghost use Rattle.std.specs.Prelude.{◌≡◌, Bool, [], None, Some, false, OnOk, OnErr};
 ghost use Rattle.std.specs.Option.{option_map};
 ghost use Rattle.qh_recovery.specs.Accepted.{Remembers};
 ghost use Rattle.qh_recovery.specs.Rtt.{new_estimator};
 ghost use Rattle.qh_recovery.specs.Window.{new_controller};
 ghost use Rattle.qh_space.specs.Space.{AreUnused, IsSpace, first_streams};
 ghost use Rattle.qh_streams.specs.Items.{first_items, kept_in};
-ghost use Rattle.qh_streams.specs.Streams.{with_peer};
+ghost use Rattle.qh_streams.specs.Streams.{counts_of, with_peer};
 ghost use Rattle.qh_streams.specs.Tracked.{IsFresh};
 
 use qh_base::{Memory, Side, Span};
@@ -40,13 +40,13 @@ pub struct DataSpace {
     pub dedup: Dedup,
     /// Which of them are to be acknowledged.
     pub acks: PendingAcks,
-    /// The number of the next packet, 2^62 where none is left.
+    /// The number of the next packet, 2^62 if none is left.
     pub next_number: u64,
     /// The greatest number that the peer acknowledged.
     pub largest_acked: Option<u64>,
     /// Whether a PING is to be sent.
     pub is_ping_due: bool,
-    /// What a PATH_RESPONSE is to give back, where one is to be sent: the bytes of the last PATH_CHALLENGE.
+    /// What a PATH_RESPONSE is to give back, if one is to be sent: the bytes of the last PATH_CHALLENGE.
     pub path_response: Option<[u8; 8]>,
     /// The round-trip time.
     pub rtt: RttEstimator,
@@ -97,9 +97,12 @@ impl DataSpace {
         }
     }
 
-    /// Keeps a log from now on of what the peer's frames bring the streams; it begins with the peer's first limits. For want of
-    /// memory nothing changes.
+    /// Keeps a log from now on of what the peer's frames bring the streams, which aren't used yet; it begins with the peer's first
+    /// limits. For want of memory nothing changes. A connection that ends for want of memory drops its log.
     pub fn start_log(&mut self, alloc: Global) -> Result<(), Memory>
+        requires unused { AreUnused self.old.streams self.old.streams.peer }
+        requires arrived { (two_way : Bool) → (counts_of self.old.streams two_way).arrived ≡ 0 }
+        requires off { self.old.log ≡ None }
         ensures ok { OnOk result (self.new ≡ record self.old { log = Some (first_items self.old.streams.peer) }) }
         ensures err { OnErr result (self.new ≡ self.old) }
     {

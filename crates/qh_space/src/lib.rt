@@ -1,4 +1,4 @@
-//! The packet number space of application data with all that goes on in it: which packets came, are out and are owed, and the
+//! The packet number space of application data with all that happens in it: which packets came, are out and are owed, and the
 //! streams whose frames they bear. It takes the frames of packets and makes the frames of packets; as `quinn-proto` has it in
 //! `connection::spaces` and the parts of `connection` that receive, acknowledge, detect loss and fill packets.
 #![tactic(auto)]

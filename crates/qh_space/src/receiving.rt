@@ -1,13 +1,15 @@
-ghost use Rattle.std.specs.Prelude.{◌≡◌, nat_lt, ◌<◌, ◌≤◌, ◌^◌, ◌∷◌, ◌||◌, ℕ, List, None, false, true, if◌then◌else◌, OnOk, OnErr, IfOk, IfErr};
+ghost use Rattle.std.specs.Prelude.{◌≡◌, nat_lt, ◌<◌, ◌≤◌, ◌^◌, ◌∷◌, ◌||◌, ℕ, List, None, false, true, if◌then◌else◌, is_some, IsOk, OnOk, OnErr, IfOk, IfErr};
 ghost use Rattle.qh_frame.specs.Plain.{ack_of};
 ghost use Rattle.qh_loss.specs.Owed.{AreOwed};
 ghost use Rattle.qh_loss.specs.Settled.{IsAckConfirmed};
 ghost use Rattle.qh_recovery.specs.Accepted.{Remembers};
 ghost use Rattle.qh_recovery.specs.PendingAcks.{IsJoined};
 ghost use Rattle.qh_recovery.specs.SentPackets.{packet_at, frame_count};
-ghost use Rattle.qh_space.specs.Receiving.{IsFrameTaken, IsAckReceived, IsLossTaken, IsClosedBy, coming_of, frame_refusal, greatest_of, measured, IsStream, refused_at_server, some_type};
+ghost use Rattle.qh_space.specs.Receiving.{IsFrameTaken, IsAckReceived, IsLossTaken, IsClosedBy, coming_of, frame_refusal, greatest_of, measured, IsStream, may_want_memory, refused_at_server, some_type};
 ghost use Rattle.qh_space.specs.Space.{IsSpace};
 ghost use Rattle.qh_spec.specs.Codes as codes;
+ghost use Rattle.qh_streams.specs.declared.fault.StreamFault.TheVariants.{Memory as Wanting};
+ghost use Rattle.qh_streams.specs.declared.frames.StreamFrame.TheVariants.{MaxData};
 ghost use Rattle.qh_streams.specs.Items.{items_of, kept_in, logged, HasRoom};
 ghost use Rattle.qh_streams.specs.Streams.{IsReceived, IsRefusal, IsRefusedBy, KeepsOut, refusal_of, refused};
 
@@ -24,7 +26,7 @@ use qh_streams::{Item, StreamFault, StreamFrame};
 use std::alloc::Global;
 
 impl DataSpace {
-    /// A packet with this number is taken, which is new (RFC 9000, section 12.3). It is to be acknowledged at once where it wants
+    /// A packet with this number is taken, which is new (RFC 9000, section 12.3). It is to be acknowledged at once if it wants
     /// that. After want of memory the space is as it was.
     pub fn accept(&mut self, number: u64, is_ack_eliciting: bool) -> Result<(), Memory>
         requires number { number < 2 ^ 62 }
@@ -39,7 +41,7 @@ impl DataSpace {
         insert_received(&mut self.dedup, &mut self.acks, number, is_ack_eliciting)
     }
 
-    /// Takes a frame of the peer's. Answers the error with which the peer closes by it, where it does. A fault says why it is
+    /// Takes a frame of the peer's. Answers the error with which the peer closes by it, if it does. A fault says why it is
     /// refused, with its code and the type of the frame. Memory is answered only for a frame that isn't at fault.
     pub fn take_frame(
         &mut self,
@@ -51,6 +53,7 @@ impl DataSpace {
         ensures ok { IfOk result (λ closed. IsFrameTaken now.0 self.old self.new frame.now closed) }
         ensures taken { OnOk result (frame_refusal self.old frame.now ≡ None) }
         ensures fault { IfErr result (λ e. IsRefusedBy e (frame_refusal self.old frame.now)) }
+        ensures memory { IfErr result (λ e. e ≡ Wanting → may_want_memory self.old frame.now ≡ true) }
         ensures err { OnErr result (self.new ≡ self.old) }
         ensures space { IsSpace self.new }
     {
@@ -72,6 +75,7 @@ impl DataSpace {
         ensures keeps_out { KeepsOut self.old.streams self.new.streams }
         ensures taken { OnOk result (refusal_of self.old.streams frame ≡ None) }
         ensures fault { IfErr result (λ e. IsRefusedBy e (refusal_of self.old.streams frame)) }
+        ensures memory { (limit : ℕ) → frame ≡ MaxData limit → self.old.log ≡ None → IsOk result }
         ensures err { OnErr result (self.new ≡ self.old) }
     {
         let before = self.log.len();
@@ -112,6 +116,7 @@ impl DataSpace {
         ensures ok { IfOk result (λ closed. IsFrameTaken now.0 self.old self.new frame.now closed) }
         ensures taken { OnOk result (frame_refusal self.old frame.now ≡ None) }
         ensures fault { IfErr result (λ e. IsRefusedBy e (frame_refusal self.old frame.now)) }
+        ensures memory { IfErr result (λ e. e ≡ Wanting → may_want_memory self.old frame.now ≡ true) }
         ensures err { OnErr result (self.new ≡ self.old) }
         ensures space { IsSpace self.new }
     {
@@ -132,6 +137,7 @@ impl DataSpace {
         ensures ok { OnOk result (IsAckReceived now.0 self.old self.new ack.now) }
         ensures taken { OnOk result (ack.now.greatest < self.old.next_number) }
         ensures fault { IfErr result (λ e. IsRefusedBy e (if nat_lt ack.now.greatest self.old.next_number then None else refused codes.protocol_violation frame.0)) }
+        ensures memory { IfErr result (λ e. e ≡ Wanting → is_some self.old.log ≡ true) }
         ensures err { OnErr result (self.new ≡ self.old) }
         ensures space { IsSpace self.new }
     {
@@ -149,7 +155,7 @@ impl DataSpace {
         Ok(())
     }
 
-    // A round-trip time is measured where the packet with the greatest acknowledged number is out.
+    // A round-trip time is measured if the packet with the greatest acknowledged number is out.
     fn measure(&mut self, greatest: u64, now: Moment)
         ensures { self.new ≡ record self.old { rtt = measured (packet_at self.old.sent greatest) now.0 self.old.rtt } }
     {
@@ -158,7 +164,7 @@ impl DataSpace {
         }
     }
 
-    // What an ACK covers is acknowledged. Where that is a packet that is out, no probe counts any more. Answers whether it is.
+    // What an ACK covers is acknowledged. If that is a packet that is out, no probe counts any more. Answers whether it is.
     fn acknowledge(&mut self, ack: &Ack<'_>, log: &mut Option<Vec<Item>>) -> bool
         requires owed { AreOwed self.old.streams self.old.sent }
         requires room { HasRoom log.old (frame_count self.old.sent) }
@@ -181,7 +187,7 @@ impl DataSpace {
         is_any
     }
 
-    // The packets that are lost by now, where this is the greatest number that was acknowledged.
+    // The packets that are lost by now, if this is the greatest number that was acknowledged.
     pub(crate) fn lose(&mut self, largest_acked: u64, now: Moment)
         requires { AreOwed self.old.streams self.old.sent }
         ensures lost { IsLossTaken largest_acked now.0 self.old self.new }
@@ -271,7 +277,7 @@ fn coming_frame(alloc: Global, frame: &Frame<'_>) -> Result<Option<StreamFrame>,
     }))
 }
 
-// The error with which the peer closes by a frame, where it does.
+// The error with which the peer closes by a frame, if it does.
 fn closed_by(frame: &Frame<'_>) -> Option<ConnectionError>
     ensures { IsClosedBy frame.now result }
 {
@@ -295,7 +301,7 @@ fn closed_by(frame: &Frame<'_>) -> Option<ConnectionError>
     }
 }
 
-// The type of the frame at fault: 0 where none is known.
+// The type of the frame at fault: 0 if none is known.
 fn some_type(frame_type: VarInt) -> Option<u64>
     ensures { result ≡ some_type frame_type }
 {

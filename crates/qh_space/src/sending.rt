@@ -15,10 +15,10 @@ use std::alloc::Global;
 const PACKET_NUMBERS: u64 = 1 << 62;
 
 impl DataSpace {
-    /// Appends the frames of the next packet, and answers its number: an ACK where one is due; then, where the window permits it
-    /// or a probe is due, a PING and a PATH_RESPONSE that are due and what the streams have to send. None where nothing is to
-    /// be sent, or no number is left; then nothing is appended. So many bytes may be appended, and so many more will the
-    /// packet's datagram have around them. After want of memory the space isn't to be used any more.
+    /// Appends the frames of the next packet, and answers its number: an ACK if one is due; then, if the window permits it or
+    /// a probe is due, a PING and a PATH_RESPONSE that are due and what the streams have to send. None if nothing is to be
+    /// sent, or no number is left; then nothing is appended. At most `room` bytes are appended, and the packet's datagram will
+    /// have `overhead` more around them. After want of memory the space isn't to be used any more.
     pub fn write_packet(
         &mut self,
         alloc: Global,
@@ -61,7 +61,7 @@ impl DataSpace {
         self.is_probe_due || self.congestion.allows(self.sent.in_flight())
     }
 
-    // Appends an ACK where one is due.
+    // Appends an ACK if one is due.
     fn put_ack(&self, out: &mut Vec<u8>) -> Result<(), Memory>
         requires { self.now.acks.is_due ≡ true → 0 < length self.now.acks.ranges }
         ensures put { OnOk result (IsAckFirst self.now out.old.items out.new.items) }
@@ -112,7 +112,7 @@ impl DataSpace {
         self.put_path_response(out)
     }
 
-    // Appends a PING where one is due. It is due no more.
+    // Appends a PING if one is due. It is due no more.
     fn put_ping(&mut self, out: &mut Vec<u8>) -> Result<(), Memory>
         ensures put { OnOk result (out.new.items ≡ out.old.items ++ bytes_if self.old.is_ping_due ping_bytes) }
         ensures rest { OnOk result (self.new ≡ record self.old { is_ping_due = false }) }
@@ -126,7 +126,7 @@ impl DataSpace {
         Ok(())
     }
 
-    // Appends a PATH_RESPONSE where one is due. It is due no more.
+    // Appends a PATH_RESPONSE if one is due. It is due no more.
     fn put_path_response(&mut self, out: &mut Vec<u8>) -> Result<(), Memory>
         ensures put { OnOk result (out.new.items ≡ out.old.items ++ response_bytes self.old.path_response) }
         ensures rest { OnOk result (self.new ≡ record self.old { path_response = None }) }
@@ -141,7 +141,7 @@ impl DataSpace {
         Ok(())
     }
 
-    // A packet with the next number was made. Where it is ack-eliciting it is out; no ACK is due any more.
+    // A packet with the next number was made. If it is ack-eliciting it is out; no ACK is due any more.
     fn count_sent(
         &mut self,
         packet: SentPacket<SentFrame>,
@@ -160,7 +160,7 @@ impl DataSpace {
         self.track(packet)
     }
 
-    // An ack-eliciting packet with the next number is out: the probe packet, where one was due.
+    // An ack-eliciting packet with the next number is out: the probe packet, if one was due.
     fn track(&mut self, packet: SentPacket<SentFrame>) -> Result<(), Memory>
         requires next { IsNext self.old.next_number self.old.sent }
         requires bound { self.old.next_number < 2 ^ 62 }

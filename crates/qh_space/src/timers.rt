@@ -11,7 +11,7 @@ use qh_loss::{Probe, queue_probe};
 
 impl DataSpace {
     /// When a probe is due: the probe timeout after the last packet that is out was sent (RFC 9002, section 6.2.1). None exactly
-    /// where none is out.
+    /// if none is out.
     pub fn probe_at(&self) -> Option<Moment>
         ensures { MatchOption result (self.now.sent ≡ []) (λ t. IsProbeTime self.now t.0) }
     {
@@ -19,7 +19,7 @@ impl DataSpace {
         Some(last.plus(self.rtt.probe_time(self.pto_count)))
     }
 
-    /// When a packet that is out becomes lost by its age (RFC 9002, section 6.1.2). None exactly where none was sent before one
+    /// When a packet that is out becomes lost by its age (RFC 9002, section 6.1.2). None exactly if none was sent before one
     /// that is acknowledged.
     pub fn loss_at(&self) -> Option<Moment>
         requires { IsSpace self.now }

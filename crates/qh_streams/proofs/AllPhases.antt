@@ -31,7 +31,7 @@ use Rattle.qh_streams.specs.declared.frames.SentFrame.{SentFrame}
 use Rattle.qh_streams.specs.declared.frames.SentFrame.TheVariants as sent
 use Rattle.qh_streams.specs.declared.streams.writing.Phase.{Phase}
 use Rattle.qh_streams.specs.declared.streams.writing.Phase.TheVariants as phase
-use Rattle.qh_streams.proofs.PhasesWritten.{IsShort, all_quiet, all_short, all_single, any_joined, before_joined, none_before, none_sending, count_frames, data_frames, frames_bytes, idle_still, none_changed, part_joined, part_length, part_out, single_frames, single_joined, some_sending}
+use Rattle.qh_streams.proofs.PhasesWritten.{IsShort, all_quiet, all_short, all_single, any_joined, before_joined, none_before, none_sending, none_due_none_written, count_frames, data_frames, frames_bytes, idle_still, none_changed, none_without_room, part_joined, part_length, part_out, single_frames, single_joined, some_sending}
 
 module _ (room second third last : ℕ) (s0 s1 s2 s3 s4 : PlainStreams) (o0 o1 o2 o3 o4 : List ℕ) (f0 f1 f2 f3 f4 : List SentFrame)
     (l : AreLimitsWritten room s0 s1 o0 o1 f0 f1)
@@ -201,6 +201,40 @@ module _ (room second third last : ℕ) (s0 s1 s2 s3 s4 : PlainStreams) (o0 o1 o
       of_dir Bi idle = idle.1
       of_dir Uni idle = idle.2
 
+  -- what goes first is due no more, or there is no room for what follows
+  limits_before : ((a.part.frames ≡ []) × (b.part.frames ≡ []) × (c.part.frames ≡ [])) ⊎ AreLimitsIdle s4
+  limits_before = elim l.done [
+    | inl idle ↦ inr (limits_end idle)
+    | inr narrow ↦
+        let x = l_length in let y = a_length in let z = b_length in
+        inl (
+          none_without_room a (omega (arith, narrow, second_is, x)),
+          none_without_room b (omega (arith, narrow, third_is, x, y)),
+          none_without_room c (omega (arith, narrow, last_is, x, y, z)),
+        )
+  ]
+
+  singles_before_sending : (length a.part.frames ≡ 32) ⊎ ((NoneIsDue s4.recv × (c.part.frames ≡ [])) ⊎ ((b.part.frames ≡ []) × (c.part.frames ≡ [])))
+  singles_before_sending = elim a.done [
+    | inl idle ↦
+        let then : NoneIsDue s3.recv = idle_still phase.SingleStreams _ s2 s3 _ _ b.part.written idle in
+        inr (inl (idle_still phase.SingleStreams _ s3 s4 _ _ c.part.written then, none_due_none_written last s3 s4 c.part.frames c.part.bytes c.part.written c.are_of then))
+    | inr (inl narrow) ↦
+        let x = l_length in let y = a_length in let z = b_length in
+        inr (inr (none_without_room b (omega (arith, narrow, second_is, third_is, x, y)), none_without_room c (omega (arith, narrow, second_is, last_is, x, y, z))))
+    | inr (inr all) ↦ inl all
+  ]
+
+  sending_before_rest : (c.part.frames ≡ []) ⊎ NoneWaits s4.send
+  sending_before_rest = elim b.done [
+    | inl idle ↦ inr (idle_still phase.Sending _ s3 s4 _ _ c.part.written idle)
+    | inr (inl narrow) ↦ let x = l_length in let y = a_length in let z = b_length in inl (none_without_room c (omega (arith, narrow, third_is, last_is, x, y, z)))
+    | inr (inr all) ↦
+        let x = l_length in let y = a_length in let z = b_length in
+        let each = frames_bytes third s2 s3 b.part.frames b.part.bytes b.part.written in
+        inl (none_without_room c (omega (arith, all, each, third_is, last_is, x, y, z)))
+  ]
+
   pub phases_written : IsWrittenBy room s0 s4 o0 o4 f0 f4
   phases_written = record {
     frames = to_four.frames;
@@ -221,5 +255,8 @@ module _ (room second third last : ℕ) (s0 s1 s2 s3 s4 : PlainStreams) (o0 o1 o
       few = a.few;
       sending_are = b.are_of;
       last_are = c.are_of;
+      limits_first = limits_before;
+      singles_first = singles_before_sending;
+      sending_first = sending_before_rest;
     };
   }

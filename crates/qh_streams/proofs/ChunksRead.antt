@@ -1,8 +1,9 @@
--- What a reader gives again, and where it may go on.
+-- What a reader gives again, and when it may read on.
 use Rattle.std.proofs.Common.{◌≡◌, ℕ, Bool, true, false, ◌&&◌, ◌||◌, Option, Some, None, is_some, unwrap_or, Result, Ok, Err, refl, sym, ap, ap₂, ◌∙◌, ◌==◌, if◌then◌else◌}
 use Rattle.std.proofs.lemmas.Bool.{eq-eqb, or_parts}
 use Rattle.qh_buffers.specs.declared.assembler.Chunk.{Chunk}
 use Rattle.qh_half.specs.declared.fault.ReadFault.{ReadFault}
+use Rattle.qh_half.specs.declared.fault.ReadFault.TheVariants.{Memory}
 use Rattle.qh_streams.specs.declared.halves.ChunksState.{ChunksState}
 use Rattle.qh_streams.specs.declared.halves.ChunksState.TheVariants.{Readable, Finished, Reset}
 use Rattle.qh_streams.specs.Halves.{IsChunk, finished, was_reset, last_answer, state_after}
@@ -18,6 +19,12 @@ pub given_again : (old : PlainStreams) (id max_length : ℕ) (state : ChunksStat
 given_again old id max_length Readable last e = absurd (cc)
 given_again old id max_length Finished last e = let is = some_is e in rw (sym is) (finished refl)
 given_again old id max_length (Reset code) last e = let is = some_is e in rw (sym is) (was_reset code refl)
+
+-- the end and a reset are given again without memory
+pub never_lacks : (state : ChunksState) (last : Result (Option Chunk) ReadFault) → last_answer state ≡ Some last → last ≡ Err Memory → ⊥
+never_lacks Readable last e lacks = absurd (cc)
+never_lacks Finished last e lacks = absurd (cc)
+never_lacks (Reset code) last e lacks = absurd (cc)
 
 pub readable_is : (state : ChunksState) → last_answer state ≡ None → state ≡ Readable
 readable_is Readable e = refl

@@ -1,5 +1,5 @@
 -- Logs of items: what is kept behind others, what is forgotten again, and the room of one that is lent out.
-use Rattle.std.proofs.Common.{◌≡◌, ℕ, ◌+◌, ◌≤◌, List, [], ◌∷◌, ◌++◌, length, take, Option, Some, None, Result, Ok, Err, OnErr, Bool, option_map, refl, sym, ap, ◌∙◌, append_assoc, arith}
+use Rattle.std.proofs.Common.{◌≡◌, ℕ, ◌+◌, ◌≤◌, List, [], ◌∷◌, ◌++◌, length, take, Option, Some, None, Result, Ok, Err, OnErr, option_map, refl, sym, ap, ◌∙◌, append_assoc, arith}
 use Rattle.std.proofs.Math.Seq.{take-append_seam}
 use Rattle.std.proofs.lemmas.List.{append-nil}
 use Rattle.std.proofs.lemmas.Option.{none-some}
@@ -37,9 +37,9 @@ err_some (Ok x) old mid new items is same = tt
 err_some (Err e) old mid new items is same = (items, same ∙ is)
 
 -- nothing is told of a half that was done before
-pub none_told : (id : StreamId) (has_end : Bool) (before after : Option PlainSend) → option_map (λ (h : PlainSend). taken_to h.buffer) before ≡ None → confirmed_of id has_end before after ≡ []
-none_told id has_end None after none = refl
-none_told id has_end (Some half) after none = absurd (none-some _ (sym none))
+pub none_told : (id : StreamId) (before after : Option PlainSend) → option_map (λ (h : PlainSend). taken_to h.buffer) before ≡ None → confirmed_of id before after ≡ []
+none_told id None after none = refl
+none_told id (Some half) after none = absurd (none-some _ (sym none))
 
 pub less_room : (log : Option (Items)) (less more : ℕ) → less ≤ more → HasRoom log more → HasRoom log less
 less_room None less more le room = room

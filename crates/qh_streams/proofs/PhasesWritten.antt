@@ -151,6 +151,15 @@ idle_still (phase.MaxStreams dir) = stays_quiet (count_of dir) (sent.MaxStreams 
 idle_still phase.SingleStreams = all_still (λ s. NoneIsDue s.recv) none_due_still
 idle_still phase.Sending = all_still (λ s. NoneWaits s.send) none_waits_still
 
+-- none of single streams is written if none is due
+no_single_handed : (old new : PlainStreams) (room : ℕ) (f : SentFrame) → IsOf phase.SingleStreams f → IsHandedOver old new room f → NoneIsDue old.recv → ⊥
+no_single_handed old new room f (of_stop _ _) (stop_handed id code step rest) none = due_true step.half old.recv.stream_window (inl step.step.0) (none id.0 step.half step.was)
+no_single_handed old new room f (of_limit _ _) (max_stream_data_handed id limit step rest) none = due_true step.half old.recv.stream_window (inr step.step.1) (none id.0 step.half step.was)
+
+pub none_due_none_written : (room : ℕ) (old new : PlainStreams) (fs : List SentFrame) (bytes : List ℕ) → AreWritten room old new fs bytes → AreOf phase.SingleStreams fs → NoneIsDue old.recv → fs ≡ []
+none_due_none_written room old new fs bytes (none_written _ _) of none = refl
+none_due_none_written room old new fs bytes (more_written _ _ mid _ f rest more first fits back others) of none = absurd (no_single_handed old mid room f of.0 first none)
+
 -- ---- the frames of a phase
 
 limit_short : (kind n : ℕ) → kind < 64 → shape_of kind ≡ Some (Number ∷ []) → length (frame_bytes (record { kind = kind; values = Num n ∷ [] })) ≤ 9
@@ -273,6 +282,7 @@ module _ (p : Phase) (most room : ℕ) (old now : PlainStreams) (out_old out_now
     pub part : IsPartWritten room old now out_old out_now sent_old sent_now
     pub are_of : AreOf p part.frames
     pub few : length part.frames ≤ most
+    pub wide : (part.frames ≡ []) ⊎ (max_frame_header < room)
     pub keeps_out : KeepsOut old now
 
   pub no_phase_yet : now ≡ old → out_now ≡ out_old → sent_now ≡ sent_old → IsPhaseSoFar
@@ -287,6 +297,7 @@ module _ (p : Phase) (most room : ℕ) (old now : PlainStreams) (out_old out_now
     };
     are_of = tt;
     few = omega arith;
+    wide = inl refl;
     keeps_out = λ f out. subst (λ (s : PlainStreams). IsOut s f) (sym same) out;
   }
 
@@ -301,8 +312,8 @@ module _ (p : Phase) (most room left : ℕ) (old now new : PlainStreams) (out_ol
   lengths = ap length so.part.out_is ∙ length-append out_old so.part.bytes
 
   -- one frame more
-  pub one_more : KeepsOut now new → length sent_now - length sent_old < most → IsPhaseSoFar p most room old new out_old out_new sent_old sent_new
-  one_more keeps below =
+  pub one_more : KeepsOut now new → length sent_now - length sent_old < most → max_frame_header < left → IsPhaseSoFar p most room old new out_old out_new sent_old sent_new
+  one_more keeps below wide =
       let f = one.frame in
       let more = frame_bytes (written_frame new f) in
       let long = lengths in
@@ -319,6 +330,7 @@ module _ (p : Phase) (most room left : ℕ) (old now new : PlainStreams) (out_ol
         };
         are_of = of_joined p so.part.frames (f ∷ []) so.are_of (one.is_of, tt);
         few = omega (arith, below, sum, count);
+        wide = inr (omega (arith, wide, left_is));
         keeps_out = λ g out. keeps g (so.keeps_out g out);
       }
 
@@ -331,7 +343,7 @@ module _ (p : Phase) (most room left : ℕ) (old now new : PlainStreams) (out_ol
       let fits = one.fits in
       omega (arith, sum, some, fits, left_is, long)
 
--- ---- where the allocator has no memory
+-- ---- if the allocator has no memory
 
 on_err : {A E : Type 0} {P : Type 0} (r : Result A E) → P → OnErr r P
 on_err (Ok x) p = tt
@@ -370,12 +382,13 @@ cut_later r room old mid new out_old out_mid out_new sent_old sent_mid sent_new 
 
 module _ (p : Phase) (most room : ℕ) (old now : PlainStreams) (out_old out_now : List ℕ) (sent_old sent_now : List SentFrame)
     (so : IsPhaseSoFar p most room old now out_old out_now sent_old sent_now) where
-  -- no room is left, or it wrote so many
+  -- no room is left, or it wrote `most` frames
   pub phase_done : (room - (length out_now - length out_old) ≤ max_frame_header) ⊎ (most ≤ length sent_now - length sent_old) → IsPhaseWritten p most room old now out_old out_now sent_old sent_now
   phase_done end = record {
     part = so.part;
     are_of = so.are_of;
     few = so.few;
+    wide = so.wide;
     done = inr (elim end [
       | inl narrow ↦ let long = ap length so.part.out_is ∙ length-append out_old so.part.bytes in inl (omega (arith, narrow, long))
       | inr many ↦
@@ -389,7 +402,12 @@ module _ (p : Phase) (most room : ℕ) (old now : PlainStreams) (out_old out_now
   pub phase_idle : (new : PlainStreams) (out_new : List ℕ) (sent_new : List SentFrame) → new ≡ now → out_new ≡ out_now → sent_new ≡ sent_now → IsPhaseIdle p now
       → IsPhaseWritten p most room old new out_old out_new sent_old sent_new
   phase_idle new out_new sent_new same out_same sent_same idle =
-      rw (same, out_same, sent_same) (record { part = so.part; are_of = so.are_of; few = so.few; done = inl idle })
+      rw (same, out_same, sent_same) (record { part = so.part; are_of = so.are_of; few = so.few; wide = so.wide; done = inl idle })
+
+-- without room for a head and a byte nothing is written
+pub none_without_room : {p : Phase} {most room : ℕ} {old new : PlainStreams} {out_old out_new : List ℕ} {sent_old sent_new : List SentFrame}
+    → (w : IsPhaseWritten p most room old new out_old out_new sent_old sent_new) → room ≤ max_frame_header → w.part.frames ≡ []
+none_without_room w narrow = elim w.wide [ inl none ↦ none | inr wide ↦ absurd (omega (arith, wide, narrow)) ]
 
 pub map_err : {A E : Type 0} {P Q : Type 0} (r : Result A E) → OnErr r P → (P → Q) → OnErr r Q
 map_err (Ok x) p f = tt

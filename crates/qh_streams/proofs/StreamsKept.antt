@@ -13,7 +13,7 @@ use Rattle.qh_half.specs.Recv.{PlainRecv}
 use Rattle.qh_halves.specs.RecvHalves.{PlainRecvHalves, recv_at, unless_done, IsBegunRead, IsRecvStep}
 use Rattle.qh_streams.specs.Streams.{PlainStreams, AreStreams, KeepsOut, counts_of, with_counts, counted_closed, is_live, was_opened}
 
--- what holds where a call went well, and where it didn't
+-- what holds if a call went well, and if it didn't
 pub by_result : {T E X : Type 0} (r : Result T E) → ((v : T) → r ≡ Ok v → X) → ((e : E) → r ≡ Err e → X) → X
 by_result (Ok v) ok err = ok v refl
 by_result (Err e) ok err = err e refl
@@ -183,7 +183,7 @@ recv_out old new e =
     out_kept (later_same old new (ap (λ (s : PlainStreams). s.side) e) (ap (λ (s : PlainStreams). s.bi) e) (ap (λ (s : PlainStreams). s.uni) e))
     (λ id piece out. rw (ap (λ (s : PlainStreams). s.send) e) out)
 
--- the same, where the invariant names what was before
+-- the same, if the invariant names what was before
 pub send_stays_out : {s : PlainStreams} {capacity : ℕ} → AreStreams s capacity → (send : PlainSendHalves) → KeepsSpans s.send send → KeepsOut s (record s { send = send })
 send_stays_out {s = s} ok send spans = out_kept (later_same s (record s { send = send }) refl refl refl) spans
 
@@ -208,7 +208,7 @@ never true false = refl
 never false true = refl
 never false false = refl
 
--- where the receiving halves are as they were, no half went
+-- if the receiving halves are as they were, no half went
 pub recv_unread : {s new : PlainStreams} (recv : PlainRecvHalves) (id : ℕ) (live : Bool) → new ≡ counted_closed (record s { recv = recv }) id live → recv ≡ s.recv → live ≡ is_live s id → new ≡ s
 recv_unread {s = s} recv id live e recv_is live_is =
     let none : counted_closed s id (is_live s id) ≡ s = rw (never (is_own s.side id) (is_live s id)) refl in

@@ -139,7 +139,7 @@ none_goes true true = refl
 none_goes true false = refl
 none_goes false b = refl
 
--- where a half is left no stream is closed
+-- if a half is left no stream is closed
 not_closed : (s : PlainStreams) (id : ℕ) (was_live : Bool) → is_live s id ≡ true → counted_closed s id was_live ≡ s
 not_closed s id was_live live =
     let none : (not (is_own s.side id) && (was_live && not (is_live s id))) ≡ false = rw live (none_goes (not (is_own s.side id)) was_live) in

@@ -56,7 +56,7 @@ pushed some old new x is e = is ∙ ap (λ (b : Bool). if b then old ++ x ∷ []
 pub pushed_length : {X : Type 0} (old new : List X) (x : X) → new ≡ old ++ x ∷ [] → length new ≡ length old + 1
 pushed_length old new x is = rw is (omega (arith, length-append old (x ∷ [])))
 
--- only counts change where one more stream is closed
+-- only counts change if one more stream is closed
 pub record DiffersByCounts (s t : PlainStreams) : Type 0 where
   pub send_is : t.send ≡ s.send
   pub recv_is : t.recv ≡ s.recv

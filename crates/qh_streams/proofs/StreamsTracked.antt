@@ -274,7 +274,7 @@ has_about (sent.MaxStreams d value) (count dir n) h = same_self d dir h.0
 pub has_none : (f : SentFrame) (o : Owed) → about f o ≡ false → Has o f → ⊥
 has_none f o apart has = false≢true (sym apart ∙ has_about f o has)
 
--- ---- a half that goes on or goes, where the others stay
+-- ---- a half that stays or goes, if the others stay
 
 pub record IsBefore {H : Type 0} (P : H → H → Type 0) (at : ℕ → Option H) (id : ℕ) (next : H) : Type 0 where
   pub half : H

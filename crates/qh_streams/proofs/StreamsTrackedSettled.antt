@@ -136,7 +136,7 @@ stop_gone : (id : StreamId) (code : ℕ) (r next : PlainRecv) (f : Option StopFr
 stop_gone id code r next f stop is gone w = let was = rw is at w in absurd (gone was)
 stop_gone id code r next f (stream_limit limit) is gone w = (rw is at w, λ has. has)
 
--- a limit whose frame is gone isn't the last one, where that still counts as sent
+-- a limit whose frame is gone isn't the last one, if that still counts as sent
 value_gone : (value last : ℕ) (m gone : Mark) → (gone ≡ Sent → ⊥) → (if value == last then gone else m) ≡ Sent → (m ≡ Sent) × (value ≡ last → ⊥)
 value_gone value last m gone is_gone e = elim (cases_Bool (value == last)) [
   | inl same ↦ absurd (is_gone (rw same at e))

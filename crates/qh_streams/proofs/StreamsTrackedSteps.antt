@@ -33,7 +33,7 @@ use Rattle.qh_streams.specs.Tracked.{SameCounts}
 use Rattle.qh_streams.proofs.StreamsSettled.{counts_alone, closed_alone}
 use Rattle.qh_streams.proofs.StreamsTracked.{OfHalf, byte, end, reset, OfReceiver, stop, stream_limit, Owed, sender, receiver, data_limit, count, HasOfHalf, HasOfReceiver, Has, is_end_sent, is_reset_sent, is_sent_mark, is_stop_sent, half_sent, receiver_sent, SentBy, IsSentAt, IsSent, Keeps, Adds, Drops, at_sender, at_receiver, at_limit, at_count, has_none, Goes, step_goes, step_or_absent, settled_goes, recv_goes, recv_or_absent, at_half}
 
--- ---- where a step changes one part of all that is kept
+-- ---- if a step changes one part of all that is kept
 
 -- the limit of the connection stays
 pub same_limit : {P : PlainRecv → PlainRecv → Type 0} {old new : PlainRecvHalves} {id n : ℕ} → IsRecvStep P old new id n ⊎ IsRecvAbsent old new id → new.announced ≡ old.announced

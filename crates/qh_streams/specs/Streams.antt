@@ -95,7 +95,7 @@ new_send_half s id = if has_send s.side id then Some (new_send (first_limit s id
 abbrev pub new_recv_half : PlainStreams → (id : ℕ) → Option PlainRecv
 new_recv_half s id = if has_recv s.side id then Some (new_recv (min s.recv.stream_window (2 ^ 62 - 1))) else None
 
--- one more of the peer's streams is closed, where the last half of this one went
+-- one more of the peer's streams is closed, if the last half of this one went
 abbrev pub counted_closed : PlainStreams → (id : ℕ) → (was_live : Bool) → PlainStreams
 counted_closed s id was_live =
     if not (is_own s.side id) && (was_live && not (is_live s id)) then
@@ -148,14 +148,14 @@ pub record IsSorted (s : PlainStreams) : Type 0 where
 abbrev pub IsWithinCount : PlainStreams → (id : ℕ) → Type 0
 IsWithinCount s id = MatchBool (is_own s.side id) (was_opened s id ≡ true) (index_of id < (counts_of s (is_bi id)).announced.value)
 
--- a frame named a stream: where the peer opens it and it didn't come yet, it is there now, and those before it
+-- a frame named a stream: if the peer opens it and it didn't come yet, it is there now, and those before it
 pub record HasArrived (old new : PlainStreams) (id : ℕ) : Type 0 where
   pub known : was_opened old id ≡ true → new ≡ old
   pub halves : was_opened old id ≡ false → AreOpened old new (arrives_with old id)
   pub rest_is : was_opened old id ≡ false → new ≡ with_counts (record old { send = new.send; recv = new.recv; events = old.events ++ Opened (dir_of id) ∷ [] })
       (is_bi id) (record (counts_of old (is_bi id)) { arrived = index_of id + 1 })
 
--- a stream's arrival can be taken back, and that of those before it, where so many had come before: none of them was accepted,
+-- a stream's arrival can be taken back, and that of those before it, if `arrived` had come before: none of them was accepted,
 -- and none came behind it
 pub record CanDepart (s : PlainStreams) (id arrived : ℕ) : Type 0 where
   pub own : is_own s.side id ≡ true → was_opened s id ≡ true
@@ -216,7 +216,7 @@ abbrev pub IsRefusal : StreamFault → Option Refusal → Type 0
 IsRefusal (Transport e) (Some r) = (e.code.0 ≡ r.code) × (e.frame ≡ Some r.frame)
 IsRefusal _ _ = ⊥
 
--- the answer for a frame that isn't taken: why it is refused or, where nothing is wrong with it, want of memory
+-- the answer for a frame that isn't taken: why it is refused or, if nothing is wrong with it, want of memory
 abbrev pub IsRefusedBy : StreamFault → Option Refusal → Type 0
 IsRefusedBy e refusal = ((e ≡ Memory) × (refusal ≡ None)) ⊎ IsRefusal e refusal
 
@@ -281,14 +281,14 @@ IsWriteRefusal old new id e = ((e ≡ WriteMemory) × MayWantMemory old id × (n
 abbrev pub NoneWritable : PlainStreams → List ℕ → Type 0
 NoneWritable s ids = (k : ℕ) → list_any (λ j. j == k) ids ≡ true → half_is_writable (send_at s.send k) ≡ false
 
--- the streams that are still to be told: where bytes may be written all those were looked at
+-- the streams that are still to be told: if bytes may be written all those were looked at
 abbrev pub still_blocked : PlainStreams → List ℕ
 still_blocked s = if write_limit s.send == 0 then s.blocked else []
 
 abbrev pub NothingWritable : PlainStreams → Type 0
 NothingWritable s = (write_limit s.send ≡ 0) ⊎ NoneWritable s s.blocked
 
--- the first stream that may be written again is taken out, and those before it; where bytes may be written and none is left
+-- the first stream that may be written again is taken out, and those before it; if bytes may be written and none is left
 -- of which they may, all are taken out
 pub data IsWritablePolled (old new : PlainStreams) : Option StreamId → Type 0 where
   some : (id : StreamId) (front rest : List ℕ) → 0 < write_limit old.send → old.blocked ≡ front ++ id.0 ∷ rest → NoneWritable old front
@@ -339,7 +339,7 @@ pub record IsControlIdle (s : PlainStreams) : Type 0 where
   pub max_bidi : is_due s.bi.announced (count_limit s.bi) ≡ false
   pub max_uni : is_due s.uni.announced (count_limit s.uni) ≡ false
 
--- what is handed out to be sent in one frame, in so much room
+-- what is handed out to be sent in one frame, in this much room
 pub data IsHandedOver (old new : PlainStreams) (room : ℕ) : SentFrame → Type 0 where
   stream : (id : StreamId) (piece : Outgoing) → IsSentNext old.send new.send (room - max_frame_header) id.0 (Stream piece) → new ≡ record old { send = new.send }
       → IsHandedOver old new room (sent.Stream id piece)
@@ -380,7 +380,7 @@ IsOutHeld s (sent.MaxStreams dir count) = Unit {0}
 abbrev pub IsReadBack : QuicFrame → Type 0
 IsReadBack f = (rest : List ℕ) → IsQuicFrame (frame_bytes f ++ rest) f rest
 
--- frames that were written one after another into so much room, with their bytes
+-- frames that were written one after another into this much room, with their bytes
 pub data AreWritten : (room : ℕ) → (old new : PlainStreams) → List SentFrame → List ℕ → Type 0 where
   none : (room : ℕ) (s : PlainStreams) → AreWritten room s s [] []
   more : (room : ℕ) (old mid new : PlainStreams) (f : SentFrame) (fs : List SentFrame) (bytes : List ℕ) → IsHandedOver old mid room f
@@ -450,9 +450,20 @@ abbrev pub AreOf : Phase → List SentFrame → Type 0
 AreOf p [] = Unit {0}
 AreOf p (f ∷ fs) = IsOf p f × AreOf p fs
 
+-- none of them is due
+abbrev pub IsPhaseIdle : Phase → PlainStreams → Type 0
+IsPhaseIdle phase.MaxData s = is_due s.recv.announced (data_limit s.recv) ≡ false
+IsPhaseIdle (phase.MaxStreams dir) s = is_due (counts_of s (is_two_way dir)).announced (count_limit (counts_of s (is_two_way dir))) ≡ false
+IsPhaseIdle phase.SingleStreams s = NoneIsDue s.recv
+IsPhaseIdle phase.Sending s = NoneWaits s.send
+
+-- no limit of all streams is due
+abbrev pub AreLimitsIdle : PlainStreams → Type 0
+AreLimitsIdle s = IsPhaseIdle phase.MaxData s × IsPhaseIdle (phase.MaxStreams Bi) s × IsPhaseIdle (phase.MaxStreams Uni) s
+
 -- The order of the frames that a call writes: limits of all streams, at most 32 frames of single streams, STREAM and RESET_STREAM
--- frames, and frames of single streams again.
-pub record AreByKind (frames : List SentFrame) : Type 0 where
+-- frames, and frames of single streams again. What goes first keeps what follows back only as long as it is due.
+pub record AreByKind (new : PlainStreams) (frames : List SentFrame) : Type 0 where
   pub limits : List SentFrame
   pub first : List SentFrame
   pub sending : List SentFrame
@@ -464,6 +475,9 @@ pub record AreByKind (frames : List SentFrame) : Type 0 where
   pub few : length first ≤ 32
   pub sending_are : AreOf phase.Sending sending
   pub last_are : AreOf phase.SingleStreams last
+  pub limits_first : ((first ≡ []) × (sending ≡ []) × (last ≡ [])) ⊎ AreLimitsIdle new
+  pub singles_first : (length first ≡ 32) ⊎ ((NoneIsDue new.recv × (last ≡ [])) ⊎ ((sending ≡ []) × (last ≡ [])))
+  pub sending_first : (last ≡ []) ⊎ NoneWaits new.send
 
 -- What a call wrote: these frames one after another, with their bytes behind those that stood there.
 pub record IsWrittenBy (room : ℕ) (old new : PlainStreams) (out_old out_new : List ℕ) (sent_old sent_new : List SentFrame) : Type 0 where
@@ -473,19 +487,12 @@ pub record IsWrittenBy (room : ℕ) (old new : PlainStreams) (out_old out_new : 
   pub out_is : out_new ≡ out_old ++ bytes
   pub sent_is : sent_new ≡ sent_old ++ frames
   pub shared : 600 ≤ room → AreShared old new frames
-  pub in_order : AreByKind frames
+  pub in_order : AreByKind new frames
 
 -- these frames were handed over one after another
 pub data AreHanded : (old new : PlainStreams) → List SentFrame → Type 0 where
   none : (s : PlainStreams) → AreHanded s s []
   more : (room : ℕ) (old mid new : PlainStreams) (f : SentFrame) (fs : List SentFrame) → IsHandedOver old mid room f → AreHanded mid new fs → AreHanded old new (f ∷ fs)
-
--- none of them is due
-abbrev pub IsPhaseIdle : Phase → PlainStreams → Type 0
-IsPhaseIdle phase.MaxData s = is_due s.recv.announced (data_limit s.recv) ≡ false
-IsPhaseIdle (phase.MaxStreams dir) s = is_due (counts_of s (is_two_way dir)).announced (count_limit (counts_of s (is_two_way dir))) ≡ false
-IsPhaseIdle phase.SingleStreams s = NoneIsDue s.recv
-IsPhaseIdle phase.Sending s = NoneWaits s.send
 
 -- one frame of a phase was written
 pub record IsOneWritten (p : Phase) (room : ℕ) (old new : PlainStreams) (out_old out_new : List ℕ) (sent_old sent_new : List SentFrame) : Type 0 where
@@ -511,17 +518,15 @@ pub record IsPartWritten (room : ℕ) (old new : PlainStreams) (out_old out_new 
   pub sent_is : sent_new ≡ sent_old ++ frames
   pub are_out : AreAllOut new frames
 
--- What a phase wrote, at most so many frames: it ended where none was due, or there was no room for a head and a byte, or it had
--- written so many.
+-- What a phase wrote, at most `most` frames: it ended when none was due, or there was no room for a head and a byte, or it had
+-- written `most`.
 pub record IsPhaseWritten (p : Phase) (most room : ℕ) (old new : PlainStreams) (out_old out_new : List ℕ) (sent_old sent_new : List SentFrame) : Type 0 where
   pub part : IsPartWritten room old new out_old out_new sent_old sent_new
   pub are_of : AreOf p part.frames
   pub few : length part.frames ≤ most
+  -- none is begun without room for a head and a byte
+  pub wide : (part.frames ≡ []) ⊎ (max_frame_header < room)
   pub done : IsPhaseIdle p new ⊎ ((room < length part.bytes + max_frame_header + 1) ⊎ (length part.frames ≡ most))
-
--- no limit of all streams is due
-abbrev pub AreLimitsIdle : PlainStreams → Type 0
-AreLimitsIdle s = IsPhaseIdle phase.MaxData s × IsPhaseIdle (phase.MaxStreams Bi) s × IsPhaseIdle (phase.MaxStreams Uni) s
 
 -- the limits of all streams were written, one frame of each at most
 pub record AreLimitsWritten (room : ℕ) (old new : PlainStreams) (out_old out_new : List ℕ) (sent_old sent_new : List SentFrame) : Type 0 where

@@ -8,15 +8,15 @@ use qh_base::{Dir, StreamId, VarInt};
 /// streams at most 2^60: a greater value counts as that one.
 #[derive(Clone, Copy)]
 pub struct StreamLimits {
-    /// So many bytes more than were read may come, on all streams.
+    /// How many bytes more than were read may come, on all streams.
     pub receive_window: u64,
-    /// So many bytes more than were read may come, on one stream.
+    /// How many bytes more than were read may come, on one stream.
     pub stream_window: u64,
-    /// So many bytes may be held that aren't acknowledged, of all streams.
+    /// How many bytes may be held that aren't acknowledged, of all streams.
     pub send_window: u64,
-    /// So many two-way streams of the peer's may be open at once.
+    /// How many two-way streams of the peer's may be open at once.
     pub max_bidi: u64,
-    /// So many one-way streams of the peer's may be open at once.
+    /// How many one-way streams of the peer's may be open at once.
     pub max_uni: u64,
 }
 

@@ -1,10 +1,11 @@
-ghost use Rattle.std.specs.Prelude.{◌≡◌, ◌⊎◌, take, min, length, true, false, OnOk, OnErr, IfOk, IfErr, IfSome, MatchResult, None, Some, IsSome};
+ghost use Rattle.std.specs.Prelude.{◌≡◌, ◌⊎◌, take, min, length, true, false, Err, OnOk, OnErr, IfOk, IfErr, IfSome, MatchResult, None, Some, IsSome};
 ghost use Rattle.std.specs.List.{concat};
 ghost use Rattle.qh_streams.specs.declared.halves.ChunksState.TheVariants.{Readable};
 ghost use Rattle.qh_streams.specs.Halves.{IsChunk, last_answer, state_after};
+ghost use Rattle.qh_half.specs.declared.fault.ReadFault.TheVariants.{Memory as Lacking};
 ghost use Rattle.qh_half.specs.Send.{credit, chunks_after, whole_chunks};
 ghost use Rattle.qh_halves.specs.SendHalves.{send_at, write_limit, write_fault_at, finish_fault_at, is_reset_refused_at, half_priority, IsStep, Takes, Finishes, IsResetWith, HasPriority};
-ghost use Rattle.qh_halves.specs.RecvHalves.{IsRecvStep, Begins, Stops, TakesReset, readable_fault_at, is_closed_at, is_credit_due};
+ghost use Rattle.qh_halves.specs.RecvHalves.{IsRecvStep, Begins, WaitsAt, Stops, TakesReset, readable_fault_at, is_closed_at, is_credit_due};
 ghost use Rattle.qh_streams.specs.Streams.{counted_closed, is_live, IsWriteRefusal, KeepsOut};
 
 use crate::{ClosedStream, FinishFault, ReadFault, ReadableFault, Streams, WriteFault, Written};
@@ -118,7 +119,7 @@ impl SendHalf<'_> {
         self.streams.finish(self.id)
     }
 
-    /// Gives the stream up, with this code.
+    /// Abandons the stream, with this code.
     pub fn reset(&mut self, code: VarInt) -> Result<(), ClosedStream>
         ensures same_reference { self.new.streams.ghost_name ≡ self.old.streams.ghost_name }
         ensures id { self.new.id ≡ self.old.id }
@@ -187,7 +188,7 @@ impl<'a> RecvHalf<'a> {
         self.streams.stop(self.id, code)
     }
 
-    /// The code of the peer's reset, where one came. It counts as given then.
+    /// The code of the peer's reset, if one came. It counts as given then.
     pub fn received_reset(&mut self) -> Result<Option<VarInt>, ClosedStream>
         ensures same_reference { self.new.streams.ghost_name ≡ self.old.streams.ghost_name }
         ensures id { self.new.id ≡ self.old.id }
@@ -201,14 +202,15 @@ impl<'a> RecvHalf<'a> {
 }
 
 impl Chunks<'_> {
-    /// Gives bytes that wait, at most so many, or the end, None, or the reset. With a length of 0 it gives no bytes, and neither
-    /// the end nor the reset. The end and the reset are given again by each later call.
+    /// Gives at most `max_length` bytes that wait, or the end, None, or the reset. With a length of 0 it gives no bytes, and
+    /// neither the end nor the reset. The end and the reset are given again by each later call.
     pub fn next(&mut self, max_length: usize) -> Result<Option<Chunk>, ReadFault>
         requires { self.old.state ≡ Readable → is_closed_at self.old.streams.now.recv self.old.id.0 ≡ false }
         ensures same_reference { self.new.streams.ghost_name ≡ self.old.streams.ghost_name }
         ensures id { self.new.id ≡ self.old.id }
         ensures keeps_out { KeepsOut self.old.streams.now self.new.streams.now }
         ensures answer { IsChunk self.old.streams.now self.new.streams.now self.old.id.0 max_length self.old.state self.new.state result }
+        ensures lacks { result ≡ Err Lacking → WaitsAt self.old.streams.now.recv self.old.id.0 → ⊥ }
         ensures readable { self.new.state ≡ Readable → is_closed_at self.new.streams.now.recv self.new.id.0 ≡ false }
     {
         if let Some(last) = last_answer(self.state) {

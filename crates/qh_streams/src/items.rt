@@ -1,4 +1,4 @@
-ghost use Rattle.std.specs.Prelude.{◌≡◌, ℕ, ◌+◌, [], ◌∷◌, take, None, Some, is_some, OnOk, OnErr, IfOk};
+ghost use Rattle.std.specs.Prelude.{◌≡◌, ℕ, ◌+◌, [], ◌∷◌, take, None, Some, is_some, IsOk, OnOk, OnErr, IfOk};
 ghost use Rattle.std.specs.Option.{option_map};
 ghost use Rattle.qh_streams.specs.Items.{kept_in, logged, length_of, HasRoom, Logs};
 
@@ -33,10 +33,11 @@ pub enum Item {
         id: StreamId,
         size: u64,
     },
-    /// The peer reset its half of a stream, with this code.
+    /// The peer reset its half of a stream, with this code and this final size.
     Reset {
         id: StreamId,
         code: VarInt,
+        size: VarInt,
     },
     /// The peer asks to stop a stream, with this code.
     Stop {
@@ -55,7 +56,7 @@ pub enum Item {
         dir: Dir,
         count: u64,
     },
-    /// A STREAM frame is acknowledged: all bytes of the stream before this offset are by now and, if the frame has it, the end.
+    /// A STREAM frame is acknowledged: all bytes of the stream before this offset are by now, and the end if `has_end`.
     Confirmed {
         id: StreamId,
         to: u64,
@@ -117,6 +118,7 @@ impl ItemLog {
 
     /// Appends an item if the log is on. For want of memory nothing changes.
     pub fn push(&mut self, item: Item) -> Result<(), Memory>
+        ensures free { self.old ≡ None → IsOk result }
         ensures ok { OnOk result (self.new ≡ logged self.old (item ∷ [])) }
         ensures err { OnErr result (self.new ≡ self.old) }
     {
@@ -153,6 +155,7 @@ impl ItemLog {
         ensures ok { IfOk result (λ items. kept_in items ≡ self.old) }
         ensures room { IfOk result (λ items. HasRoom items more) }
         ensures off { OnOk result (self.new ≡ None) }
+        ensures free { self.old ≡ None → IsOk result }
         ensures err { OnErr result (self.new ≡ self.old) }
     {
         if let Some(items) = &mut self.items {
@@ -170,7 +173,7 @@ impl ItemLog {
 }
 
 /// Appends an item to those that a log lent out, if it was on.
-pub fn put_reserved(items: &mut Option<Vec<Item>>, item: Item)
+pub(crate) fn put_reserved(items: &mut Option<Vec<Item>>, item: Item)
     requires { HasRoom items.old 1 }
     ensures kept { Logs items.old items.new (item ∷ []) }
     ensures room { (n : ℕ) → HasRoom items.old (n + 1) → HasRoom items.new n }

@@ -12,8 +12,9 @@ mod streams;
 pub use fault::StreamFault;
 pub use frames::{PeerLimits, SentFrame, StreamEvent, StreamFrame, StreamLimits};
 pub use halves::{Chunks, ChunksState, RecvHalf, SendHalf};
-pub use items::{Item, ItemLog, put_reserved};
+pub use items::{Item, ItemLog};
 pub use laws::{streams_in_turn, tracked};
+pub use qh_buffers::Chunk;
 pub use qh_half::{
     ClosedStream, FinishFault, Outgoing, ReadFault, ReadableFault, ResetFrame, WriteFault, Written,
 };

@@ -144,7 +144,7 @@ impl Streams {
         self.counts(dir).limit()
     }
 
-    /// Gives a stream that the peer opened, the next in order; None exactly where none is new.
+    /// Gives a stream that the peer opened, the next in order; None exactly if none is new.
     pub fn accept(&mut self, dir: Dir) -> Option<StreamId>
         ensures some { IfSome result (λ id. (id.0 ≡ stream_id (other_side self.old.side) dir (counts_of self.old (is_two_way dir)).accepted)
             × ((counts_of self.old (is_two_way dir)).accepted < (counts_of self.old (is_two_way dir)).arrived)
@@ -199,7 +199,7 @@ impl Streams {
         }
     }
 
-    // Where the last half of a stream of the peer's went, one more is closed.
+    // If the last half of a stream of the peer's went, one more is closed.
     fn count_closed(&mut self, id: StreamId, was_live: bool)
         ensures value { self.new ≡ counted_closed self.old id.0 was_live }
         ensures halves { (self.new.send ≡ self.old.send) × (self.new.recv ≡ self.old.recv) }

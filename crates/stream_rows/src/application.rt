@@ -71,7 +71,8 @@ fn accept<E: StreamCalls>(
     put_stream(out, id)
 }
 
-fn put_stream(out: &mut Vec<u8>, id: Option<StreamId>) -> Result<(), RowFault> {
+/// Appends a stream, `none` where there is none.
+pub(crate) fn put_stream(out: &mut Vec<u8>, id: Option<StreamId>) -> Result<(), RowFault> {
     match id {
         Some(id) => put(out, &[Part::Text("stream"), Part::Number(id.0)]),
         None => put_text(out, "none"),
@@ -234,7 +235,11 @@ fn prefer<E: StreamCalls>(
     put_done(out, end.set_priority(id, priority))
 }
 
-fn put_write(out: &mut Vec<u8>, written: Result<usize, WriteFault>) -> Result<(), RowFault> {
+/// Appends how many bytes were taken, or why none was.
+pub(crate) fn put_write(
+    out: &mut Vec<u8>,
+    written: Result<usize, WriteFault>,
+) -> Result<(), RowFault> {
     match written {
         Ok(count) => put(out, &[Part::Text("taken"), Part::Number(count as u64)]),
         Err(fault) => put_write_fault(out, fault),
@@ -332,7 +337,11 @@ fn put_chunks(out: &mut Vec<u8>, chunks: &[Bytes]) -> Result<(), RowFault> {
     Ok(())
 }
 
-fn put_finish(out: &mut Vec<u8>, finished: Result<(), FinishFault>) -> Result<(), RowFault> {
+/// Appends `ok`, or why a stream wasn't finished.
+pub(crate) fn put_finish(
+    out: &mut Vec<u8>,
+    finished: Result<(), FinishFault>,
+) -> Result<(), RowFault> {
     match finished {
         Ok(()) => put_ok(out),
         Err(fault) => put_finish_fault(out, fault),
@@ -346,7 +355,8 @@ fn put_finish_fault(out: &mut Vec<u8>, fault: FinishFault) -> Result<(), RowFaul
     }
 }
 
-fn put_done(out: &mut Vec<u8>, done: Result<(), ClosedStream>) -> Result<(), RowFault> {
+/// Appends `ok`, or that the stream is closed.
+pub(crate) fn put_done(out: &mut Vec<u8>, done: Result<(), ClosedStream>) -> Result<(), RowFault> {
     match done {
         Ok(()) => put_ok(out),
         Err(ClosedStream) => put_closed(out),

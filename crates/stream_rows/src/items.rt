@@ -51,7 +51,10 @@ fn put_stream_item(out: &mut Vec<u8>, item: &Item) -> Result<(), RowFault> {
             put(out, &[Part::Bytes(bytes)])
         }
         Item::End { id, size } => put_numbers(out, "end", id.0, *size),
-        Item::Reset { id, code } => put_numbers(out, "reset", id.0, code.into_inner()),
+        Item::Reset { id, code, size } => {
+            put_numbers(out, "reset", id.0, code.into_inner())?;
+            put(out, &[Part::Text(""), Part::Number(size.into_inner())])
+        }
         Item::Stop { id, code } => put_numbers(out, "stop", id.0, code.into_inner()),
         Item::StreamCredit { id, limit } => {
             put_numbers(out, "stream-credit", id.0, limit.into_inner())

@@ -1,5 +1,5 @@
-//! Answers rows about the two ends of a connection, or about two ends with streams alone: a heading and the rows below it are a
-//! story of what is called at either end, what happens to datagrams, and what the ends answer.
+//! Answers rows about the two ends of a connection, or about two ends with streams or with packet number spaces alone: a heading
+//! and the rows below it are a story of what is called at either end, what happens to datagrams, and what the ends answer.
 #![tactic(auto)]
 
 mod answers;
@@ -14,6 +14,7 @@ mod packets;
 mod pair;
 mod role;
 mod settings;
+mod space;
 mod streams;
 
 use answers::put_ok;
@@ -22,6 +23,7 @@ use qh_base::{Side, StdSink, StdSource};
 use role::Role;
 use row_text::{RowFault, Table, Words, put_number, put_text, run};
 use settings::{Settings, USUAL};
+use space::SpacePair;
 use std::alloc::Global;
 use std::mem;
 use std::process::ExitCode;
@@ -32,6 +34,7 @@ use streams::StreamsPair;
 enum Kind {
     Connection,
     Streams,
+    Spaces,
 }
 
 #[derive(Drop)]
@@ -40,6 +43,7 @@ struct Stories {
     pair: Pair,
     role: Role,
     streams: StreamsPair,
+    spaces: SpacePair,
 }
 
 impl Table for Stories {
@@ -77,6 +81,7 @@ impl Stories {
                 application::answer(alloc, self.streams.end(side), word, words, out)?
                     || self.streams.answer_end(alloc, side, word, words, out)?,
             ),
+            Kind::Spaces => self.spaces.answer_end(alloc, side, word, words, out),
         }
     }
 
@@ -91,6 +96,7 @@ impl Stories {
         match word {
             "new" => self.begin(alloc, Kind::Connection, words, out)?,
             "streams" => self.begin(alloc, Kind::Streams, words, out)?,
+            "spaces" => self.begin(alloc, Kind::Spaces, words, out)?,
             "echo" => bulk::echo(alloc, &mut self.pair, words, out)?,
             "bulk" => bulk::answer(alloc, words, out)?,
             "serve" => self.serve(alloc, out)?,
@@ -114,6 +120,10 @@ impl Stories {
             Kind::Streams => {
                 let streams = StreamsPair::new(alloc, &settings);
                 drop(mem::replace(&mut self.streams, streams));
+            }
+            Kind::Spaces => {
+                let spaces = SpacePair::new(alloc, &settings);
+                drop(mem::replace(&mut self.spaces, spaces));
             }
         }
         put_ok(out)
@@ -153,5 +163,6 @@ fn usual_stories(alloc: Global) -> Result<Stories, RowFault> {
         pair: Pair::new(alloc, &USUAL)?,
         role: Role::new(alloc),
         streams: StreamsPair::new(alloc, &USUAL),
+        spaces: SpacePair::new(alloc, &USUAL),
     })
 }

@@ -104,7 +104,8 @@ pub(crate) fn put_packet(
     Ok(())
 }
 
-fn put_told(out: &mut Vec<u8>, number: u64, frames: &[u8]) -> Result<(), RowFault> {
+/// Appends the number and the frames of a packet.
+pub(crate) fn put_told(out: &mut Vec<u8>, number: u64, frames: &[u8]) -> Result<(), RowFault> {
     put(
         out,
         &[

@@ -1,6 +1,7 @@
 //! What ends begin with, and the small words of rows: streams, directions, codes.
 use qh_base::{Dir, Span, StreamId, VarInt};
 use qh_conn::ConnConfig;
+use qh_space::SpaceConfig;
 use qh_streams::{PeerLimits, StreamLimits};
 use row_text::{RowFault, Words};
 
@@ -113,6 +114,16 @@ impl Settings {
                 0 => None,
                 idle => Some(Span(idle)),
             },
+            initial_rtt: Span(self.rtt),
+            initial_window: self.window,
+        }
+    }
+
+    /// What a space with no connection begins with.
+    pub(crate) fn space(&self) -> SpaceConfig {
+        SpaceConfig {
+            limits: self.limits,
+            peer: self.peer(),
             initial_rtt: Span(self.rtt),
             initial_window: self.window,
         }

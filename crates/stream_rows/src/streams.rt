@@ -74,6 +74,9 @@ impl StreamsEnd {
 
     // A frame comes, and the log keeps what it brings, where it is on.
     fn receive(&mut self, alloc: Global, frame: StreamFrame) -> Result<(), StreamFault> {
+        if !self.log.is_on() {
+            return self.streams.received(alloc, frame);
+        }
         let before = self.log.len();
         self.streams.note(&frame, &mut self.log)?;
         let received = self.streams.received(alloc, frame);

@@ -6,7 +6,7 @@ ghost use Rattle.qh_conn.specs.Streams.{IsRead, IsReadFault, IsWriteRefused};
 ghost use Rattle.qh_conn.specs.declared.fault.TakeFault.TheVariants.{Read};
 ghost use Rattle.qh_half.specs.declared.fault.ReadFault.TheVariants.{Memory as Wanting};
 ghost use Rattle.qh_half.specs.Send.{credit, chunks_after, whole_chunks};
-ghost use Rattle.qh_halves.specs.RecvHalves.{IsRecvStep, Stops, TakesReset, is_closed_at};
+ghost use Rattle.qh_halves.specs.RecvHalves.{IsRecvStep, WaitsInOrderAt, Stops, TakesReset, is_closed_at};
 ghost use Rattle.qh_halves.specs.SendHalves.{send_at, write_limit, write_fault_at, finish_fault_at, is_reset_refused_at, half_priority, IsStep, Takes, Finishes, IsResetWith, HasPriority};
 ghost use Rattle.qh_spec.specs.StreamId.{stream_id};
 ghost use Rattle.qh_spec.specs.Transcript.{Act, written, finished, read};
@@ -148,6 +148,7 @@ impl<S> Connection<S> {
         ensures ok { IfOk result (λ o. IsRead max_length ordered id.0 (Ok o) self.old.space.streams self.new.space.streams) }
         ensures fault { IfErr result (λ e. IsReadFault max_length ordered id.0 e self.old.space.streams self.new.space.streams) }
         ensures unread { IfErr result (λ e. e ≡ Read Wanting → self.new ≡ self.old) }
+        ensures lacks { IfErr result (λ e. e ≡ Read Wanting → WaitsInOrderAt self.old.space.streams.recv id.0 ordered → ⊥) }
         ensures rest { self.new ≡ with_streams self.old self.new.space.streams }
         ensures follows { (t : List Act) → Follows self.old t → Follows self.new (t ++ take_acts id.0 result) }
         ensures in_order { IfOk result (λ o. IfSome o (λ c. (t : List Act) → Follows self.old t → ordered ≡ true → 0 < length c.bytes → c.offset ≡ length (read t id.0))) }

@@ -6,7 +6,7 @@ use bytes::Bytes;
 use qh_base::Memory;
 use std::alloc::Global;
 
-/// A copy of the first bytes of chunks, so many where they have as many.
+/// A copy of the first `count` bytes of chunks, or of all if they have fewer.
 pub(super) fn front(alloc: Global, chunks: &[Bytes], count: usize) -> Result<Bytes, Memory>
     ensures { IfOk result (λ b. b ≡ take count (concat chunks.now)) }
 {
@@ -26,7 +26,7 @@ fn copied(alloc: Global, chunks: &[Bytes], count: usize) -> Result<Vec<u8>, Memo
     Ok(bytes)
 }
 
-/// Drops the first bytes of chunks, so many, and answers how many chunks it dropped whole.
+/// Drops the first `count` bytes of chunks, and answers how many chunks it dropped whole.
 pub(super) fn drop_front(chunks: &mut [Bytes], count: usize) -> usize
     ensures rest { chunks.new ≡ chunks_after count chunks.old }
     ensures whole { result ≡ whole_chunks count chunks.old }

@@ -67,7 +67,7 @@ impl WinnerTree {
         self.nodes[self.nodes.len() / 2 + place]
     }
 
-    /// The stream that is served first, None where none waits.
+    /// The stream that is served first, None if none waits.
     pub fn first(&self) -> Option<PendingStream>
         ensures { IsWinner self.now result }
     {
@@ -90,7 +90,7 @@ impl WinnerTree {
         }
     }
 
-    /// Takes room for a place where there is none. For want of memory nothing changes.
+    /// Takes room for a place if there is none. For want of memory nothing changes.
     pub fn reserve(&mut self, place: usize) -> Result<(), Memory>
         ensures room { OnOk result (place < length self.new) }
         ensures more { length self.old ≤ length self.new }

@@ -54,7 +54,7 @@ impl Dedup {
         self.received.max()
     }
 
-    /// The greatest number that came plus 1, 0 where none came.
+    /// The greatest number that came plus 1, 0 if none came.
     pub fn next_expected(&self) -> u64
         ensures next { (accepted : List ℕ) → Remembers accepted self.now → IsNextOf accepted result }
         ensures bound { result ≤ 2 ^ 62 }
@@ -63,7 +63,7 @@ impl Dedup {
     }
 }
 
-/// The greatest number plus 1, 0 where there is none.
+/// The greatest number plus 1, 0 if there is none.
 pub(super) fn next_of(received: &ArrayRangeSet) -> u64
     requires { (k : ℕ) → has received.now k ≡ true → k < 2 ^ 62 }
     ensures next { IsNextIn received.now result }
@@ -75,7 +75,7 @@ pub(super) fn next_of(received: &ArrayRangeSet) -> u64
     }
 }
 
-/// The least number that may be new, where the next is expected to be this one.
+/// The least number that may be new, if the next is expected to be `next`.
 pub(super) fn window_start(next: u64) -> u64
     ensures { result ≡ next - 129 }
 {

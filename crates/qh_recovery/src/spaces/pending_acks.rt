@@ -8,7 +8,7 @@ use qh_frame::{AckRange, put_ack};
 use std::alloc::Global;
 use std::marker::Model;
 
-/// So many ranges are kept, and stand in an ACK frame.
+/// How many ranges are kept, and stand in an ACK frame, at most.
 const MAX_ACK_BLOCKS: usize = 32;
 
 /// The packet numbers that wait to be acknowledged, at most 32 ranges, and whether an ACK is due (RFC 9000, section 13.2).
@@ -77,7 +77,7 @@ impl PendingAcks {
     }
 }
 
-/// Drops the least ranges where there are more than 32.
+/// Drops the least ranges if there are more than 32.
 pub(super) fn forget_least(ranges: &mut ArrayRangeSet)
     ensures { ranges.new ≡ last_ranges ranges.old }
 {

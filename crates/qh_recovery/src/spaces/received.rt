@@ -7,7 +7,7 @@ use super::pending_acks::{PendingAcks, forget_least};
 use qh_base::Memory;
 
 /// Takes the number of a packet that came, below 2^62. It isn't new any more, and it waits to be acknowledged; an ack-eliciting
-/// packet makes an ACK due. Where there are more than 32 ranges to acknowledge, the least are forgotten (RFC 9000, sections 12.3
+/// packet makes an ACK due. If there are more than 32 ranges to acknowledge, the least are forgotten (RFC 9000, sections 12.3
 /// and 13.2.3). After want of memory neither has the number.
 pub fn insert_received(
     dedup: &mut Dedup,

@@ -4,7 +4,7 @@ ghost use Rattle.qh_half.specs.declared.fault.ReadFault.TheVariants.{Memory as L
 ghost use Rattle.qh_half.specs.declared.fault.WriteFault.TheVariants.{Blocked, Memory as Wanting};
 ghost use Rattle.qh_half.specs.Send.{credit, chunks_after, whole_chunks};
 ghost use Rattle.qh_halves.specs.SendHalves.{send_at, write_limit, write_fault_at, finish_fault_at, is_reset_refused_at, half_priority, IsStep, IsAbsent, Takes, Finishes, IsResetWith, HasPriority};
-ghost use Rattle.qh_halves.specs.RecvHalves.{IsRecvStep, Reads, Begins, IsBegunRead, is_wanting, Stops, TakesReset, readable_fault_at, is_closed_at, is_credit_due};
+ghost use Rattle.qh_halves.specs.RecvHalves.{IsRecvStep, Reads, Begins, WaitsAt, WaitsInOrderAt, IsBegunRead, is_wanting, Stops, TakesReset, readable_fault_at, is_closed_at, is_credit_due};
 ghost use Rattle.qh_streams.specs.Streams.{counted_closed, is_live, with_blocked, IsWriteRefusal, KeepsOut};
 
 use crate::{ClosedStream, FinishFault, ReadFault, ReadableFault, Streams, WriteFault, Written};
@@ -15,7 +15,7 @@ use std::alloc::Global;
 
 impl Streams {
     /// Takes the first bytes for a stream, as many as the limits permit: the stream's, the connection's and the send window.
-    /// Where no byte may be taken it answers ClosedStream, Stopped or Blocked, the first that fits; where the allocator has no
+    /// If no byte may be taken it answers ClosedStream, Stopped or Blocked, the first that fits; if the allocator has no
     /// memory, Memory. A writer that is Blocked by the limits that all share is told by `Writable`.
     pub fn write(
         &mut self,
@@ -135,6 +135,7 @@ impl Streams {
     pub fn next(&mut self, id: StreamId, max_length: usize) -> Result<Option<Chunk>, ReadFault>
         requires { is_closed_at self.old.recv id.0 ≡ false }
         ensures answer { IsRecvStep (Reads max_length result) self.old.recv self.new.recv id.0 0 }
+        ensures lacks { result ≡ Err Lacking → WaitsAt self.old.recv id.0 → ⊥ }
         ensures value { self.new ≡ counted_closed (record self.old { recv = self.new.recv }) id.0 (is_live self.old id.0) }
         ensures keeps_out { KeepsOut self.old self.new }
     {
@@ -162,6 +163,7 @@ impl Streams {
         requires { readable_fault_at self.old.recv id.0 ordered ≡ None }
         ensures answer { IsBegunRead max_length (ordered || is_wanting result) result self.old.recv self.new.recv id.0 }
         ensures memory { result ≡ Err Lacking → self.new ≡ self.old }
+        ensures lacks { result ≡ Err Lacking → WaitsInOrderAt self.old.recv id.0 ordered → ⊥ }
         ensures value { self.new ≡ counted_closed (record self.old { recv = self.new.recv }) id.0 (is_live self.old id.0) }
         ensures keeps_out { KeepsOut self.old self.new }
     {
@@ -171,7 +173,7 @@ impl Streams {
         result
     }
 
-    /// No more bytes of a stream are wanted: what waits is dropped, and what comes. Where its final size isn't known the peer
+    /// No more bytes of a stream are wanted: what waits is dropped, and what comes. If its final size isn't known the peer
     /// is told, with this code.
     pub fn stop(&mut self, id: StreamId, code: VarInt) -> Result<(), ClosedStream>
         ensures ok { OnOk result (IsRecvStep (Stops code) self.old.recv self.new.recv id.0 0 × (self.new ≡ counted_closed (record self.old { recv = self.new.recv }) id.0 (is_live self.old id.0))) }
@@ -184,7 +186,7 @@ impl Streams {
         Ok(())
     }
 
-    /// The code of the peer's reset, where one came. It counts as given then.
+    /// The code of the peer's reset, if one came. It counts as given then.
     pub fn received_reset(&mut self, id: StreamId) -> Result<Option<VarInt>, ClosedStream>
         ensures ok { IfOk result (λ code. IsRecvStep (TakesReset code) self.old.recv self.new.recv id.0 0 × (self.new ≡ counted_closed (record self.old { recv = self.new.recv }) id.0 (is_live self.old id.0))) }
         ensures fault { OnErr result ((is_closed_at self.old.recv id.0 ≡ true) × (self.new ≡ self.old)) }

@@ -310,7 +310,7 @@ impl Streams {
         Ok(())
     }
 
-    // Where this limit permits bytes again that the stream's own limit forbade, that is to be told.
+    // If this limit permits bytes again that the stream's own limit forbade, that is to be told.
     fn note_unblocked(&mut self, id: StreamId, limit: VarInt) -> Result<(), Memory>
         ensures ok { OnOk result (HasUnblocked self.old self.new id.0 limit × (self.new ≡ record self.old { blocked = self.new.blocked })) }
         ensures err { OnErr result (self.new ≡ self.old) }

@@ -5,7 +5,7 @@ use crate::{StreamEvent, Streams};
 use qh_base::StreamId;
 
 impl Streams {
-    /// What happened next; None exactly where nothing is left to be told. Streams on which bytes may be written again come
+    /// What happened next; None exactly if nothing is left to be told. Streams on which bytes may be written again come
     /// first, then the rest in the order in which it happened.
     pub fn poll_event(&mut self) -> Option<StreamEvent>
         ensures told { IsPolled self.old self.new result }

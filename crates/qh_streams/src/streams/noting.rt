@@ -1,16 +1,20 @@
-ghost use Rattle.std.specs.Prelude.{◌≡◌, ◌+◌, ℕ, List, [], ◌∷◌, ◌++◌, length, OnOk, OnErr};
+ghost use Rattle.std.specs.Prelude.{◌≡◌, ◌+◌, ℕ, List, [], ◌∷◌, ◌++◌, length, None, IsOk, OnOk, OnErr};
 ghost use Rattle.qh_streams.specs.Items.{arrival, end_items, items_of, first_items, logged, confirmed_items, AreConfirmed, HasRoom, Logs};
 ghost use Rattle.qh_streams.specs.Streams.{IsOut, IsAckedFrame, AreAllOut, AreAcked, KeepsOut};
 ghost use Rattle.qh_streams.specs.declared.frames.StreamFrame.TheVariants.{Stream};
 ghost use Rattle.qh_streams.specs.declared.items.Item.{Item as AnItem};
 
-use crate::{Item, ItemLog, PeerLimits, SentFrame, StreamFrame, Streams, put_reserved};
+use crate::items::put_reserved;
+use crate::{Item, ItemLog, PeerLimits, SentFrame, StreamFrame, Streams};
 use bytes::Bytes;
 use qh_base::{Dir, Memory, StreamId, VarInt};
+use qh_halves::MAX_STREAMS;
 
 impl Streams {
-    /// Appends to a log what a frame brings, if `received` takes it. For want of memory the log stays as it was.
+    /// Appends to a log what a frame brings. It looks for no fault: if `received` refuses the frame, the items are to go again. For
+    /// want of memory the log stays as it was; one that is off takes none.
     pub fn note(&self, frame: &StreamFrame, log: &mut ItemLog) -> Result<(), Memory>
+        ensures free { log.old ≡ None → IsOk result }
         ensures ok { OnOk result (log.new ≡ logged log.old (items_of self.now frame.now)) }
         ensures err { OnErr result (log.new ≡ log.old) }
     {
@@ -37,12 +41,13 @@ impl Streams {
                 payload,
                 fin,
             } => self.note_piece(*id, *offset, payload, *fin, log),
-            StreamFrame::Reset { id, code, .. } => {
+            StreamFrame::Reset { id, code, size } => {
                 self.note_for(
                     *id,
                     Item::Reset {
                         id: *id,
                         code: *code,
+                        size: *size,
                     },
                     log,
                 )
@@ -117,6 +122,7 @@ impl Streams {
 
     /// Appends to a log the peer's first limits, as `set_peer` takes them. For want of memory the log stays as it was.
     pub fn note_peer(peer: PeerLimits, log: &mut ItemLog) -> Result<(), Memory>
+        ensures free { log.old ≡ None → IsOk result }
         ensures ok { OnOk result (log.new ≡ logged log.old (first_items peer)) }
         ensures err { OnErr result (log.new ≡ log.old) }
     {
@@ -162,17 +168,17 @@ impl Streams {
         match frame {
             SentFrame::Stream { id, piece } => {
                 let taken = self.send.taken_to(id.0);
-                let has_end = piece.fin;
                 self.acked(SentFrame::Stream { id, piece });
                 if let Some(all) = taken {
                     let to = self.send.confirmed_to(id.0).unwrap_or(all);
+                    let has_end = self.send.is_end_acked(id.0);
                     put_reserved(log, Item::Confirmed { id, to, has_end });
                 }
             }
             SentFrame::ResetStream { id, reset } => {
-                let is_there = self.send.contains(id.0);
+                let was_there = self.send.contains(id.0);
                 self.acked(SentFrame::ResetStream { id, reset });
-                if is_there {
+                if was_there && !self.send.contains(id.0) {
                     put_reserved(log, Item::ResetConfirmed { id });
                 }
             }
@@ -204,10 +210,10 @@ fn note_limits(peer: PeerLimits, log: &mut ItemLog) -> Result<(), Memory>
     log.push(Item::Credit(peer.max_data))?;
     log.push(Item::Count {
         dir: Dir::Bi,
-        count: peer.max_bidi,
+        count: peer.max_bidi.min(MAX_STREAMS),
     })?;
     log.push(Item::Count {
         dir: Dir::Uni,
-        count: peer.max_uni,
+        count: peer.max_uni.min(MAX_STREAMS),
     })
 }

@@ -16,7 +16,7 @@ use qh_halves::{RecvHalves, SendHalves, StreamCounts};
 use std::alloc::Global;
 
 impl Streams {
-    /// Opens a stream; None exactly where the peer permits no more in this direction. It takes room for all that the stream may
+    /// Opens a stream; None exactly if the peer permits no more in this direction. It takes room for all that the stream may
     /// have to send or to tell.
     pub fn open(&mut self, alloc: Global, dir: Dir) -> Result<Option<StreamId>, Memory>
         ensures some { IfOk result (λ o. IfSome o (λ id. (id.0 ≡ stream_id self.old.side dir (counts_of self.old (is_two_way dir)).opened)
@@ -55,7 +55,7 @@ impl Streams {
         }
     }
 
-    // A frame named a stream within the counts: where the peer opens it and it didn't come yet, it gets its halves, as do
+    // A frame named a stream within the counts: if the peer opens it and it didn't come yet, it gets its halves, as do
     // those before it, and `Opened` is to be told. Answers how many came before.
     pub(super) fn arrive(&mut self, alloc: Global, id: StreamId) -> Result<u64, Memory>
         requires { IsWithinCount self.old id.0 }
@@ -93,7 +93,7 @@ impl Streams {
         Ok(counts.arrived)
     }
 
-    // Takes back that a stream arrived, and those before it: so many had come before.
+    // Takes back that a stream arrived, and those before it: `arrived` had come before.
     pub(super) fn depart(&mut self, id: StreamId, arrived: u64)
         requires { CanDepart self.old id.0 arrived }
         ensures { (before : PlainStreams) → (was_opened before id.0 ≡ false → IsSorted before) → arrived ≡ (counts_of before (is_bi id.0)).arrived → HasArrived before self.old id.0
@@ -144,7 +144,7 @@ fn insert_halves(
     Ok(())
 }
 
-// Streams that the peer opens in this direction get their halves: so many, each fourth id from the first on.
+// Streams that the peer opens in this direction get their halves: `count` of them, each fourth id from the first on.
 fn insert_ranges(
     send: &mut SendHalves,
     recv: &mut RecvHalves,

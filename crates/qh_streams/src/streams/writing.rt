@@ -36,7 +36,7 @@ enum Phase {
 impl Streams {
     /// Appends frames that are due, as many as the room permits, and what was written in each: MAX_DATA and MAX_STREAMS, then at
     /// most 32 frames of single streams (STOP_SENDING, MAX_STREAM_DATA), then STREAM and RESET_STREAM frames by their stream's
-    /// priority, the greater first, then by its id, then the frames of single streams that are left. It ends where nothing is
+    /// priority, the greater first, then by its id, then the frames of single streams that are left. It ends when nothing is
     /// left to be sent, or there is no room for a frame's head and one byte. With 600 bytes of room no kind of frame keeps
     /// another from being sent. `Memory` leaves both lists as they were; what was handed over waits again.
     pub fn write_frames(
@@ -78,14 +78,14 @@ impl Streams {
         let start = out.len();
         self.write_limits(room, out, sent)?;
         let left = room - (out.len() - start);
-        self.write_phase(Phase::SingleStreams, MOST_BEFORE, left, out, sent)?;
+        self.write_due(Phase::SingleStreams, MOST_BEFORE, left, out, sent)?;
         let left = room - (out.len() - start);
         self.write_phase(Phase::Sending, left, left, out, sent)?;
         let left = room - (out.len() - start);
-        self.write_phase(Phase::SingleStreams, left, left, out, sent)
+        self.write_due(Phase::SingleStreams, left, left, out, sent)
     }
 
-    // Appends the frames of limits that all streams share, where they are due.
+    // Appends the frames of limits that all streams share, if they are due.
     fn write_limits(
         &mut self,
         room: usize,
@@ -98,11 +98,31 @@ impl Streams {
         ensures keeps_out { KeepsOut self.old self.new }
     {
         let start = out.len();
-        self.write_phase(Phase::MaxData, 1, room, out, sent)?;
+        self.write_due(Phase::MaxData, 1, room, out, sent)?;
         let left = room - (out.len() - start);
-        self.write_phase(Phase::MaxStreams(Dir::Bi), 1, left, out, sent)?;
+        self.write_due(Phase::MaxStreams(Dir::Bi), 1, left, out, sent)?;
         let left = room - (out.len() - start);
-        self.write_phase(Phase::MaxStreams(Dir::Uni), 1, left, out, sent)
+        self.write_due(Phase::MaxStreams(Dir::Uni), 1, left, out, sent)
+    }
+
+    // Appends frames of a phase, at most `most`. A phase of which none is due costs no more than to see that.
+    fn write_due(
+        &mut self,
+        phase: Phase,
+        most: usize,
+        room: usize,
+        out: &mut Vec<u8>,
+        sent: &mut Vec<SentFrame>,
+    ) -> Result<(), Memory>
+        ensures written { OnOk result (IsPhaseWritten phase most room self.old self.new out.old.items out.new.items sent.old.items sent.new.items) }
+        ensures grown { OnOk result ((length out.old.items ≤ length out.new.items) × (length out.new.items - length out.old.items ≤ room)) }
+        ensures cut { OnErr result (IsCutShort self.old self.new out.old.items out.new.items sent.old.items sent.new.items) }
+        ensures keeps_out { KeepsOut self.old self.new }
+    {
+        if !self.may_be_due(phase) {
+            return Ok(());
+        }
+        self.write_phase(phase, most, room, out, sent)
     }
 
     // Appends frames of a phase, at most `most`.
@@ -129,7 +149,22 @@ impl Streams {
         Ok(())
     }
 
-    // Appends the next frame of a phase; false where none is due.
+    // Whether a frame of a phase may be due.
+    fn may_be_due(&self, phase: Phase) -> bool
+        ensures { result ≡ false → IsPhaseIdle phase self.now }
+    {
+        match phase {
+            Phase::MaxData => self.recv.is_max_data_due(),
+            Phase::MaxStreams(dir) => {
+                let counts = self.counts(dir);
+                counts.announced.is_due(counts.limit())
+            }
+            Phase::SingleStreams => self.recv.has_control(),
+            Phase::Sending => true,
+        }
+    }
+
+    // Appends the next frame of a phase; false if none is due.
     fn write_frame(
         &mut self,
         phase: Phase,
@@ -170,7 +205,7 @@ impl Streams {
         }
     }
 
-    // The MAX_DATA frame, where it is due. It counts as announced then.
+    // The MAX_DATA frame, if it is due. It counts as announced then.
     fn next_max_data(&mut self) -> Option<SentFrame>
         ensures some { IfSome result (λ f. (room : ℕ) → IsHandedOver self.old self.new room f × IsOf phases.MaxData f) }
         ensures out { IfSome result (IsOutHeld self.new) }
@@ -181,7 +216,7 @@ impl Streams {
         Some(SentFrame::MaxData(limit))
     }
 
-    // The MAX_STREAMS frame of a direction, where it is due. It counts as announced then.
+    // The MAX_STREAMS frame of a direction, if it is due. It counts as announced then.
     fn next_max_streams(&mut self, dir: Dir) -> Option<SentFrame>
         ensures some { IfSome result (λ f. (room : ℕ) → IsHandedOver self.old self.new room f × IsOf (phases.MaxStreams dir) f) }
         ensures out { IfSome result (IsOutHeld self.new) }

@@ -1,6 +1,6 @@
-use Rattle.std.proofs.Common.{sym, ◌∙◌, Ok, Err}
+use Rattle.std.proofs.Common.{sym, ap, ◌∙◌, Ok, Err}
 use Rattle.qh_transcript.specs.Receiving.{read_acts}
-use Rattle.qh_conn.proofs.ReaderCalls.{read_call, read_is, reads_in_order}
+use Rattle.qh_conn.proofs.ReaderCalls.{read_call, read_is, read_fault, reads_in_order}
 use Rattle.qh_conn.proofs.StreamsGo.{called, call_follows}
 use Rattle.qh_conn.proofs.connection.Connection.read.Goals as goal
 use Rattle.qh_conn.proofs.connection.Connection.read.Goals.{in-Ok, in-Err}
@@ -20,6 +20,12 @@ pub returns-clause-fault : goal.returns-clause-fault
 returns-clause-fault g c = elim c.match-read.branch [
   | in-Ok w ↦ rw w.result-is tt
   | in-Err w ↦ rw w.result-is (rw (← c.self.view_is) (read_is c.self.inside.inner.space.streams c.read.new.self c.args.id.0 c.args.max_length c.args.ordered (Err w.in-Err.fault) (sym c.readable_fault.ensures ∙ c.in_default.is) w.in-Err.ensures.answer c.read.ensures.value))
+]
+
+pub returns-clause-lacks : goal.returns-clause-lacks
+returns-clause-lacks g c = elim c.match-read.branch [
+  | in-Ok w ↦ rw w.result-is tt
+  | in-Err w ↦ rw w.result-is (λ e. rw (← c.self.view_is) (w.in-Err.ensures.lacks (ap Err (read_fault e))))
 ]
 
 pub returns-clause-follows : goal.returns-clause-follows

@@ -18,5 +18,5 @@ invariant_of-self-2 c =
 
 pub overflow_sub-after : goal.overflow_sub-after
 overflow_sub-after c =
-    let counted = counted_at_read c.in-Some.half.now c.next-result.new.self c.args.max_length c.next-result.result c.next-result.ensures in
+    let counted = counted_at_read c.in-Some.half.now c.next-result.new.self c.args.max_length c.next-result.result c.next-result.ensures.answer in
     omega (arith, counted, c.counted-before.ensures.counted, c.counted-after.ensures.counted)

@@ -9,7 +9,7 @@ returns-in_default c =
     let other = other_taken c.args.now.0 c.args.self.now c.args.frame.now c.closed_by.result
     (record { no_streams = c.requires.other; no_ack = c.in_default.not-Ack; no_token = c.in_default.not-NewToken; no_challenge = c.in_default.not-PathChallenge; no_confirmation = c.in_default.not-HandshakeDone; no_datagram = c.in_default.not-Datagram })
     c.closed_by.ensures in
-    record { ok = other.0; taken = other.1; fault = tt; err = tt; space = c.requires.space }
+    record { ok = other.0; taken = other.1; fault = tt; memory = tt; err = tt; space = c.requires.space }
 
 pub returns-clause-ok : goal.returns-clause-ok
 returns-clause-ok c = elim c.match-frame.branch [

@@ -13,5 +13,8 @@ returns-clause-memory c = λ wanting.
     let live = rw (← c.self.view_is) at c.is_live-was_live.ensures in
     rw (← c.self.view_is) (recv_unread c.read-result.new.self c.args.id.0 c.is_live-was_live.result c.count_closed.ensures.value (c.read-result.ensures.memory wanting) live)
 
+pub returns-clause-lacks : goal.returns-clause-lacks
+returns-clause-lacks c = rw (← c.self.view_is) c.read-result.ensures.lacks
+
 pub returns-clause-keeps_out : goal.returns-clause-keeps_out
 returns-clause-keeps_out c = λ f out. c.count_closed.ensures.keeps_out f (recv_stays_out c.self.invariant c.read-result.new.self f (rw (← c.self.view_is) at out))

@@ -24,7 +24,7 @@ loop-sent-smaller c =
 pub loop-sent-preserved : goal.loop-sent-preserved
 loop-sent-preserved c =
     one_more c.args.phase c.args.most c.args.room _ c.args.self.now c.loop-sent.self c.write_frame.new.self c.args.out.now.items c.loop-sent.out.items c.write_frame.new.out.items c.args.sent.now.items c.loop-sent.sent.items c.write_frame.new.sent.items
-    c.loop-sent.invariant (omega arith) (c.in_ok-write_frame.ensures.written c.if-not-branch.false) c.in_ok-write_frame.ensures.keeps_out (omega arith)
+    c.loop-sent.invariant (omega arith) (c.in_ok-write_frame.ensures.written c.if-not-branch.false) c.in_ok-write_frame.ensures.keeps_out (omega arith) (omega arith)
 
 pub returns-else-len-before-clause-written : goal.returns-else-len-before-clause-written
 returns-else-len-before-clause-written c =
