@@ -1,10 +1,10 @@
 /// One call: who made it, the number that it added, and the sum before it.
 #[derive(Drop)]
-pub struct Added {
+pub(crate) struct Added {
     /// The thread that made the call.
-    pub thread: u32,
+    pub(crate) thread: u32,
     /// What it added.
-    pub number: u32,
+    pub(crate) number: u32,
     /// The sum before it, which was the reply.
-    pub reply: u64,
+    pub(crate) reply: u64,
 }

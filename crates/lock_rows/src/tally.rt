@@ -8,7 +8,7 @@ use std::alloc::Global;
 
 /// A sum, with the calls that made it.
 #[derive(Drop)]
-pub struct Tally {
+pub(crate) struct Tally {
     sum: u64,
     calls: Vec<Added>,
     ghost replays: { sum ≡ sum_of 0 calls.items },
@@ -35,7 +35,7 @@ impl Tally {
     ghost use Rattle.lock_rows.specs.Tallies.{calls_of};
 
     /// Nothing was added yet.
-    pub fn new(alloc: Global) -> Tally
+    pub(crate) fn new(alloc: Global) -> Tally
         ensures { calls_of result ≡ [] }
     {
         Tally {
@@ -45,7 +45,7 @@ impl Tally {
     }
 
     /// Adds a number, and replies the sum before it. A sum past 64 bits is want of memory too.
-    pub fn add(&mut self, thread: u32, number: u32) -> Result<u64, Memory>
+    pub(crate) fn add(&mut self, thread: u32, number: u32) -> Result<u64, Memory>
         ensures { MatchResult result (λ r. calls_of self.new ≡ calls_of self.old ++ added thread number r ∷ []) (λ _. calls_of self.new ≡ calls_of self.old) }
     {
         let reply = self.sum;
@@ -62,7 +62,7 @@ impl Tally {
     }
 
     /// The calls, in the order in which they were made.
-    pub fn calls(&self) -> &[Added]
+    pub(crate) fn calls(&self) -> &[Added]
         ensures { result.now ≡ calls_of self.now }
     {
         self.calls.as_slice()

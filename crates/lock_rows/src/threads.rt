@@ -14,7 +14,7 @@ use std::thread;
 use std::thread::Threads;
 
 /// Adds a number in turn, and replies the sum before it.
-pub fn add<R: Wait>(
+pub(crate) fn add<R: Wait>(
     rt: &R,
     mutex: &Mutex<Tally>,
     seat: &mut Seat<Tally>,
@@ -90,7 +90,7 @@ fn add_beside<R: Threads + Wait + Sync>(
 
 /// Two threads add the numbers below `middle` beside each other, and then those below `end`. Between the rounds their
 /// seats are joined and split again.
-pub fn add_in_two_rounds<R: Threads + Wait + Sync>(
+pub(crate) fn add_in_two_rounds<R: Threads + Wait + Sync>(
     rt: &R,
     alloc: Global,
     middle: u32,

@@ -13,28 +13,28 @@ use Rattle.qh_conduct.proofs.StreamsGoOn.{GoOn, same_go}
 use Rattle.qh_conduct.proofs.StreamsReceive.{call_go, polled_go}
 use Rattle.qh_conduct.specs.Announced.{Announced, HasAnnounced, HasComeWith, IsOver, TakesTags}
 use Rattle.qh_conduct.specs.Calls.{IsCall}
-use Rattle.qh_conn.proofs.Acts.{in_last_act}
-use Rattle.qh_conn.proofs.Ends.{ended_with}
-use Rattle.qh_conn.proofs.Handed.{same_in, same_out}
-use Rattle.qh_conn.specs.Event.{IsDrainedTold, IsPolledEvent}
-use Rattle.qh_conn.specs.Event.IsDrainedTold.{drained as drain_told, none as no_drain_told}
-use Rattle.qh_conn.specs.Event.IsPolledEvent.{stream, lost, none as nothing}
-use Rattle.qh_conn.specs.Follows.{event_acts}
-use Rattle.qh_conn.specs.Inner.{is_open, with_space, with_streams}
-use Rattle.qh_conn.specs.Receiving.{GoesOnWith, IsClosedWith, IsDatagramTaken, IsEventTaken, IsOpenedBy, IsPacketHandled, IsPacketTaken, received}
-use Rattle.qh_conn.specs.Receiving.IsDatagramTaken.{dropped, handled, told_again, closed_too, draining, drained}
-use Rattle.qh_conn.specs.Receiving.IsPacketHandled.{repeated, empty, faulty, unnoted, taken}
-use Rattle.qh_conn.specs.Sending.{NothingIsSent}
-use Rattle.qh_conn.specs.Timers.{IsTimedOut, restarted}
-use Rattle.qh_conn.specs.Timers.IsTimedOut.{idle, recovery, closed, draining as draining_over, waits, drained as drained_still}
-use Rattle.qh_conn.specs.declared.event.ConnectionEvent.{ConnectionEvent}
-use Rattle.qh_conn.specs.declared.event.ConnectionEvent.TheVariants.{Datagram, Close}
-use Rattle.qh_conn.specs.declared.event.EndpointEvent.{EndpointEvent}
-use Rattle.qh_conn.specs.declared.event.Event.{Event}
-use Rattle.qh_conn.specs.declared.inner.Inner.{Inner}
-use Rattle.qh_conn.specs.declared.state.Close.{Close as CloseReason}
-use Rattle.qh_conn.specs.declared.state.State.{State}
-use Rattle.qh_conn.specs.declared.state.State.TheVariants.{Closed, Draining, Drained}
+use Rattle.qh_core.proofs.Acts.{in_last_act}
+use Rattle.qh_core.proofs.Ends.{ended_with}
+use Rattle.qh_core.proofs.Handed.{same_in, same_out}
+use Rattle.qh_core.specs.Event.{IsDrainedTold, IsPolledEvent}
+use Rattle.qh_core.specs.Event.IsDrainedTold.{drained as drain_told, none as no_drain_told}
+use Rattle.qh_core.specs.Event.IsPolledEvent.{stream, lost, none as nothing}
+use Rattle.qh_core.specs.Follows.{event_acts}
+use Rattle.qh_core.specs.Inner.{is_open, with_space, with_streams}
+use Rattle.qh_core.specs.Receiving.{GoesOnWith, IsClosedWith, IsDatagramTaken, IsEventTaken, IsOpenedBy, IsPacketHandled, IsPacketTaken, received}
+use Rattle.qh_core.specs.Receiving.IsDatagramTaken.{dropped, handled, told_again, closed_too, draining, drained}
+use Rattle.qh_core.specs.Receiving.IsPacketHandled.{repeated, empty, faulty, unnoted, taken}
+use Rattle.qh_core.specs.Sending.{NothingIsSent}
+use Rattle.qh_core.specs.Timers.{IsTimedOut, restarted}
+use Rattle.qh_core.specs.Timers.IsTimedOut.{idle, recovery, closed, draining as draining_over, waits, drained as drained_still}
+use Rattle.qh_core.specs.declared.event.ConnectionEvent.{ConnectionEvent}
+use Rattle.qh_core.specs.declared.event.ConnectionEvent.TheVariants.{Datagram, Close}
+use Rattle.qh_core.specs.declared.event.EndpointEvent.{EndpointEvent}
+use Rattle.qh_core.specs.declared.event.Event.{Event}
+use Rattle.qh_core.specs.declared.inner.Inner.{Inner}
+use Rattle.qh_core.specs.declared.state.Close.{Close as CloseReason}
+use Rattle.qh_core.specs.declared.state.State.{State}
+use Rattle.qh_core.specs.declared.state.State.TheVariants.{Closed, Draining, Drained}
 use Rattle.qh_packet.proofs.Packets.{has_packet}
 use Rattle.qh_space.specs.declared.data_space.DataSpace.{DataSpace}
 use Rattle.qh_spec.proofs.Members.{in_left}

@@ -2,8 +2,8 @@
 use Rattle.std.proofs.Common.{◌≡◌, ℕ, ◌≤◌, ◌^◌, Bool, true, List, [], is_some, ap, subst, inl, inr}
 use Rattle.qh_buffers.specs.Ranges.{has}
 use Rattle.qh_conduct.specs.Announced.{AreLive, HasAnnounced}
-use Rattle.qh_conn.specs.Inner.{HasNoHalf, IsFailedBy, IsNewSpace}
-use Rattle.qh_conn.specs.declared.inner.Inner.{Inner}
+use Rattle.qh_core.specs.Inner.{HasNoHalf, IsFailedBy, IsNewSpace}
+use Rattle.qh_core.specs.declared.inner.Inner.{Inner}
 use Rattle.qh_half.specs.Recv.{PlainRecv}
 use Rattle.qh_half.specs.Send.{PlainSend}
 use Rattle.qh_halves.specs.RecvHalves.{recv_half_in}

@@ -6,10 +6,10 @@ use Rattle.qh_base.specs.declared.connection_error.ConnectionError.TheVariants.{
 use Rattle.qh_conduct.proofs.FramesFit.{frame_fits, handed_fits}
 use Rattle.qh_conduct.proofs.FramesSay.{says_ack, says_close, says_count, says_limit, says_reset, says_stop, says_stream, says_stream_limit}
 use Rattle.qh_conduct.specs.Announced.{Announced, HasAnnounced, HasSent, IsKeptFrame, IsOver, IsReadable, SendsAsAnnounced, packet_of}
-use Rattle.qh_conn.specs.Follows.{Follows, HasNumber}
-use Rattle.qh_conn.specs.Inner.{is_open}
-use Rattle.qh_conn.specs.Receiving.{is_close}
-use Rattle.qh_conn.specs.declared.inner.Inner.{Inner}
+use Rattle.qh_core.specs.Follows.{Follows, HasNumber}
+use Rattle.qh_core.specs.Inner.{is_open}
+use Rattle.qh_core.specs.Receiving.{is_close}
+use Rattle.qh_core.specs.declared.inner.Inner.{Inner}
 use Rattle.qh_frame.specs.Range.{IsInRange}
 use Rattle.qh_spec.specs.Datagram.{Packet}
 use Rattle.qh_spec.specs.Lists.{In}

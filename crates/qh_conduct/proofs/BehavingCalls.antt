@@ -15,13 +15,13 @@ use Rattle.qh_conduct.specs.Calls.{IsCall}
 use Rattle.qh_conduct.specs.Calls.IsCall.{same as same_call, opened as opened_call, accepted as accepted_call, takes as takes_call, finishes as finishes_call, resets as resets_call, goes_first as goes_first_call, refused as refused_call, reads as reads_call, stops as stops_call, takes_reset as takes_reset_call, concurrent as concurrent_call, send_window as send_window_call, receive_window as receive_window_call, polls as polls_call}
 use Rattle.qh_conduct.specs.Reached.{HasReached}
 use Rattle.qh_conduct.specs.Sized.{MayWrite, written_by}
-use Rattle.qh_conn.specs.Follows.{Follows, take_acts}
-use Rattle.qh_conn.specs.Inner.{is_open, with_streams}
-use Rattle.qh_conn.specs.Streams.{IsRead, IsReadFault, IsWriteRefused}
-use Rattle.qh_conn.specs.Streams.IsWriteRefused.{closed, wanting, refused}
-use Rattle.qh_conn.specs.declared.fault.TakeFault.{TakeFault}
-use Rattle.qh_conn.specs.declared.fault.TakeFault.TheVariants.{Readable, Read}
-use Rattle.qh_conn.specs.declared.inner.Inner.{Inner}
+use Rattle.qh_core.specs.Follows.{Follows, take_acts}
+use Rattle.qh_core.specs.Inner.{is_open, with_streams}
+use Rattle.qh_core.specs.Streams.{IsRead, IsReadFault, IsWriteRefused}
+use Rattle.qh_core.specs.Streams.IsWriteRefused.{closed, wanting, refused}
+use Rattle.qh_core.specs.declared.fault.TakeFault.{TakeFault}
+use Rattle.qh_core.specs.declared.fault.TakeFault.TheVariants.{Readable, Read}
+use Rattle.qh_core.specs.declared.inner.Inner.{Inner}
 use Rattle.qh_half.specs.declared.fault.ReadFault.{ReadFault}
 use Rattle.qh_half.specs.declared.fault.ReadFault.TheVariants as fault
 use Rattle.qh_half.specs.declared.fault.WriteFault.{WriteFault}
@@ -35,10 +35,10 @@ use Rattle.qh_transcript.specs.Receiving.{piece_acts, read_acts}
 -- ---- acts of a reader
 
 -- they hand over no datagram, and write nothing
-record AreAside (u : List Act) : Type 0 where
-  into : handed_in u ≡ []
-  out : handed_out u ≡ []
-  wrote : (stream : ℕ) → written u stream ≡ []
+pub record AreAside (u : List Act) : Type 0 where
+  pub into : handed_in u ≡ []
+  pub out : handed_out u ≡ []
+  pub wrote : (stream : ℕ) → written u stream ≡ []
 
 piece_aside : (id offset : ℕ) (bytes : List ℕ) → AreAside (piece_acts id offset bytes)
 piece_aside id offset [] = record { into = refl; out = refl; wrote = λ k. refl }
@@ -59,7 +59,7 @@ module _ {S : Type 0} where
   on_those old new s rest e = rest ∙ ap (λ (s : PlainStreams). with_streams old s) e
 
   -- they are those that a call left
-  on_own : (old new : Inner S) (s : PlainStreams) → new ≡ with_streams old s → new ≡ with_streams old new.space.streams
+  pub on_own : (old new : Inner S) (s : PlainStreams) → new ≡ with_streams old s → new ≡ with_streams old new.space.streams
   on_own old new s e = e ∙ ap (λ (s : PlainStreams). with_streams old s) (sym (ap (λ (c : Inner S). c.space.streams) e))
 
   call_reached : (old new : Inner S) (t : List Act) → IsCall old.space.streams new.space.streams → new ≡ with_streams old new.space.streams → HasReached old t → HasReached new t
@@ -115,7 +115,7 @@ module _ {S : Type 0} where
   wrote_behaves id count bytes old new t up free step e =
       called_behaves old new t (Wrote id bytes ∷ []) (takes_call id count bytes step (ap (λ (c : Inner S). c.space.streams) e)) (up, free) (on_own old new _ e) (λ k. append-nil _) refl refl
 
-  same_behaves : (old new : Inner S) (t : List Act) → new ≡ old → Behaves old t → Behaves new t
+  pub same_behaves : (old new : Inner S) (t : List Act) → new ≡ old → Behaves old t → Behaves new t
   same_behaves old new t e = subst (λ (c : Inner S). Behaves c t) (sym e)
 
   pub unwritten_behaves : (id : ℕ) (why : WriteFault) (old new : Inner S) (t : List Act) → IsWriteRefused id why old new → Follows new t → Behaves old t → Behaves new t

@@ -17,19 +17,18 @@ use Rattle.qh_conduct.specs.Announced.{MakesTags}
 use Rattle.qh_conduct.specs.Behaves.{Behaves}
 use Rattle.qh_conduct.specs.Filled.{AreFilled}
 use Rattle.qh_conduct.specs.Reached.{AreNamed}
-use Rattle.qh_conn.specs.Config.{peer_of}
-use Rattle.qh_conn.specs.Event.{IsDrainedTold, IsPolledEvent}
-use Rattle.qh_conn.specs.Follows.{Follows, event_acts, transmit_acts}
-use Rattle.qh_conn.specs.Inner.{IsFailedBy, IsNewSpace, IsSameEnd, is_open}
-use Rattle.qh_conn.specs.Receiving.{IsClosedWith, IsEventTaken, received}
-use Rattle.qh_conn.specs.Sending.{ClosesReadBack, IsDatagramMade, NothingIsSent}
-use Rattle.qh_conn.specs.Timers.{IsTimedOut}
-use Rattle.qh_conn.specs.declared.event.ConnectionEvent.{ConnectionEvent}
-use Rattle.qh_conn.specs.declared.event.ConnectionEvent.TheVariants.{Close, Datagram}
-use Rattle.qh_conn.specs.declared.event.EndpointEvent.{EndpointEvent}
-use Rattle.qh_conn.specs.declared.event.Event.{Event}
-use Rattle.qh_conn.specs.declared.inner.Inner.{Inner}
-use Rattle.qh_conn.specs.declared.state.Close.TheVariants.{Application}
+use Rattle.qh_core.specs.Event.{IsDrainedTold, IsPolledEvent}
+use Rattle.qh_core.specs.Follows.{Follows, event_acts, transmit_acts}
+use Rattle.qh_core.specs.Inner.{IsFailedBy, IsNewSpace, IsSameEnd, is_open}
+use Rattle.qh_core.specs.Receiving.{IsClosedWith, IsEventTaken, received}
+use Rattle.qh_core.specs.Sending.{ClosesReadBack, IsDatagramMade, NothingIsSent}
+use Rattle.qh_core.specs.Timers.{IsTimedOut}
+use Rattle.qh_core.specs.declared.event.ConnectionEvent.{ConnectionEvent}
+use Rattle.qh_core.specs.declared.event.ConnectionEvent.TheVariants.{Close, Datagram}
+use Rattle.qh_core.specs.declared.event.EndpointEvent.{EndpointEvent}
+use Rattle.qh_core.specs.declared.event.Event.{Event}
+use Rattle.qh_core.specs.declared.inner.Inner.{Inner}
+use Rattle.qh_core.specs.declared.state.Close.TheVariants.{Application}
 use Rattle.qh_space.specs.Space.{first_streams}
 use Rattle.qh_spec.specs.Transcript.{Act, handed_out}
 use Rattle.qh_spec.specs.declared.sides.Side.{Side}
@@ -86,9 +85,9 @@ module _ {S : Type 0} where
           side_is = new.of.side_is;
           no_half = new.no_half.recv;
           received = ap (λ (s : PlainStreams). s.recv.received) are;
-          arrived = λ two_way. rw are (first_arrived c.side c.config.limits (peer_of c.config.limits) two_way);
+          arrived = λ two_way. rw are (first_arrived c.side c.config.limits c.config.peer two_way);
         });
-        announced = first_announced c new (λ two_way. rw are (first_count c.side c.config.limits (peer_of c.config.limits) two_way));
+        announced = first_announced c new (λ two_way. rw are (first_count c.side c.config.limits c.config.peer two_way));
         granted = granted.fresh_granted c new;
         sized = sized.fresh_sized c new;
         filled = fresh_filled c;

@@ -5,8 +5,8 @@ use Rattle.qh_buffers.specs.Ranges.{has}
 use Rattle.qh_conduct.proofs.StreamsGoOn.{GoOn, reading_on, sending_on}
 use Rattle.qh_conduct.specs.Announced.{Announced, AreLive, HasComeWith, IsKeptDatagram, IsKeptFrame, IsLimited}
 use Rattle.qh_conduct.specs.Announced.IsKeptFrame.{ping, response, ack, stream, reset, stop, max_data, max_stream_data, max_streams, close}
-use Rattle.qh_conn.specs.Inner.{is_open}
-use Rattle.qh_conn.specs.declared.inner.Inner.{Inner}
+use Rattle.qh_core.specs.Inner.{is_open}
+use Rattle.qh_core.specs.declared.inner.Inner.{Inner}
 use Rattle.qh_halves.specs.RecvHalves.{recv_at}
 use Rattle.qh_spec.specs.Lists.{In}
 use Rattle.qh_spec.specs.QuicFrames.{QuicFrame}

@@ -13,14 +13,14 @@ use Rattle.qh_conduct.proofs.SpaceGoesOn.{made_go, made_rest}
 use Rattle.qh_conduct.proofs.StreamsGoOn.{GoOn, same_go}
 use Rattle.qh_conduct.specs.Announced.{Announced, HasAnnounced, IsKeptDatagram, IsKeptFrame, IsOver, MakesTags}
 use Rattle.qh_conduct.specs.Announced.IsKeptFrame.{close as closes}
-use Rattle.qh_conn.proofs.Handed.{same_in}
-use Rattle.qh_conn.specs.Follows.{transmit_acts}
-use Rattle.qh_conn.specs.Inner.{is_open}
-use Rattle.qh_conn.specs.Sending.{AreFramesMade, ClosesReadBack, IsDatagramMade, close_frame, datagram_of, overhead}
-use Rattle.qh_conn.specs.Sending.AreFramesMade.{packet as packet_made, close as close_made}
-use Rattle.qh_conn.specs.declared.inner.Inner.{Inner}
-use Rattle.qh_conn.specs.declared.state.State.{State}
-use Rattle.qh_conn.specs.declared.state.State.TheVariants.{Closed, Drained}
+use Rattle.qh_core.proofs.Handed.{same_in}
+use Rattle.qh_core.specs.Follows.{transmit_acts}
+use Rattle.qh_core.specs.Inner.{is_open}
+use Rattle.qh_core.specs.Sending.{AreFramesMade, ClosesReadBack, IsDatagramMade, close_frame, datagram_of, overhead}
+use Rattle.qh_core.specs.Sending.AreFramesMade.{packet as packet_made, close as close_made}
+use Rattle.qh_core.specs.declared.inner.Inner.{Inner}
+use Rattle.qh_core.specs.declared.state.State.{State}
+use Rattle.qh_core.specs.declared.state.State.TheVariants.{Closed, Drained}
 use Rattle.qh_frame.specs.FrameBytes.{frame_bytes}
 use Rattle.qh_packet.specs.Packet.{header_bytes}
 use Rattle.qh_spec.proofs.Members.{in_more}

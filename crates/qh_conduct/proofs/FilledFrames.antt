@@ -9,14 +9,14 @@ use Rattle.qh_base.specs.declared.path.Transmit.{Transmit}
 use Rattle.qh_base.specs.declared.time.Moment.{Moment}
 use Rattle.qh_conduct.specs.Announced.{MakesTags}
 use Rattle.qh_conduct.specs.Filled.{AreFilled}
-use Rattle.qh_conn.specs.Follows.{HasSomething, transmit_acts}
-use Rattle.qh_conn.specs.Inner.{IsSameEnd, is_open}
-use Rattle.qh_conn.specs.Sending.{AreFramesMade, ClosesReadBack, IsDatagramMade, close_frame, datagram_of, overhead}
-use Rattle.qh_conn.specs.Sending.AreFramesMade.{packet as packet_made, close as close_made}
-use Rattle.qh_conn.specs.declared.inner.Inner.{Inner}
-use Rattle.qh_conn.specs.declared.state.Close.{Close}
-use Rattle.qh_conn.specs.declared.state.Close.TheVariants.{Application, Connection}
-use Rattle.qh_conn.specs.declared.state.State.{State}
+use Rattle.qh_core.specs.Follows.{HasSomething, transmit_acts}
+use Rattle.qh_core.specs.Inner.{IsSameEnd, is_open}
+use Rattle.qh_core.specs.Sending.{AreFramesMade, ClosesReadBack, IsDatagramMade, close_frame, datagram_of, overhead}
+use Rattle.qh_core.specs.Sending.AreFramesMade.{packet as packet_made, close as close_made}
+use Rattle.qh_core.specs.declared.inner.Inner.{Inner}
+use Rattle.qh_core.specs.declared.state.Close.{Close}
+use Rattle.qh_core.specs.declared.state.Close.TheVariants.{Application, Connection}
+use Rattle.qh_core.specs.declared.state.State.{State}
 use Rattle.qh_frame.proofs.FramesWritten.{ping_put}
 use Rattle.qh_frame.specs.AckWritten.{ack_frame}
 use Rattle.qh_frame.specs.FrameBytes.{frame_bytes, numbers_bytes}

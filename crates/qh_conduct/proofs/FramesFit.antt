@@ -4,15 +4,14 @@ use Rattle.std.proofs.lemmas.Bool.{cases_lt, eqb-true}
 use Rattle.std.proofs.lemmas.Option.{same_Some}
 use Rattle.qh_conduct.specs.Announced.{IsKeptFrame}
 use Rattle.qh_conduct.specs.Announced.IsKeptFrame.{ping, response, ack, stream, reset, stop, max_data, max_stream_data, max_streams, close}
-use Rattle.qh_conn.specs.Config.{peer_of}
-use Rattle.qh_conn.specs.Follows.{Follows, HasSomething, IsWithinLimits}
-use Rattle.qh_conn.specs.Follows.Reaches.{run as by_run}
-use Rattle.qh_conn.specs.Inner.{AreOf}
-use Rattle.qh_conn.specs.Sending.{close_frame}
-use Rattle.qh_conn.specs.declared.config.ConnConfig.{ConnConfig}
-use Rattle.qh_conn.specs.declared.inner.Inner.{Inner}
-use Rattle.qh_conn.specs.declared.state.Close.{Close}
-use Rattle.qh_conn.specs.declared.state.Close.TheVariants.{Application, Connection}
+use Rattle.qh_core.specs.Follows.{Follows, HasSomething, IsWithinLimits}
+use Rattle.qh_core.specs.Follows.Reaches.{run as by_run}
+use Rattle.qh_core.specs.Inner.{AreOf}
+use Rattle.qh_core.specs.Sending.{close_frame}
+use Rattle.qh_core.specs.declared.config.ConnConfig.{ConnConfig}
+use Rattle.qh_core.specs.declared.inner.Inner.{Inner}
+use Rattle.qh_core.specs.declared.state.Close.{Close}
+use Rattle.qh_core.specs.declared.state.Close.TheVariants.{Application, Connection}
 use Rattle.qh_frame.specs.AckWritten.{AreApart, AreBelow, ack_frame, gaps}
 use Rattle.qh_frame.specs.Plain.{plain_of}
 use Rattle.qh_frame.specs.Range.{IsInRange}
@@ -122,13 +121,14 @@ one_of_two true true a b c x y z = x
 one_of_two true false a b c x y z = y
 one_of_two false own a b c x y z = z
 
-first_small : (side : Side) (config : ConnConfig) (s : PlainStreams) (id : ℕ) → AreOf side (peer_of config.limits) s → first_limit s id < 2 ^ 62
+first_small : (side : Side) (config : ConnConfig) (s : PlainStreams) (id : ℕ) → AreOf side config.peer s → first_limit s id < 2 ^ 62
 first_small side config s id of =
-    let peer : s.peer ≡ peer_of config.limits = of.peer_is in
+    let peer : s.peer ≡ config.peer = of.peer_is in
+    let said = of.said in
     let a = ap (λ (p : PeerLimits). p.bidi_remote) peer in
     let b = ap (λ (p : PeerLimits). p.bidi_local) peer in
     let c = ap (λ (p : PeerLimits). p.uni) peer in
-    one_of_two (is_bi id) (is_own s.side id) s.peer.bidi_remote s.peer.bidi_local s.peer.uni (omega (arith, a)) (omega (arith, b)) (omega (arith, c))
+    one_of_two (is_bi id) (is_own s.side id) s.peer.bidi_remote s.peer.bidi_local s.peer.uni (omega (arith, a, said.bidi_remote)) (omega (arith, b, said.bidi_local)) (omega (arith, c, said.uni))
 
 -- ---- a run that was handed out ends below 2^62
 

@@ -8,7 +8,7 @@ use Rattle.qh_conduct.proofs.ConnectionGoesOn.{Goes, frame_on, live_on}
 use Rattle.qh_conduct.proofs.StreamsGoOn.{GoOn, go_on, handed_goes, reading_on, same_go, sending_on}
 use Rattle.qh_conduct.specs.Announced.{AreLive, HasComeWith, IsKeptFrame}
 use Rattle.qh_conduct.specs.Announced.IsKeptFrame.{ping, response, ack, stream, reset, stop, max_data, max_stream_data, max_streams}
-use Rattle.qh_conn.specs.declared.inner.Inner.{Inner}
+use Rattle.qh_core.specs.declared.inner.Inner.{Inner}
 use Rattle.qh_frame.proofs.FramesWritten.{ping_put}
 use Rattle.qh_frame.specs.AckWritten.{ack_frame}
 use Rattle.qh_frame.specs.FrameBytes.{frame_bytes, numbers_bytes}

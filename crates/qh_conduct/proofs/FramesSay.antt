@@ -3,12 +3,12 @@ use Rattle.std.proofs.Common.{◌≡◌, ℕ, ◌+◌, ◌/◌, ◌≤◌, ◌==
 use Rattle.std.proofs.lemmas.Bool.{eqb-true, or_cases}
 use Rattle.qh_conduct.specs.Announced.{HasComeWith, IsKeptFrame, IsLimited, IsReading, IsSending}
 use Rattle.qh_conduct.specs.Announced.IsKeptFrame.{ping, response, ack, stream, reset, stop, max_data, max_stream_data, max_streams, close}
-use Rattle.qh_conn.specs.Inner.{is_open}
-use Rattle.qh_conn.specs.Receiving.{is_close}
-use Rattle.qh_conn.specs.Sending.{close_frame}
-use Rattle.qh_conn.specs.declared.inner.Inner.{Inner}
-use Rattle.qh_conn.specs.declared.state.Close.{Close}
-use Rattle.qh_conn.specs.declared.state.Close.TheVariants.{Application, Connection}
+use Rattle.qh_core.specs.Inner.{is_open}
+use Rattle.qh_core.specs.Receiving.{is_close}
+use Rattle.qh_core.specs.Sending.{close_frame}
+use Rattle.qh_core.specs.declared.inner.Inner.{Inner}
+use Rattle.qh_core.specs.declared.state.Close.{Close}
+use Rattle.qh_core.specs.declared.state.Close.TheVariants.{Application, Connection}
 use Rattle.qh_frame.specs.AckWritten.{ack_frame}
 use Rattle.qh_frame.specs.Plain.{frame, by_dir}
 use Rattle.qh_frame.specs.WrittenForm.{stream_form}

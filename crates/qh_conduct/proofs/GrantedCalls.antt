@@ -13,28 +13,28 @@ use Rattle.qh_conduct.proofs.StreamsReceive.{call_go, limit_at_first}
 use Rattle.qh_conduct.specs.Announced.{IsOver}
 use Rattle.qh_conduct.specs.Calls.{IsCall}
 use Rattle.qh_conduct.specs.Granted.{AreGranted, AreGrantedBy, HasGranted, first_count_in}
-use Rattle.qh_conn.proofs.Ends.{ended_with, goes_on_space}
-use Rattle.qh_conn.specs.Config.{bounded, peer_of}
-use Rattle.qh_conn.specs.Event.{IsDrainedTold, IsPolledEvent}
-use Rattle.qh_conn.specs.Event.IsDrainedTold.{drained as drain_told, none as no_drain_told}
-use Rattle.qh_conn.specs.Event.IsPolledEvent.{stream, lost, none as nothing}
-use Rattle.qh_conn.specs.Inner.{IsFailedBy, IsNewSpace, is_open, with_streams}
-use Rattle.qh_conn.specs.Receiving.{GoesOnWith, IsClosedWith, IsDatagramTaken, IsEventTaken, IsPacketHandled, IsPacketTaken, received}
-use Rattle.qh_conn.specs.Receiving.IsDatagramTaken.{dropped, handled, told_again, closed_too, draining, drained}
-use Rattle.qh_conn.specs.Receiving.IsPacketHandled.{repeated, empty, faulty, unnoted, taken}
-use Rattle.qh_conn.specs.Sending.{AreFramesMade, IsDatagramMade, NothingIsSent}
-use Rattle.qh_conn.specs.Sending.AreFramesMade.{packet as packet_made, close as close_made}
-use Rattle.qh_conn.specs.Timers.{IsTimedOut, restarted}
-use Rattle.qh_conn.specs.Timers.IsTimedOut.{idle, recovery, closed, draining as draining_over, waits, drained as drained_still}
-use Rattle.qh_conn.specs.declared.config.ConnConfig.{ConnConfig}
-use Rattle.qh_conn.specs.declared.event.ConnectionEvent.{ConnectionEvent}
-use Rattle.qh_conn.specs.declared.event.ConnectionEvent.TheVariants.{Datagram, Close}
-use Rattle.qh_conn.specs.declared.event.EndpointEvent.{EndpointEvent}
-use Rattle.qh_conn.specs.declared.event.Event.{Event}
-use Rattle.qh_conn.specs.declared.inner.Inner.{Inner}
-use Rattle.qh_conn.specs.declared.state.Close.{Close as CloseReason}
-use Rattle.qh_conn.specs.declared.state.State.{State}
-use Rattle.qh_conn.specs.declared.state.State.TheVariants.{Closed, Draining, Drained}
+use Rattle.qh_core.proofs.Ends.{ended_with, goes_on_space}
+use Rattle.qh_core.specs.Config.{bounded, peer_of}
+use Rattle.qh_core.specs.Event.{IsDrainedTold, IsPolledEvent}
+use Rattle.qh_core.specs.Event.IsDrainedTold.{drained as drain_told, none as no_drain_told}
+use Rattle.qh_core.specs.Event.IsPolledEvent.{stream, lost, none as nothing}
+use Rattle.qh_core.specs.Inner.{IsFailedBy, IsNewSpace, is_open, with_streams}
+use Rattle.qh_core.specs.Receiving.{GoesOnWith, IsClosedWith, IsDatagramTaken, IsEventTaken, IsPacketHandled, IsPacketTaken, received}
+use Rattle.qh_core.specs.Receiving.IsDatagramTaken.{dropped, handled, told_again, closed_too, draining, drained}
+use Rattle.qh_core.specs.Receiving.IsPacketHandled.{repeated, empty, faulty, unnoted, taken}
+use Rattle.qh_core.specs.Sending.{AreFramesMade, IsDatagramMade, NothingIsSent}
+use Rattle.qh_core.specs.Sending.AreFramesMade.{packet as packet_made, close as close_made}
+use Rattle.qh_core.specs.Timers.{IsTimedOut, restarted}
+use Rattle.qh_core.specs.Timers.IsTimedOut.{idle, recovery, closed, draining as draining_over, waits, drained as drained_still}
+use Rattle.qh_core.specs.declared.config.ConnConfig.{ConnConfig}
+use Rattle.qh_core.specs.declared.event.ConnectionEvent.{ConnectionEvent}
+use Rattle.qh_core.specs.declared.event.ConnectionEvent.TheVariants.{Datagram, Close}
+use Rattle.qh_core.specs.declared.event.EndpointEvent.{EndpointEvent}
+use Rattle.qh_core.specs.declared.event.Event.{Event}
+use Rattle.qh_core.specs.declared.inner.Inner.{Inner}
+use Rattle.qh_core.specs.declared.state.Close.{Close as CloseReason}
+use Rattle.qh_core.specs.declared.state.State.{State}
+use Rattle.qh_core.specs.declared.state.State.TheVariants.{Closed, Draining, Drained}
 use Rattle.qh_half.specs.Recv.{PlainRecv}
 use Rattle.qh_halves.specs.Counts.{has_recv, is_bi, is_own}
 use Rattle.qh_halves.specs.RecvHalves.{recv_half_in}
@@ -59,14 +59,14 @@ granted_on limits old new go p = record {
   window = go.window ∙ p.window;
 }
 
-first_counts : (side : Side) (limits : StreamLimits) (two_way : Bool) → (counts_of (first_streams side limits (peer_of limits)) two_way).announced.value ≡ min (first_count_in (peer_of limits) two_way) (2 ^ 60)
-first_counts side limits true = refl
-first_counts side limits false = refl
+first_counts : (side : Side) (limits : StreamLimits) (peer : PeerLimits) (two_way : Bool) → (counts_of (first_streams side limits peer) two_way).announced.value ≡ min (first_count_in (peer_of limits) two_way) (2 ^ 60)
+first_counts side limits peer true = refl
+first_counts side limits peer false = refl
 
-first_granted : (side : Side) (limits : StreamLimits) (s : PlainStreams) → s ≡ first_streams side limits (peer_of limits) → AreGrantedBy limits s
-first_granted side limits s e = record {
+first_granted : (side : Side) (limits : StreamLimits) (peer : PeerLimits) (s : PlainStreams) → s ≡ first_streams side limits peer → AreGrantedBy limits s
+first_granted side limits peer s e = record {
   shared = let same = ap (λ (s : PlainStreams). s.recv.announced.value) e in omega (arith, same);
-  counts = λ two_way. let same = ap (λ (s : PlainStreams). (counts_of s two_way).announced.value) e ∙ first_counts side limits two_way in omega (arith, same);
+  counts = λ two_way. let same = ap (λ (s : PlainStreams). (counts_of s two_way).announced.value) e ∙ first_counts side limits peer two_way in omega (arith, same);
   streams = λ id half is. let there : recv_half_in [] id ≡ Some half = subst (λ (s : PlainStreams). recv_half_in s.recv.halves id ≡ Some half) e is in absurd (cc);
   window = ap (λ (s : PlainStreams). s.recv.stream_window) e;
 }
@@ -223,7 +223,7 @@ module _ {S : Type 0} where
 
   pub fresh_granted : (c : Inner S) → IsNewSpace c.config c.side c.space → HasGranted c
   unfolding HasGranted
-  fresh_granted c new = inr (first_granted c.side c.config.limits c.space.streams new.streams_are)
+  fresh_granted c new = inr (first_granted c.side c.config.limits c.config.peer c.space.streams new.streams_are)
 
   pub failed_granted : (old new : Inner S) → IsFailedBy old new → HasGranted new
   unfolding HasGranted

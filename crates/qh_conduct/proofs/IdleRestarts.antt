@@ -13,18 +13,18 @@ use Rattle.qh_conduct.proofs.PacketsKept.{only_packet}
 use Rattle.qh_conduct.specs.Announced.{MakesTags}
 use Rattle.qh_conduct.specs.Peers.{ArePeers}
 use Rattle.qh_conduct.specs.Restarting.{AcceptsWhatIsMade, AreSealed, IsCounting, IsSealed}
-use Rattle.qh_conn.proofs.Ends.{goes_on_open}
-use Rattle.qh_conn.proofs.ExpectedNumbers.{expected_of}
-use Rattle.qh_conn.specs.Follows.{Follows, transmit_acts}
-use Rattle.qh_conn.specs.Inner.{IsSameEnd, is_open}
-use Rattle.qh_conn.specs.Receiving.{IsDatagramTaken, IsEventTaken, IsExpectedOf, IsFaulted, IsOpenedBy, IsPacketHandled, received}
-use Rattle.qh_conn.specs.Receiving.IsDatagramTaken.{dropped, handled as handled_one, told_again, closed_too, draining, drained}
-use Rattle.qh_conn.specs.Receiving.IsPacketHandled.{repeated, empty, faulty, unnoted, taken as taken_one}
-use Rattle.qh_conn.specs.Sending.{IsDatagramMade, datagram_of}
-use Rattle.qh_conn.specs.Timers.{restarted}
-use Rattle.qh_conn.specs.declared.event.ConnectionEvent.TheVariants.{Datagram}
-use Rattle.qh_conn.specs.declared.inner.Inner.{Inner}
-use Rattle.qh_conn.specs.declared.state.State.{State}
+use Rattle.qh_core.proofs.Ends.{goes_on_open}
+use Rattle.qh_core.proofs.ExpectedNumbers.{expected_of}
+use Rattle.qh_core.specs.Follows.{Follows, transmit_acts}
+use Rattle.qh_core.specs.Inner.{IsSameEnd, is_open}
+use Rattle.qh_core.specs.Receiving.{IsDatagramTaken, IsEventTaken, IsExpectedOf, IsFaulted, IsOpenedBy, IsPacketHandled, received}
+use Rattle.qh_core.specs.Receiving.IsDatagramTaken.{dropped, handled as handled_one, told_again, closed_too, draining, drained}
+use Rattle.qh_core.specs.Receiving.IsPacketHandled.{repeated, empty, faulty, unnoted, taken as taken_one}
+use Rattle.qh_core.specs.Sending.{IsDatagramMade, datagram_of}
+use Rattle.qh_core.specs.Timers.{restarted}
+use Rattle.qh_core.specs.declared.event.ConnectionEvent.TheVariants.{Datagram}
+use Rattle.qh_core.specs.declared.inner.Inner.{Inner}
+use Rattle.qh_core.specs.declared.state.State.{State}
 use Rattle.qh_packet.proofs.Packets.{only_content, parts_of}
 use Rattle.qh_packet.specs.Packet.{IsOpened, low_bytes, short_of}
 use Rattle.qh_recovery.proofs.PacketNumbers.{expanded, found}

@@ -3,6 +3,7 @@ pub mod AnnouncedFirst
 pub mod AnnouncedMeans
 pub mod BehavingCalls
 pub mod BehavingEnds
+pub mod BehavingMade
 pub mod ConnectionGoesOn
 pub mod DatagramsKept
 pub mod FilledFrames

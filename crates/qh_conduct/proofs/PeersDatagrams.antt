@@ -25,17 +25,18 @@ use Rattle.qh_conduct.specs.Filled.{AreFilled}
 use Rattle.qh_conduct.specs.Peers.{AreLinked, ArePeers}
 use Rattle.qh_conduct.specs.Reached.{AreNamed, HasReached, Reached, IsLostForMemory}
 use Rattle.qh_conduct.specs.Sized.{AreRight, HasSized}
-use Rattle.qh_conn.proofs.Ends.{goes_on_space}
-use Rattle.qh_conn.specs.Follows.{Following, Follows, HasFrame}
-use Rattle.qh_conn.specs.Inner.{is_open}
-use Rattle.qh_conn.specs.Receiving.{AreFramesTaken, GoesOnWith, IsDatagramTaken, IsEventTaken, IsFaulted, IsOpenedBy, IsPacketHandled, is_close, received}
-use Rattle.qh_conn.specs.Receiving.AreFramesTaken.{none as none_taken, more as more_taken, closed as closed_taken, refused as refused_taken}
-use Rattle.qh_conn.specs.Receiving.IsDatagramTaken.{dropped, handled, told_again, closed_too, draining as in_draining, drained as in_drained}
-use Rattle.qh_conn.specs.Receiving.IsPacketHandled.{repeated, empty, faulty, unnoted, taken as in_taken}
-use Rattle.qh_conn.specs.declared.config.ConnConfig.{ConnConfig}
-use Rattle.qh_conn.specs.declared.event.ConnectionEvent.TheVariants.{Datagram}
-use Rattle.qh_conn.specs.declared.inner.Inner.{Inner}
-use Rattle.qh_conn.specs.declared.state.State.{State}
+use Rattle.qh_core.proofs.Ends.{goes_on_space}
+use Rattle.qh_core.specs.Config.{peer_of}
+use Rattle.qh_core.specs.Follows.{Following, Follows, HasFrame}
+use Rattle.qh_core.specs.Inner.{is_open}
+use Rattle.qh_core.specs.Receiving.{AreFramesTaken, GoesOnWith, IsDatagramTaken, IsEventTaken, IsFaulted, IsOpenedBy, IsPacketHandled, is_close, received}
+use Rattle.qh_core.specs.Receiving.AreFramesTaken.{none as none_taken, more as more_taken, closed as closed_taken, refused as refused_taken}
+use Rattle.qh_core.specs.Receiving.IsDatagramTaken.{dropped, handled, told_again, closed_too, draining as in_draining, drained as in_drained}
+use Rattle.qh_core.specs.Receiving.IsPacketHandled.{repeated, empty, faulty, unnoted, taken as in_taken}
+use Rattle.qh_core.specs.declared.config.ConnConfig.{ConnConfig}
+use Rattle.qh_core.specs.declared.event.ConnectionEvent.TheVariants.{Datagram}
+use Rattle.qh_core.specs.declared.inner.Inner.{Inner}
+use Rattle.qh_core.specs.declared.state.State.{State}
 use Rattle.qh_frame.specs.Plain.{plain_of}
 use Rattle.qh_frame.specs.Range.{IsInRange}
 use Rattle.qh_frame.specs.WrittenForm.{stream_form, written_form}
@@ -199,7 +200,9 @@ module _ {S : Type 0} where
     sides = peers.sides ∙ ap other (sym same.side);
     there = peers.there ∙ sym same.local_id;
     back = same.remote_id ∙ peers.back;
-    config = peers.config ∙ sym same.config;
+    known = peers.known ∙ ap (λ (k : ConnConfig). peer_of k.limits) (sym same.config);
+    knows = ap (λ (k : ConnConfig). k.peer) same.config ∙ peers.knows;
+    fits_back = peers.fits_back;
     fits = subst (λ (k : ConnConfig). (k.limits.max_bidi ≤ 2 ^ 60) × (k.limits.max_uni ≤ 2 ^ 60)) (sym same.config) peers.fits;
   }
 

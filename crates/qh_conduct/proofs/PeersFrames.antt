@@ -18,8 +18,8 @@ use Rattle.qh_conduct.specs.Filled.{AreFilled}
 use Rattle.qh_conduct.specs.Peers.{AreLinked, ArePeers}
 use Rattle.qh_conduct.specs.Reached.{CameIn, EndsAt, Reached, Reaches}
 use Rattle.qh_conduct.specs.Sized.{AreRight}
-use Rattle.qh_conn.specs.Follows.{Following, HasFrame}
-use Rattle.qh_conn.specs.declared.inner.Inner.{Inner}
+use Rattle.qh_core.specs.Follows.{Following, HasFrame}
+use Rattle.qh_core.specs.declared.inner.Inner.{Inner}
 use Rattle.qh_frame.specs.AckWritten.{AreApart, ack_frame, gaps}
 use Rattle.qh_frame.specs.Plain.{ack_of, plain_of}
 use Rattle.qh_frame.specs.WrittenForm.{ack_values, or_frame, written_form}

@@ -6,8 +6,8 @@ use Rattle.qh_conduct.proofs.ReachSpaces.{none_is, same_coming}
 use Rattle.qh_conduct.specs.Announced.{Announced, IsKeptFrame, IsLimited, IsReading, IsSending}
 use Rattle.qh_conduct.specs.Announced.IsKeptFrame.{ping, response, ack, stream, reset, stop, max_data, max_stream_data, max_streams, close}
 use Rattle.qh_conduct.specs.Reached.{CameIn}
-use Rattle.qh_conn.specs.Follows.{HasComing, HasFrame, HasNumber}
-use Rattle.qh_conn.specs.declared.inner.Inner.{Inner}
+use Rattle.qh_core.specs.Follows.{HasComing, HasFrame, HasNumber}
+use Rattle.qh_core.specs.declared.inner.Inner.{Inner}
 use Rattle.qh_frame.specs.Plain.{by_dir, frame, plain_of}
 use Rattle.qh_frame.specs.WrittenForm.{stream_form}
 use Rattle.qh_frame.specs.declared.frame.Frame.{Frame}

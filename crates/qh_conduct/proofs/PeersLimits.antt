@@ -8,10 +8,10 @@ use Rattle.qh_conduct.proofs.PeersKept.{Says, plain_is, says_coming}
 use Rattle.qh_conduct.specs.Announced.{Announced}
 use Rattle.qh_conduct.specs.Granted.{AreGranted}
 use Rattle.qh_conduct.specs.Peers.{ArePeers}
-use Rattle.qh_conn.specs.Config.{bounded, peer_of}
-use Rattle.qh_conn.specs.Follows.{Following, HasComing, HasFrame}
-use Rattle.qh_conn.specs.declared.config.ConnConfig.{ConnConfig}
-use Rattle.qh_conn.specs.declared.inner.Inner.{Inner}
+use Rattle.qh_core.specs.Config.{bounded, peer_of}
+use Rattle.qh_core.specs.Follows.{Following, HasComing, HasFrame}
+use Rattle.qh_core.specs.declared.config.ConnConfig.{ConnConfig}
+use Rattle.qh_core.specs.declared.inner.Inner.{Inner}
 use Rattle.qh_frame.specs.Plain.{frame}
 use Rattle.qh_half.specs.Recv.{PlainRecv, new_recv}
 use Rattle.qh_halves.specs.Counts.{has_recv, is_bi, is_own}
@@ -157,12 +157,12 @@ module _ {S : Type 0} (c p : Inner S) (tc tp : List Act) (peers : ArePeers c p) 
   gave : (g : StreamFrame) → In g f.given → Says c (handed_in tc) g
   gave g is = says_coming c tc a (length p.local_id) (handed_in tp) (other p.side) (ap length peers.back) among g (f.gave g is)
 
-  first_of : (limit : PeerLimits → ℕ) (of : ConnConfig → ℕ) → ((k : ConnConfig) → limit (peer_of k.limits) ≡ of k) → limit f.space.streams.peer ≡ of c.config
-  first_of limit of is = ap limit f.of.peer_is ∙ is p.config ∙ ap of peers.config
+  first_of : (limit : PeerLimits → ℕ) → limit f.space.streams.peer ≡ limit (peer_of c.config.limits)
+  first_of limit = ap limit f.of.peer_is ∙ ap limit peers.known
 
   pub all_small : written_in_all tp < 2 ^ 62
   all_small =
-      let first = first_of (λ l. l.max_data) (λ k. bounded k.limits.receive_window) (λ k. refl) in
+      let first = first_of (λ l. l.max_data) in
       let most = greatest_below data_given f.space.streams.peer.max_data (2 ^ 62 - 1) f.given (rw first (bounded_small c.config.limits.receive_window))
       (λ g is. data_small (length p.local_id) (handed_in tp) (other p.side) g (f.gave g is)) in
       let within = f.within.all_bytes in
@@ -171,19 +171,19 @@ module _ {S : Type 0} (c p : Inner S) (tc tp : List Act) (peers : ArePeers c p) 
   module _ (grants : AreGranted c) where
     pub all_within : written_in_all tp ≤ c.space.streams.recv.announced.value
     all_within =
-        let first = first_of (λ l. l.max_data) (λ k. bounded k.limits.receive_window) (λ k. refl) in
+        let first = first_of (λ l. l.max_data) in
         within_by _ _ _ f.within.all_bytes
         (greatest_below data_given f.space.streams.peer.max_data c.space.streams.recv.announced.value f.given (rw first grants.shared) (λ g is. data_below c (handed_in tc) g (gave g is)))
 
     pub opened_within : (two_way : Bool) → (counts_of f.space.streams two_way).opened ≤ (counts_of c.space.streams two_way).announced.value
     opened_within true =
-        let first = first_of (λ l. l.max_bidi) (λ k. k.limits.max_bidi) (λ k. refl) in
+        let first = first_of (λ l. l.max_bidi) in
         within_by _ _ _ (f.within.count true)
         (greatest_below (count_given true) f.space.streams.peer.max_bidi (counts_of c.space.streams true).announced.value f.given
         (rw first (min_fits c.config.limits.max_bidi (2 ^ 60) (counts_of c.space.streams true).announced.value peers.fits.0 (grants.counts true)))
         (λ g is. count_below c (handed_in tc) true g (gave g is)))
     opened_within false =
-        let first = first_of (λ l. l.max_uni) (λ k. k.limits.max_uni) (λ k. refl) in
+        let first = first_of (λ l. l.max_uni) in
         within_by _ _ _ (f.within.count false)
         (greatest_below (count_given false) f.space.streams.peer.max_uni (counts_of c.space.streams false).announced.value f.given
         (rw first (min_fits c.config.limits.max_uni (2 ^ 60) (counts_of c.space.streams false).announced.value peers.fits.1 (grants.counts false)))
@@ -191,8 +191,8 @@ module _ {S : Type 0} (c p : Inner S) (tc tp : List Act) (peers : ArePeers c p) 
 
     first_stream : (id : ℕ) → first_limit f.space.streams id ≡ bounded c.config.limits.stream_window
     first_stream id =
-        first_by (is_bi id) (is_own f.space.streams.side id) _ _ _ (bounded c.config.limits.stream_window) (first_of (λ l. l.bidi_remote) (λ k. bounded k.limits.stream_window) (λ k. refl))
-        (first_of (λ l. l.bidi_local) (λ k. bounded k.limits.stream_window) (λ k. refl)) (first_of (λ l. l.uni) (λ k. bounded k.limits.stream_window) (λ k. refl))
+        first_by (is_bi id) (is_own f.space.streams.side id) _ _ _ (bounded c.config.limits.stream_window) (first_of (λ l. l.bidi_remote))
+        (first_of (λ l. l.bidi_local)) (first_of (λ l. l.uni))
 
     pub stream_within : (id : ℕ) (h : PlainRecv) → recv_or_new c.space.streams id ≡ Some h → length (written tp id) ≤ h.sent_max_stream_data
     stream_within id h is = elim (cases_Bool (was_opened c.space.streams id)) [

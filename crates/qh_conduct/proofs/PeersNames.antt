@@ -8,8 +8,8 @@ use Rattle.qh_conduct.specs.Fitting.{IsStreamKnown, NamesKnown}
 use Rattle.qh_conduct.specs.Granted.{AreGranted}
 use Rattle.qh_conduct.specs.Peers.{ArePeers}
 use Rattle.qh_conduct.specs.Reached.{Names, Reached}
-use Rattle.qh_conn.specs.Follows.{Following}
-use Rattle.qh_conn.specs.declared.inner.Inner.{Inner}
+use Rattle.qh_core.specs.Follows.{Following}
+use Rattle.qh_core.specs.declared.inner.Inner.{Inner}
 use Rattle.qh_halves.specs.Counts.{has_recv, has_send, index_of, is_bi, is_own}
 use Rattle.qh_spec.specs.Link.{other}
 use Rattle.qh_spec.specs.Lists.{In}

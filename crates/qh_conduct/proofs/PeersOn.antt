@@ -2,9 +2,10 @@
 use Rattle.std.proofs.Common.{◌≡◌, ℕ, ◌≤◌, ◌^◌, List, [], ◌++◌, refl, sym, ap, subst, ◌∙◌}
 use Rattle.std.proofs.lemmas.List.{append-nil}
 use Rattle.qh_conduct.specs.Peers.{AreLinked, ArePeers}
-use Rattle.qh_conn.specs.Inner.{IsSameEnd}
-use Rattle.qh_conn.specs.declared.config.ConnConfig.{ConnConfig}
-use Rattle.qh_conn.specs.declared.inner.Inner.{Inner}
+use Rattle.qh_core.specs.Config.{peer_of}
+use Rattle.qh_core.specs.Inner.{IsSameEnd}
+use Rattle.qh_core.specs.declared.config.ConnConfig.{ConnConfig}
+use Rattle.qh_core.specs.declared.inner.Inner.{Inner}
 use Rattle.qh_spec.proofs.Members.{in_left}
 use Rattle.qh_spec.proofs.TranscriptLaws.{handed_in-append, handed_out-append}
 use Rattle.qh_spec.specs.Link.{other}
@@ -26,8 +27,10 @@ module _ {S : Type 0} where
     sides = sym (ap other peers.sides ∙ other_back c.side);
     there = peers.back;
     back = peers.there;
-    config = sym peers.config;
-    fits = subst (λ (k : ConnConfig). FitsCounts k) (sym peers.config) peers.fits;
+    known = peers.knows;
+    knows = peers.known;
+    fits = peers.fits_back;
+    fits_back = peers.fits;
   }
 
   pub same_peers : (c p d q : Inner S) → IsSameEnd c d → IsSameEnd p q → ArePeers c p → ArePeers d q
@@ -35,8 +38,10 @@ module _ {S : Type 0} where
     sides = second.side ∙ peers.sides ∙ ap other (sym first.side);
     there = second.remote_id ∙ peers.there ∙ sym first.local_id;
     back = first.remote_id ∙ peers.back ∙ sym second.local_id;
-    config = second.config ∙ peers.config ∙ sym first.config;
+    known = ap (λ (k : ConnConfig). k.peer) second.config ∙ peers.known ∙ ap (λ (k : ConnConfig). peer_of k.limits) (sym first.config);
+    knows = ap (λ (k : ConnConfig). k.peer) first.config ∙ peers.knows ∙ ap (λ (k : ConnConfig). peer_of k.limits) (sym second.config);
     fits = subst (λ (k : ConnConfig). FitsCounts k) (sym first.config) peers.fits;
+    fits_back = subst (λ (k : ConnConfig). FitsCounts k) (sym second.config) peers.fits_back;
   }
 
 pub linked_back : (tc tp : List Act) → AreLinked tc tp → AreLinked tp tc

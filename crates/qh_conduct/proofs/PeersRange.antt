@@ -2,8 +2,8 @@
 use Rattle.std.proofs.Common.{◌≡◌, ℕ, ◌+◌, ◌-◌, ◌<◌, ◌≤◌, ◌^◌, ◌==◌, Bool, true, false, List, [], ◌∷◌, length, get_or, refl, sym, ap, subst, ◌∙◌, arith, inl, inr}
 use Rattle.qh_conduct.specs.Announced.{AreLive, IsKeptFrame}
 use Rattle.qh_conduct.specs.Announced.IsKeptFrame.{ping, response, ack, stream, reset, stop, max_data, max_stream_data, max_streams, close}
-use Rattle.qh_conn.specs.Inner.{is_open}
-use Rattle.qh_conn.specs.declared.inner.Inner.{Inner}
+use Rattle.qh_core.specs.Inner.{is_open}
+use Rattle.qh_core.specs.declared.inner.Inner.{Inner}
 use Rattle.std.proofs.lemmas.Bool.{both_ways}
 use Rattle.qh_frame.specs.AckWritten.{AreApart, AreBelow, ack_frame, gaps}
 use Rattle.qh_frame.specs.FrameAt.{HasNoFrame}

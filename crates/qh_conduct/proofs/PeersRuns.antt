@@ -5,8 +5,8 @@ use Rattle.qh_conduct.proofs.PeersKept.{plain_is}
 use Rattle.qh_conduct.specs.Filled.{AreFilled}
 use Rattle.qh_conduct.specs.Reached.{CameIn, EndsAt, Reaches}
 use Rattle.qh_conduct.specs.Sized.{AreRight}
-use Rattle.qh_conn.specs.Follows.{Following, HasComing, HasFrame, HasSomething}
-use Rattle.qh_conn.specs.declared.inner.Inner.{Inner}
+use Rattle.qh_core.specs.Follows.{Following, HasComing, HasFrame, HasSomething}
+use Rattle.qh_core.specs.declared.inner.Inner.{Inner}
 use Rattle.qh_frame.specs.Plain.{frame, plain_of}
 use Rattle.qh_spec.specs.Carried.{HasRun}
 use Rattle.qh_spec.specs.Lists.{In}

@@ -12,34 +12,34 @@ use Rattle.qh_conduct.proofs.ReachFrames.{opened_reached}
 use Rattle.qh_conduct.proofs.ReachSpaces.{Came, all_frames}
 use Rattle.qh_conduct.proofs.ReachSteps as step
 use Rattle.qh_conduct.specs.Reached.{AreNamed, AreReached, CameIn, HasNothingYet, HasReached, IsLostForMemory, IsUntouched, Reached}
-use Rattle.qh_conn.proofs.Ends.{ended_with}
-use Rattle.qh_conn.specs.Event.{IsDrainedTold, IsPolledEvent}
-use Rattle.qh_conn.specs.Event.IsDrainedTold.{drained as told_drained, none as not_drained}
-use Rattle.qh_conn.specs.Event.IsPolledEvent.{stream as told_stream, lost as told_lost, none as told_nothing}
-use Rattle.qh_conn.specs.Follows.{HasComing, HasFrame, event_acts}
-use Rattle.qh_conn.specs.Inner.{IsFailedBy, is_open, with_streams}
-use Rattle.qh_conn.specs.Receiving.{GoesOnWith, HasContent, IsClosedWith, IsDatagramTaken, IsEventTaken, IsFaulted, IsOpenedBy, IsPacketHandled, IsPacketTaken, received}
-use Rattle.qh_conn.specs.Receiving.IsDatagramTaken.{dropped, handled, told_again, closed_too, draining as in_draining, drained as in_drained}
-use Rattle.qh_conn.specs.Receiving.IsPacketHandled.{repeated, empty, faulty, unnoted, taken as in_taken}
-use Rattle.qh_conn.specs.Sending.{AreFramesMade, IsDatagramMade, NothingIsSent}
-use Rattle.qh_conn.specs.Sending.AreFramesMade.{packet as packet_made, close as close_made}
-use Rattle.qh_conn.specs.Streams.{IsRead, IsReadFault, IsWriteRefused}
-use Rattle.qh_conn.specs.Streams.IsWriteRefused.{closed as write_closed, wanting as write_wanting, refused as write_refused}
-use Rattle.qh_conn.specs.Timers.{AreLostByAge, IsProbed, IsTimedOut}
-use Rattle.qh_conn.specs.Timers.AreLostByAge.{due as some_lost, not_yet as no_loss}
-use Rattle.qh_conn.specs.Timers.IsProbed.{due as some_probe, not_yet as no_probe}
-use Rattle.qh_conn.specs.Timers.IsTimedOut.{idle, recovery, closed as out_closed, draining as out_draining, waits, drained as out_drained}
-use Rattle.qh_conn.specs.declared.event.ConnectionEvent.{ConnectionEvent}
-use Rattle.qh_conn.specs.declared.event.ConnectionEvent.TheVariants.{Datagram, Close}
-use Rattle.qh_conn.specs.declared.event.EndpointEvent.{EndpointEvent}
-use Rattle.qh_conn.specs.declared.event.Event.{Event}
-use Rattle.qh_conn.specs.declared.fault.TakeFault.{TakeFault}
-use Rattle.qh_conn.specs.declared.fault.TakeFault.TheVariants.{Readable, Read}
-use Rattle.qh_conn.specs.declared.inner.Inner.{Inner}
-use Rattle.qh_conn.specs.declared.state.Close.{Close as CloseReason}
-use Rattle.qh_conn.specs.declared.state.Close.TheVariants.{Application}
-use Rattle.qh_conn.specs.declared.state.State.{State}
-use Rattle.qh_conn.specs.declared.state.State.TheVariants.{Drained}
+use Rattle.qh_core.proofs.Ends.{ended_with}
+use Rattle.qh_core.specs.Event.{IsDrainedTold, IsPolledEvent}
+use Rattle.qh_core.specs.Event.IsDrainedTold.{drained as told_drained, none as not_drained}
+use Rattle.qh_core.specs.Event.IsPolledEvent.{stream as told_stream, lost as told_lost, none as told_nothing}
+use Rattle.qh_core.specs.Follows.{HasComing, HasFrame, event_acts}
+use Rattle.qh_core.specs.Inner.{IsFailedBy, is_open, with_streams}
+use Rattle.qh_core.specs.Receiving.{GoesOnWith, HasContent, IsClosedWith, IsDatagramTaken, IsEventTaken, IsFaulted, IsOpenedBy, IsPacketHandled, IsPacketTaken, received}
+use Rattle.qh_core.specs.Receiving.IsDatagramTaken.{dropped, handled, told_again, closed_too, draining as in_draining, drained as in_drained}
+use Rattle.qh_core.specs.Receiving.IsPacketHandled.{repeated, empty, faulty, unnoted, taken as in_taken}
+use Rattle.qh_core.specs.Sending.{AreFramesMade, IsDatagramMade, NothingIsSent}
+use Rattle.qh_core.specs.Sending.AreFramesMade.{packet as packet_made, close as close_made}
+use Rattle.qh_core.specs.Streams.{IsRead, IsReadFault, IsWriteRefused}
+use Rattle.qh_core.specs.Streams.IsWriteRefused.{closed as write_closed, wanting as write_wanting, refused as write_refused}
+use Rattle.qh_core.specs.Timers.{AreLostByAge, IsProbed, IsTimedOut}
+use Rattle.qh_core.specs.Timers.AreLostByAge.{due as some_lost, not_yet as no_loss}
+use Rattle.qh_core.specs.Timers.IsProbed.{due as some_probe, not_yet as no_probe}
+use Rattle.qh_core.specs.Timers.IsTimedOut.{idle, recovery, closed as out_closed, draining as out_draining, waits, drained as out_drained}
+use Rattle.qh_core.specs.declared.event.ConnectionEvent.{ConnectionEvent}
+use Rattle.qh_core.specs.declared.event.ConnectionEvent.TheVariants.{Datagram, Close}
+use Rattle.qh_core.specs.declared.event.EndpointEvent.{EndpointEvent}
+use Rattle.qh_core.specs.declared.event.Event.{Event}
+use Rattle.qh_core.specs.declared.fault.TakeFault.{TakeFault}
+use Rattle.qh_core.specs.declared.fault.TakeFault.TheVariants.{Readable, Read}
+use Rattle.qh_core.specs.declared.inner.Inner.{Inner}
+use Rattle.qh_core.specs.declared.state.Close.{Close as CloseReason}
+use Rattle.qh_core.specs.declared.state.Close.TheVariants.{Application}
+use Rattle.qh_core.specs.declared.state.State.{State}
+use Rattle.qh_core.specs.declared.state.State.TheVariants.{Drained}
 use Rattle.qh_half.specs.declared.fault.ReadFault.{ReadFault}
 use Rattle.qh_half.specs.declared.fault.WriteFault.{WriteFault}
 use Rattle.qh_half.specs.declared.fault.WriteFault.TheVariants as write_fault

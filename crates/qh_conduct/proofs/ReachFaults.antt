@@ -9,13 +9,13 @@ use Rattle.qh_conduct.proofs.ReachConnections.{has_content}
 use Rattle.qh_conduct.proofs.ReachSpaces.{first_is, frame_came}
 use Rattle.qh_conduct.specs.Fitting.{HasRefused, IsFaultOf, empty as fault_empty, faulty as fault_faulty, refused as fault_refused}
 use Rattle.qh_conduct.specs.Reached.{AreNamed}
-use Rattle.qh_conn.proofs.Ends.{goes_on_space}
-use Rattle.qh_conn.specs.Follows.{HasFrame}
-use Rattle.qh_conn.specs.Receiving.{AreFramesTaken, GoesOnWith, HasContent, IsDatagramTaken, IsFault as HasCode, IsFaulted, IsOpenedBy, IsPacketHandled}
-use Rattle.qh_conn.specs.Receiving.AreFramesTaken.{none as none_taken, more as more_taken, closed as closed_taken, refused as refused_taken}
-use Rattle.qh_conn.specs.Receiving.IsDatagramTaken.{dropped, handled, told_again, closed_too, draining as in_draining, drained as in_drained}
-use Rattle.qh_conn.specs.Receiving.IsPacketHandled.{repeated, empty, faulty, unnoted, taken as in_taken}
-use Rattle.qh_conn.specs.declared.inner.Inner.{Inner}
+use Rattle.qh_core.proofs.Ends.{goes_on_space}
+use Rattle.qh_core.specs.Follows.{HasFrame}
+use Rattle.qh_core.specs.Receiving.{AreFramesTaken, GoesOnWith, HasContent, IsDatagramTaken, IsFault as HasCode, IsFaulted, IsOpenedBy, IsPacketHandled}
+use Rattle.qh_core.specs.Receiving.AreFramesTaken.{none as none_taken, more as more_taken, closed as closed_taken, refused as refused_taken}
+use Rattle.qh_core.specs.Receiving.IsDatagramTaken.{dropped, handled, told_again, closed_too, draining as in_draining, drained as in_drained}
+use Rattle.qh_core.specs.Receiving.IsPacketHandled.{repeated, empty, faulty, unnoted, taken as in_taken}
+use Rattle.qh_core.specs.declared.inner.Inner.{Inner}
 use Rattle.qh_frame.proofs.Named.{type_named}
 use Rattle.qh_frame.specs.Plain.{plain_of}
 use Rattle.qh_frame.specs.TypeOf.{named as frame_named}

@@ -5,9 +5,9 @@ use Rattle.qh_base.specs.declared.connection_error.ConnectionError.{ConnectionEr
 use Rattle.qh_conduct.proofs.ReachFrames.{received}
 use Rattle.qh_conduct.proofs.ReachSteps as step
 use Rattle.qh_conduct.specs.Reached.{AreReached, CameIn}
-use Rattle.qh_conn.specs.Follows.{HasFrame}
-use Rattle.qh_conn.specs.Receiving.{AreFramesTaken}
-use Rattle.qh_conn.specs.Receiving.AreFramesTaken.{none as none_taken, more as more_taken, closed as closed_taken, refused as refused_taken}
+use Rattle.qh_core.specs.Follows.{HasFrame}
+use Rattle.qh_core.specs.Receiving.{AreFramesTaken}
+use Rattle.qh_core.specs.Receiving.AreFramesTaken.{none as none_taken, more as more_taken, closed as closed_taken, refused as refused_taken}
 use Rattle.qh_frame.proofs.WrittenForms.{form_stream}
 use Rattle.qh_frame.specs.FrameAt.{Begins}
 use Rattle.qh_frame.specs.Plain.{plain_of}

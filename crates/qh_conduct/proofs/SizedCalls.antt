@@ -16,29 +16,29 @@ use Rattle.qh_conduct.proofs.TakenOn.{TakenOn, IsWriting, call_view, closed_afte
 use Rattle.qh_conduct.specs.Announced.{IsOver, MakesTags}
 use Rattle.qh_conduct.specs.Calls.{IsCall}
 use Rattle.qh_conduct.specs.Sized.{AreRight, AreTaken, HasReset, HasSized, IsClosedAt, MayWrite, Sized, WereRight, reset_frame, written_by}
-use Rattle.qh_conn.proofs.Acts.{last_or_before, one_datagram}
-use Rattle.qh_conn.proofs.Ends.{ended_with, goes_on_space}
-use Rattle.qh_conn.proofs.Handed.{before_those, never_empty, same_out}
-use Rattle.qh_conn.specs.Event.{IsDrainedTold, IsPolledEvent}
-use Rattle.qh_conn.specs.Event.IsDrainedTold.{drained as drain_told, none as no_drain_told}
-use Rattle.qh_conn.specs.Event.IsPolledEvent.{stream, lost, none as nothing}
-use Rattle.qh_conn.specs.Follows.{HasFrame, event_acts, transmit_acts}
-use Rattle.qh_conn.specs.Inner.{IsFailedBy, IsNewSpace, is_open, with_streams}
-use Rattle.qh_conn.specs.Receiving.{GoesOnWith, IsClosedWith, IsDatagramTaken, IsEventTaken, IsPacketHandled, IsPacketTaken, received}
-use Rattle.qh_conn.specs.Receiving.IsDatagramTaken.{dropped, handled, told_again, closed_too, draining, drained}
-use Rattle.qh_conn.specs.Receiving.IsPacketHandled.{repeated, empty, faulty, unnoted, taken}
-use Rattle.qh_conn.specs.Sending.{AreFramesMade, ClosesReadBack, IsDatagramMade, NothingIsSent, close_frame, datagram_of, overhead}
-use Rattle.qh_conn.specs.Sending.AreFramesMade.{packet as packet_made, close as close_made}
-use Rattle.qh_conn.specs.Timers.{IsTimedOut, restarted}
-use Rattle.qh_conn.specs.Timers.IsTimedOut.{idle, recovery, closed, draining as draining_over, waits, drained as drained_still}
-use Rattle.qh_conn.specs.declared.event.ConnectionEvent.{ConnectionEvent}
-use Rattle.qh_conn.specs.declared.event.ConnectionEvent.TheVariants.{Datagram, Close}
-use Rattle.qh_conn.specs.declared.event.EndpointEvent.{EndpointEvent}
-use Rattle.qh_conn.specs.declared.event.Event.{Event}
-use Rattle.qh_conn.specs.declared.inner.Inner.{Inner}
-use Rattle.qh_conn.specs.declared.state.Close.{Close as CloseReason}
-use Rattle.qh_conn.specs.declared.state.State.{State}
-use Rattle.qh_conn.specs.declared.state.State.TheVariants.{Closed, Draining, Drained}
+use Rattle.qh_core.proofs.Acts.{last_or_before, one_datagram}
+use Rattle.qh_core.proofs.Ends.{ended_with, goes_on_space}
+use Rattle.qh_core.proofs.Handed.{before_those, never_empty, same_out}
+use Rattle.qh_core.specs.Event.{IsDrainedTold, IsPolledEvent}
+use Rattle.qh_core.specs.Event.IsDrainedTold.{drained as drain_told, none as no_drain_told}
+use Rattle.qh_core.specs.Event.IsPolledEvent.{stream, lost, none as nothing}
+use Rattle.qh_core.specs.Follows.{HasFrame, event_acts, transmit_acts}
+use Rattle.qh_core.specs.Inner.{IsFailedBy, IsNewSpace, is_open, with_streams}
+use Rattle.qh_core.specs.Receiving.{GoesOnWith, IsClosedWith, IsDatagramTaken, IsEventTaken, IsPacketHandled, IsPacketTaken, received}
+use Rattle.qh_core.specs.Receiving.IsDatagramTaken.{dropped, handled, told_again, closed_too, draining, drained}
+use Rattle.qh_core.specs.Receiving.IsPacketHandled.{repeated, empty, faulty, unnoted, taken}
+use Rattle.qh_core.specs.Sending.{AreFramesMade, ClosesReadBack, IsDatagramMade, NothingIsSent, close_frame, datagram_of, overhead}
+use Rattle.qh_core.specs.Sending.AreFramesMade.{packet as packet_made, close as close_made}
+use Rattle.qh_core.specs.Timers.{IsTimedOut, restarted}
+use Rattle.qh_core.specs.Timers.IsTimedOut.{idle, recovery, closed, draining as draining_over, waits, drained as drained_still}
+use Rattle.qh_core.specs.declared.event.ConnectionEvent.{ConnectionEvent}
+use Rattle.qh_core.specs.declared.event.ConnectionEvent.TheVariants.{Datagram, Close}
+use Rattle.qh_core.specs.declared.event.EndpointEvent.{EndpointEvent}
+use Rattle.qh_core.specs.declared.event.Event.{Event}
+use Rattle.qh_core.specs.declared.inner.Inner.{Inner}
+use Rattle.qh_core.specs.declared.state.Close.{Close as CloseReason}
+use Rattle.qh_core.specs.declared.state.State.{State}
+use Rattle.qh_core.specs.declared.state.State.TheVariants.{Closed, Draining, Drained}
 use Rattle.qh_frame.specs.FrameBytes.{frame_bytes}
 use Rattle.qh_half.specs.Send.{PlainSend}
 use Rattle.qh_halves.specs.SendHalves.{half_in}

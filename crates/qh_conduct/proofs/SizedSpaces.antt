@@ -12,13 +12,13 @@ use Rattle.qh_conduct.proofs.FramesSay.{Between, ack_kind, close_kind, count_kin
 use Rattle.qh_conduct.proofs.StreamsGoOn.{handed_goes}
 use Rattle.qh_conduct.proofs.TakenOn.{TakenOn, acked_taken_on, closed_after, handed_taken_on, lost_taken_on, received_taken, self_taken, taken_after, taken_on}
 use Rattle.qh_conduct.specs.Sized.{AreTaken, IsClosedAt, reset_frame}
-use Rattle.qh_conn.specs.Receiving.{AreFramesTaken}
-use Rattle.qh_conn.specs.Receiving.AreFramesTaken.{none as none_taken, more as more_taken, closed as closed_by, refused as refused_at}
-use Rattle.qh_conn.specs.Timers.{AreLostByAge, IsProbed}
-use Rattle.qh_conn.specs.Timers.AreLostByAge.{due as age_due, not_yet as age_not_yet}
-use Rattle.qh_conn.specs.Timers.IsProbed.{due as probe_due, not_yet as probe_not_yet}
-use Rattle.qh_conn.specs.Sending.{close_frame}
-use Rattle.qh_conn.specs.declared.state.Close.{Close}
+use Rattle.qh_core.specs.Receiving.{AreFramesTaken}
+use Rattle.qh_core.specs.Receiving.AreFramesTaken.{none as none_taken, more as more_taken, closed as closed_by, refused as refused_at}
+use Rattle.qh_core.specs.Timers.{AreLostByAge, IsProbed}
+use Rattle.qh_core.specs.Timers.AreLostByAge.{due as age_due, not_yet as age_not_yet}
+use Rattle.qh_core.specs.Timers.IsProbed.{due as probe_due, not_yet as probe_not_yet}
+use Rattle.qh_core.specs.Sending.{close_frame}
+use Rattle.qh_core.specs.declared.state.Close.{Close}
 use Rattle.qh_frame.proofs.FramesWritten.{ping_put}
 use Rattle.qh_frame.specs.AckWritten.{ack_frame}
 use Rattle.qh_frame.specs.FrameBytes.{frame_bytes, numbers_bytes}

@@ -4,11 +4,11 @@ use Rattle.std.specs.Prelude.{MatchBool}
 use Rattle.qh_base.specs.declared.connection_error.ConnectionError.{ConnectionError}
 use Rattle.qh_conduct.proofs.StreamsGoOn.{GoOn, acked_goes, go_on, handed_goes, lost_goes, same_go}
 use Rattle.qh_conduct.proofs.StreamsReceive.{received_go}
-use Rattle.qh_conn.specs.Receiving.{AreFramesTaken}
-use Rattle.qh_conn.specs.Receiving.AreFramesTaken.{none as none_taken, more as more_taken, closed as closed_by, refused as refused_at}
-use Rattle.qh_conn.specs.Timers.{AreLostByAge, IsProbed}
-use Rattle.qh_conn.specs.Timers.AreLostByAge.{due as age_due, not_yet as age_not_yet}
-use Rattle.qh_conn.specs.Timers.IsProbed.{due as probe_due, not_yet as probe_not_yet}
+use Rattle.qh_core.specs.Receiving.{AreFramesTaken}
+use Rattle.qh_core.specs.Receiving.AreFramesTaken.{none as none_taken, more as more_taken, closed as closed_by, refused as refused_at}
+use Rattle.qh_core.specs.Timers.{AreLostByAge, IsProbed}
+use Rattle.qh_core.specs.Timers.AreLostByAge.{due as age_due, not_yet as age_not_yet}
+use Rattle.qh_core.specs.Timers.IsProbed.{due as probe_due, not_yet as probe_not_yet}
 use Rattle.qh_frame.specs.declared.frame.Frame.{Frame}
 use Rattle.qh_history.proofs.Carried.{by_frame, by_loss, by_packet, by_probe}
 use Rattle.qh_loss.specs.declared.probe.Probe.{Probe}

@@ -6,7 +6,7 @@ use Rattle.qh_buffers.specs.declared.assembler.Chunk.{Chunk}
 use Rattle.qh_conduct.proofs.StreamsGoOn.{GoOn, go_on, parts_go, recv_closed, recv_go, recv_none, recv_same, recv_step, same_counts_go, same_go, same_limit, send_go, step_or_absent}
 use Rattle.qh_conduct.specs.Calls.{IsCall}
 use Rattle.qh_conduct.specs.Calls.IsCall.{same as same_call, opened as opened_call, accepted as accepted_call, takes as takes_call, finishes as finishes_call, resets as resets_call, goes_first as goes_first_call, refused as refused_call, reads as reads_call, stops as stops_call, takes_reset as takes_reset_call, concurrent as concurrent_call, send_window as send_window_call, receive_window as receive_window_call, polls as polls_call}
-use Rattle.qh_conn.specs.Streams.{IsRead}
+use Rattle.qh_core.specs.Streams.{IsRead}
 use Rattle.qh_half.specs.Recv.{PlainRecv, IsReadAnswer, new_recv}
 use Rattle.qh_half.specs.Recv.IsReadAnswer.{bytes as bytes_read, nothing as nothing_read, end as end_read, reset as reset_read, blocked as none_read, memory as memory_read}
 use Rattle.qh_half.specs.Send.{new_send}

@@ -3,13 +3,13 @@ use Rattle.std.specs.Prelude.{◌≡◌, ◌⊎◌, ℕ, ◌^◌, ◌<◌, ◌�
 use Rattle.std.specs.List.{AllByRecursion}
 use Rattle.qh_base.specs.declared.connection_error.ConnectionError.TheVariants.{Memory}
 use Rattle.qh_buffers.specs.Ranges.{has}
-use Rattle.qh_conn.specs.Follows.{HasFrame, HasNumber}
-use Rattle.qh_conn.specs.Inner.{is_open}
-use Rattle.qh_conn.specs.Receiving.{is_close}
-use Rattle.qh_conn.specs.Sending.{close_frame}
-use Rattle.qh_conn.specs.declared.inner.Inner.{Inner}
-use Rattle.qh_conn.specs.declared.state.Close.{Close}
-use Rattle.qh_conn.specs.declared.state.State.TheVariants.{Drained}
+use Rattle.qh_core.specs.Follows.{HasFrame, HasNumber}
+use Rattle.qh_core.specs.Inner.{is_open}
+use Rattle.qh_core.specs.Receiving.{is_close}
+use Rattle.qh_core.specs.Sending.{close_frame}
+use Rattle.qh_core.specs.declared.inner.Inner.{Inner}
+use Rattle.qh_core.specs.declared.state.Close.{Close}
+use Rattle.qh_core.specs.declared.state.State.TheVariants.{Drained}
 use Rattle.qh_frame.specs.AckWritten.{AreApart, ack_frame}
 use Rattle.qh_frame.specs.Plain.{frame, by_dir}
 use Rattle.qh_frame.specs.Range.{IsInRange}

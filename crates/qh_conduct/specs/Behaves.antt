@@ -5,8 +5,8 @@ use Rattle.qh_conduct.specs.Filled.{AreFilled}
 use Rattle.qh_conduct.specs.Granted.{HasGranted}
 use Rattle.qh_conduct.specs.Reached.{HasReached}
 use Rattle.qh_conduct.specs.Sized.{HasSized}
-use Rattle.qh_conn.specs.Follows.{Follows}
-use Rattle.qh_conn.specs.declared.inner.Inner.{Inner}
+use Rattle.qh_core.specs.Follows.{Follows}
+use Rattle.qh_core.specs.declared.inner.Inner.{Inner}
 use Rattle.qh_spec.specs.Transcript.{Act}
 
 -- The connection follows what was done with it, and so it stands to its peer: what it knows came, what it sends keeps what it

@@ -1,7 +1,7 @@
 -- What the calls on streams do with them (RFC 9000, sections 2 and 3).
 use Rattle.std.specs.Prelude.{◌≡◌, ℕ, ℤ, Bool, List, Option, Result}
 use Rattle.qh_buffers.specs.declared.assembler.Chunk.{Chunk}
-use Rattle.qh_conn.specs.Streams.{IsRead}
+use Rattle.qh_core.specs.Streams.{IsRead}
 use Rattle.qh_half.specs.declared.fault.ReadFault.{ReadFault}
 use Rattle.qh_half.specs.declared.fault.WriteFault.{WriteFault}
 use Rattle.qh_halves.specs.RecvHalves.{IsRecvStep, Stops, TakesReset}

@@ -3,9 +3,9 @@ use Rattle.std.specs.Prelude.{◌≡◌, ℕ, ◌<◌, ◌≤◌, ◌^◌, Bool,
 use Rattle.std.specs.Option.{option_map}
 use Rattle.qh_base.specs.declared.transport_error.TransportError.{TransportError}
 use Rattle.qh_conduct.specs.Reached.{CameIn, EndsAt, Reaches}
-use Rattle.qh_conn.specs.Follows.{HasFrame}
-use Rattle.qh_conn.specs.Receiving.{IsFault, IsOpenedBy}
-use Rattle.qh_conn.specs.declared.inner.Inner.{Inner}
+use Rattle.qh_core.specs.Follows.{HasFrame}
+use Rattle.qh_core.specs.Receiving.{IsFault, IsOpenedBy}
+use Rattle.qh_core.specs.declared.inner.Inner.{Inner}
 use Rattle.qh_frame.specs.Plain.{plain_of}
 use Rattle.qh_frame.specs.TypeOf.{named, type_of}
 use Rattle.qh_frame.specs.WrittenForm.{written_form}

@@ -1,8 +1,8 @@
 -- What an end announced is no less than its first limits, on which its peer counts from the start (RFC 9000, sections 4 and 18.2).
 use Rattle.std.specs.Prelude.{◌≡◌, ◌⊎◌, ℕ, ◌≤◌, ◌^◌, min, Bool, Some, if◌then◌else◌}
 use Rattle.qh_conduct.specs.Announced.{IsOver}
-use Rattle.qh_conn.specs.Config.{bounded, peer_of}
-use Rattle.qh_conn.specs.declared.inner.Inner.{Inner}
+use Rattle.qh_core.specs.Config.{bounded, peer_of}
+use Rattle.qh_core.specs.declared.inner.Inner.{Inner}
 use Rattle.qh_half.specs.Recv.{PlainRecv}
 use Rattle.qh_halves.specs.RecvHalves.{recv_at}
 use Rattle.qh_streams.specs.Streams.{PlainStreams, counts_of}

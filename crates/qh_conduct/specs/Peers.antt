@@ -1,6 +1,7 @@
 -- Two ends of one connection (RFC 9000, sections 4.6 and 5.1).
 use Rattle.std.specs.Prelude.{◌≡◌, ℕ, ◌≤◌, ◌^◌, List}
-use Rattle.qh_conn.specs.declared.inner.Inner.{Inner}
+use Rattle.qh_core.specs.Config.{peer_of}
+use Rattle.qh_core.specs.declared.inner.Inner.{Inner}
 use Rattle.qh_spec.specs.Link.{other}
 use Rattle.qh_spec.specs.Lists.{In}
 use Rattle.qh_spec.specs.Transcript.{Act, handed_in, handed_out}
@@ -11,11 +12,13 @@ pub record AreLinked (tc tp : List Act) : Type 0 where
   pub from : (d : List ℕ) → In d (handed_in tp) → In d (handed_out tc)
 
 module _ {S : Type 0} where
-  -- The two are the ends of one connection: each sends to the other's id, and they began with one config, whose counts of streams
-  -- a limit can be (section 4.6).
+  -- The two are the ends of one connection: each sends to the other's id, and knows the other's first limits, whose counts of streams
+  -- a limit can be (sections 4.6 and 18.2).
   pub record ArePeers (c p : Inner S) : Type 0 where
     pub sides : p.side ≡ other c.side
     pub there : p.remote_id ≡ c.local_id
     pub back : c.remote_id ≡ p.local_id
-    pub config : p.config ≡ c.config
+    pub known : p.config.peer ≡ peer_of c.config.limits
+    pub knows : c.config.peer ≡ peer_of p.config.limits
     pub fits : (c.config.limits.max_bidi ≤ 2 ^ 60) × (c.config.limits.max_uni ≤ 2 ^ 60)
+    pub fits_back : (p.config.limits.max_bidi ≤ 2 ^ 60) × (p.config.limits.max_uni ≤ 2 ^ 60)

@@ -2,9 +2,9 @@
 -- such a stream (RFC 9000, sections 2.1, 4.1 and 4.5).
 use Rattle.std.specs.Prelude.{◌≡◌, ◌⊎◌, ℕ, ◌+◌, ◌<◌, ◌≤◌, ◌==◌, ◌^◌, Bool, true, false, List, [], ◌∷◌, length, Some, if◌then◌else◌}
 use Rattle.qh_base.specs.declared.connection_error.ConnectionError.TheVariants.{Memory}
-use Rattle.qh_conn.specs.Follows.{HasComing}
-use Rattle.qh_conn.specs.Inner.{is_open}
-use Rattle.qh_conn.specs.declared.inner.Inner.{Inner}
+use Rattle.qh_core.specs.Follows.{HasComing}
+use Rattle.qh_core.specs.Inner.{is_open}
+use Rattle.qh_core.specs.declared.inner.Inner.{Inner}
 use Rattle.qh_half.specs.Recv.{PlainRecv, final_size}
 use Rattle.qh_halves.specs.Counts.{is_bi, is_own, index_of}
 use Rattle.qh_halves.specs.RecvHalves.{recv_at}

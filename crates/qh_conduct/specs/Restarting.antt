@@ -1,7 +1,7 @@
 -- Datagrams that restart the idle time of the end that they are for (RFC 9000, sections 10.1 and 17.1 and appendix A.3).
 use Rattle.std.specs.Prelude.{◌≡◌, ℕ, ◌<◌, ◌^◌, Bool, true, List, ◌++◌}
-use Rattle.qh_conn.specs.Follows.{HasNumber}
-use Rattle.qh_conn.specs.declared.inner.Inner.{Inner}
+use Rattle.qh_core.specs.Follows.{HasNumber}
+use Rattle.qh_core.specs.declared.inner.Inner.{Inner}
 use Rattle.qh_packet.specs.Packet.{header_bytes}
 use Rattle.qh_spec.specs.Datagram.{Packet, HasPacket}
 use Rattle.qh_spec.specs.Lists.{In}

@@ -5,8 +5,8 @@ use Rattle.qh_buffers.specs.SendBuffer.{taken_to}
 use Rattle.qh_conduct.specs.Announced.{IsOver}
 use Rattle.qh_conduct.specs.Calls.{IsCall}
 use Rattle.qh_conduct.specs.Calls.IsCall.{takes}
-use Rattle.qh_conn.specs.Follows.{HasFrame}
-use Rattle.qh_conn.specs.declared.inner.Inner.{Inner}
+use Rattle.qh_core.specs.Follows.{HasFrame}
+use Rattle.qh_core.specs.declared.inner.Inner.{Inner}
 use Rattle.qh_frame.specs.Plain.{frame}
 use Rattle.qh_half.specs.Send.{PlainSend, is_reset}
 use Rattle.qh_halves.specs.SendHalves.{send_at, write_fault_at}

@@ -10,20 +10,21 @@ ghost use Rattle.qh_conduct.specs.Calls.{IsCall};
 ghost use Rattle.qh_conduct.specs.Peers.{AreLinked, ArePeers};
 ghost use Rattle.qh_conduct.specs.Reached.{AreNamed};
 ghost use Rattle.qh_conduct.specs.Sized.{MayWrite, written_by};
-ghost use Rattle.qh_conn.specs.Event.{IsDrainedTold, IsPolledEvent};
-ghost use Rattle.qh_conn.specs.Follows.{Follows, event_acts, take_acts, transmit_acts};
-ghost use Rattle.qh_conn.specs.Inner.{IsFailedBy, IsNewSpace, IsSameEnd, is_open, with_streams};
-ghost use Rattle.qh_conn.specs.Receiving.{IsClosedWith, IsEventTaken, received};
-ghost use Rattle.qh_conn.specs.Sending.{ClosesReadBack, IsDatagramMade, NothingIsSent};
-ghost use Rattle.qh_conn.specs.Streams.{IsReadFault, IsWriteRefused, IsRead};
-ghost use Rattle.qh_conn.specs.Timers.{IsTimedOut};
-ghost use Rattle.qh_conn.specs.declared.event.ConnectionEvent.{ConnectionEvent as AnEvent};
-ghost use Rattle.qh_conn.specs.declared.event.ConnectionEvent.TheVariants.{Datagram as ADatagram};
-ghost use Rattle.qh_conn.specs.declared.event.EndpointEvent.{EndpointEvent as AnEndpointEvent};
-ghost use Rattle.qh_conn.specs.declared.event.Event.{Event as ATold};
-ghost use Rattle.qh_conn.specs.declared.fault.TakeFault.{TakeFault as ATakeFault};
-ghost use Rattle.qh_conn.specs.declared.inner.Inner.{Inner as AnInner};
-ghost use Rattle.qh_conn.specs.declared.state.Close.TheVariants.{Application};
+ghost use Rattle.qh_core.specs.Event.{IsDrainedTold, IsPolledEvent};
+ghost use Rattle.qh_core.specs.Follows.{Follows, event_acts, take_acts, transmit_acts};
+ghost use Rattle.qh_core.specs.Inner.{IsFailedBy, IsNewSpace, IsSameEnd, is_open, with_streams};
+ghost use Rattle.qh_core.specs.Made.{AcceptsTags, MakesTagsOf, AreMade};
+ghost use Rattle.qh_core.specs.Receiving.{IsClosedWith, IsEventTaken, received};
+ghost use Rattle.qh_core.specs.Sending.{ClosesReadBack, IsDatagramMade, NothingIsSent};
+ghost use Rattle.qh_core.specs.Streams.{IsReadFault, IsWriteRefused, IsRead};
+ghost use Rattle.qh_core.specs.Timers.{IsTimedOut};
+ghost use Rattle.qh_core.specs.declared.event.ConnectionEvent.{ConnectionEvent as AnEvent};
+ghost use Rattle.qh_core.specs.declared.event.ConnectionEvent.TheVariants.{Datagram as ADatagram};
+ghost use Rattle.qh_core.specs.declared.event.EndpointEvent.{EndpointEvent as AnEndpointEvent};
+ghost use Rattle.qh_core.specs.declared.event.Event.{Event as ATold};
+ghost use Rattle.qh_core.specs.declared.fault.TakeFault.{TakeFault as ATakeFault};
+ghost use Rattle.qh_core.specs.declared.inner.Inner.{Inner as AnInner};
+ghost use Rattle.qh_core.specs.declared.state.Close.TheVariants.{Application};
 ghost use Rattle.qh_half.specs.declared.fault.WriteFault.{WriteFault};
 ghost use Rattle.qh_halves.specs.SendHalves.{Finishes, IsResetWith, IsStep, Takes, write_fault_at};
 ghost use Rattle.qh_spec.specs.Lists.{In};
@@ -82,3 +83,9 @@ pub fn behaves<S>()
     fills::<S>();
     peers::<S>();
 }
+
+/// So it goes on over whatever calls are made of an end whose session's tags are tags.
+pub fn behaves_on<S>()
+    ensures { (accepts : AcceptsTags S) (sealed : MakesTagsOf S) (old new : AnInner S) (acts t : List Act) → AreNamed (accepts old.session) → MakesTags (sealed old.session)
+        → AreMade accepts sealed old new acts → Behaves old t → Behaves new (t ++ acts) }
+{}

@@ -2,8 +2,8 @@ ghost use Rattle.std.specs.Prelude.{ℕ, List};
 ghost use Rattle.qh_base.specs.declared.path.Transmit.{Transmit as ATransmit};
 ghost use Rattle.qh_base.specs.declared.time.Moment.{Moment as AMoment};
 ghost use Rattle.qh_conduct.specs.Calls.{ToldTheSame};
-ghost use Rattle.qh_conn.specs.Sending.{IsDatagramMade, NothingIsSent};
-ghost use Rattle.qh_conn.specs.declared.inner.Inner.{Inner as AnInner};
+ghost use Rattle.qh_core.specs.Sending.{IsDatagramMade, NothingIsSent};
+ghost use Rattle.qh_core.specs.declared.inner.Inner.{Inner as AnInner};
 ghost use Rattle.qh_spec.specs.declared.sides.Side.{Side as ASide};
 ghost use Rattle.qh_spec.specs.declared.sides.Space.{Space as ASpace};
 

@@ -1,8 +1,8 @@
 -- What a pair means, by the laws of its two ends and the bridge between them.
 use Rattle.std.proofs.Common.{◌≡◌, inl, inr, ℕ, ◌*◌, Bool, false, List, length, Option, Some, None, refl, sym, subst}
 use Rattle.std.specs.Prelude.{not, slice_get}
-use Rattle.qh_conn.specs.Follows.{Follows}
-use Rattle.qh_conn.specs.declared.config.ConnConfig.{ConnConfig}
+use Rattle.qh_core.specs.Follows.{Follows}
+use Rattle.qh_core.specs.declared.config.ConnConfig.{ConnConfig}
 use Rattle.qh_roles.specs.Streams.{IsUntouched}
 use Rattle.qh_spec.specs.declared.link.Event.{Event}
 use Rattle.qh_spec.specs.declared.sides.Side.{Side}

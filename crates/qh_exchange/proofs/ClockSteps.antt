@@ -5,10 +5,10 @@ use Rattle.qh_base.specs.declared.connection_error.ConnectionError.{ConnectionEr
 use Rattle.qh_base.specs.declared.connection_error.ConnectionError.TheVariants as lost
 use Rattle.qh_base.specs.declared.time.Moment.{Moment}
 use Rattle.qh_base.specs.declared.time.Span.{Span}
-use Rattle.qh_conn.specs.Inner.{with_streams}
-use Rattle.qh_conn.specs.Timers.{IsUndisturbed}
-use Rattle.qh_conn.specs.declared.config.ConnConfig.{ConnConfig}
-use Rattle.qh_conn.specs.declared.idle.IdleTimer.{IdleTimer}
+use Rattle.qh_core.specs.Inner.{with_streams}
+use Rattle.qh_core.specs.Timers.{IsUndisturbed}
+use Rattle.qh_core.specs.declared.config.ConnConfig.{ConnConfig}
+use Rattle.qh_core.specs.declared.idle.IdleTimer.{IdleTimer}
 use Rattle.qh_link.specs.Link.{fault_events, is_failed}
 use Rattle.qh_link.specs.declared.link.LinkFault.{LinkFault}
 use Rattle.qh_link.specs.declared.link.LinkFault.TheVariants as fault

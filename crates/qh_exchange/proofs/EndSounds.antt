@@ -5,13 +5,13 @@ use Rattle.qh_base.specs.declared.time.Moment.{Moment}
 use Rattle.qh_conduct.proofs.PeersOn.{same_peers}
 use Rattle.qh_conduct.specs.Behaves.{Behaves}
 use Rattle.qh_conduct.specs.Restarting.{IsCounting, IsSealed}
-use Rattle.qh_conn.proofs.Ends.{ended_with}
-use Rattle.qh_conn.specs.Inner.{IsSameEnd, is_open}
-use Rattle.qh_conn.specs.Receiving.{GoesOnWith, IsDatagramTaken, IsPacketHandled}
-use Rattle.qh_conn.specs.Receiving.IsDatagramTaken.{dropped, handled, told_again, closed_too, draining, drained}
-use Rattle.qh_conn.specs.Receiving.IsPacketHandled.{repeated, empty, faulty, unnoted, taken}
-use Rattle.qh_conn.specs.Timers.{IsTimedOut, RunsOn}
-use Rattle.qh_conn.specs.Timers.IsTimedOut.{idle, recovery, closed, draining as drained_then, waits, drained as was_drained}
+use Rattle.qh_core.proofs.Ends.{ended_with}
+use Rattle.qh_core.specs.Inner.{IsSameEnd, is_open}
+use Rattle.qh_core.specs.Receiving.{GoesOnWith, IsDatagramTaken, IsPacketHandled}
+use Rattle.qh_core.specs.Receiving.IsDatagramTaken.{dropped, handled, told_again, closed_too, draining, drained}
+use Rattle.qh_core.specs.Receiving.IsPacketHandled.{repeated, empty, faulty, unnoted, taken}
+use Rattle.qh_core.specs.Timers.{IsTimedOut, RunsOn}
+use Rattle.qh_core.specs.Timers.IsTimedOut.{idle, recovery, closed, draining as drained_then, waits, drained as was_drained}
 use Rattle.qh_packet.specs.Session.{PlainKeys}
 use Rattle.qh_spec.specs.Link.{given_to, other, sent_by}
 use Rattle.qh_spec.specs.Lists.{In}

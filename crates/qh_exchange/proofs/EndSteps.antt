@@ -3,10 +3,10 @@ use Rattle.std.proofs.Common.{◌≡◌, ◌⊎◌, inl, inr, Bool, true, false,
 use Rattle.std.specs.Prelude.{◌||◌, length}
 use Rattle.qh_base.specs.declared.time.Moment.{Moment}
 use Rattle.qh_conduct.specs.Behaves.{Behaves}
-use Rattle.qh_conn.specs.Inner.{IsSameEnd, is_open}
-use Rattle.qh_conn.specs.Timers.{IsUndisturbed, RunsOn}
-use Rattle.qh_conn.specs.declared.config.ConnConfig.{ConnConfig}
-use Rattle.qh_conn.specs.declared.idle.IdleTimer.{IdleTimer}
+use Rattle.qh_core.specs.Inner.{IsSameEnd, is_open}
+use Rattle.qh_core.specs.Timers.{IsUndisturbed, RunsOn}
+use Rattle.qh_core.specs.declared.config.ConnConfig.{ConnConfig}
+use Rattle.qh_core.specs.declared.idle.IdleTimer.{IdleTimer}
 use Rattle.qh_link.specs.Link.{fault_events}
 use Rattle.qh_link.specs.declared.link.LinkFault.{LinkFault}
 use Rattle.qh_roles.proofs.Stirred.{counts_after, counts_same}

@@ -6,11 +6,11 @@ use Rattle.qh_base.specs.declared.connection_error.ConnectionError.TheVariants a
 use Rattle.qh_base.specs.declared.time.Moment.{Moment}
 use Rattle.qh_base.specs.declared.time.Span.{Span}
 use Rattle.qh_conduct.specs.Behaves.{Behaves}
-use Rattle.qh_conn.specs.Inner.{HaveSameCounts, IsNewSpace, IsSameEnd, is_open}
-use Rattle.qh_conn.specs.Timers.{IsIdleDue, IsTimedOut, three_probes}
-use Rattle.qh_conn.specs.Timers.IsTimedOut.{idle, recovery, closed, draining, waits, drained}
-use Rattle.qh_conn.specs.declared.config.ConnConfig.{ConnConfig}
-use Rattle.qh_conn.specs.declared.idle.IdleTimer.{IdleTimer}
+use Rattle.qh_core.specs.Inner.{HaveSameCounts, IsNewSpace, IsSameEnd, is_open}
+use Rattle.qh_core.specs.Timers.{IsIdleDue, IsTimedOut, three_probes}
+use Rattle.qh_core.specs.Timers.IsTimedOut.{idle, recovery, closed, draining, waits, drained}
+use Rattle.qh_core.specs.declared.config.ConnConfig.{ConnConfig}
+use Rattle.qh_core.specs.declared.idle.IdleTimer.{IdleTimer}
 use Rattle.qh_packet.specs.Session.{PlainKeys}
 use Rattle.qh_roles.proofs.Stirred.{counts_after}
 use Rattle.qh_spec.specs.declared.link.Event.{Event}

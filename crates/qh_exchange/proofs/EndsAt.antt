@@ -4,8 +4,8 @@ use Rattle.std.specs.Prelude.{is_some, length}
 use Rattle.qh_base.specs.declared.connection_error.ConnectionError.TheVariants as lost
 use Rattle.qh_base.specs.declared.time.Moment.{Moment}
 use Rattle.qh_conduct.specs.Behaves.{Behaves}
-use Rattle.qh_conn.specs.Inner.{with_streams}
-use Rattle.qh_conn.specs.declared.config.ConnConfig.{ConnConfig}
+use Rattle.qh_core.specs.Inner.{with_streams}
+use Rattle.qh_core.specs.declared.config.ConnConfig.{ConnConfig}
 use Rattle.qh_roles.specs.Client.{PlainClient}
 use Rattle.qh_roles.specs.Server.{PlainServer}
 use Rattle.qh_roles.specs.Streams.{AreCalls}

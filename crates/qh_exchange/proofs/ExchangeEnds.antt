@@ -3,7 +3,7 @@ use Rattle.std.proofs.Common.{◌≡◌, ◌≢◌, ℕ, zero, suc, ◌<◌, Lis
 use Rattle.std.specs.Prelude.{IfErr, IfOk, Result, filter, is_some, map, slice_get}
 use Rattle.std.proofs.lemmas.List.{append_cancel_left}
 use Rattle.qh_base.specs.declared.time.Span.{Span}
-use Rattle.qh_conn.specs.declared.config.ConnConfig.{ConnConfig}
+use Rattle.qh_core.specs.declared.config.ConnConfig.{ConnConfig}
 use Rattle.qh_roles.specs.Client.{held}
 use Rattle.qh_spec.specs.declared.link.Event.{Event}
 use Rattle.qh_spec.specs.Headline.{ServedOnce, IsRecordedAnswer, AnsweredOnce}
@@ -14,12 +14,13 @@ use Rattle.qh_spec.proofs.HeadlineLaws.{served_nothing}
 use Rattle.qh_exchange.specs.declared.ends.Ids.{Ids}
 use Rattle.qh_exchange.specs.declared.error.ExchangeError.{ExchangeError}
 use Rattle.qh_exchange.specs.declared.error.ExchangeError.TheVariants as error
-use Rattle.qh_exchange.specs.Exchange.{EndsAs, IfInvalid, IfOutOfRounds, IfProtocol, IfTimedOut}
+use Rattle.qh_exchange.specs.Exchange.{EndsAs, IfInvalid, IfLink, IfOutOfRounds, IfProtocol, IfTimedOut}
 use Rattle.qh_exchange.specs.Full.{AreFullTurns}
 use Rattle.qh_exchange.specs.Pair.{PairState, Running, WentOn, GoesOn, Means, KeepWithin}
 use Rattle.qh_exchange.specs.Rounds.{IsRoundsError, IsRunOut, RoundsMade}
 use Rattle.qh_exchange.specs.Turn.{IsProtocolLoss, RanOut, WasIdle, WasLost, WasMade}
 use Rattle.qh_exchange.proofs.AskedLists.{no_such}
+use Rattle.qh_exchange.proofs.Faults.{fault_again}
 use Rattle.qh_exchange.proofs.Rounds.{idle_of}
 
 -- where a pair stands that went on from where nothing had happened
@@ -204,6 +205,11 @@ pub invalid_by : {U : Type 0} (made : Result (Unit {0}) ExchangeError) (result :
 invalid_by {U} made result P ends rounds =
     ends_by made result (λ (z : Result U ExchangeError). IfInvalid z P) ends
     (λ e is. not_invalid U e P (subst (λ (z : Result (Unit {0}) ExchangeError). IfErr z IsRoundsError) is rounds)) (λ u is. tt) (λ x u is ok. tt)
+
+pub fault_by : {U : Type 0} (made : Result (Unit {0}) ExchangeError) (result : Result U ExchangeError) (P : Type 0) → EndsAs made result → IfLink made P → IfLink result P
+fault_by {U} made result P ends fault =
+    ends_by made result (λ (z : Result U ExchangeError). IfLink z P) ends
+    (λ e is. fault_again (Unit {0}) U e P P (λ z. z) (subst (λ (z : Result (Unit {0}) ExchangeError). IfLink z P) is fault)) (λ u is. tt) (λ x u is ok. tt)
 
 pub idle_by : {U : Type 0} (made : Result (Unit {0}) ExchangeError) (result : Result U ExchangeError) (p : PairState) (config : ConnConfig) (m k : List ℕ) → EndsAs made result → p.config ≡ config
     → IfTimedOut made (WasIdle p.config.idle m k) → IfTimedOut result (WasIdle config.idle m k)

@@ -4,7 +4,7 @@ use Rattle.std.specs.Prelude.{All, IfErr, Result, not}
 use Rattle.std.proofs.lemmas.List.{append_cancel_left}
 use Rattle.std.proofs.lemmas.List.Elements.{All-head, All-tail}
 use Rattle.qh_base.specs.declared.time.Span.{Span}
-use Rattle.qh_conn.specs.declared.config.ConnConfig.{ConnConfig}
+use Rattle.qh_core.specs.declared.config.ConnConfig.{ConnConfig}
 use Rattle.qh_spec.specs.Honest.{IsHonest}
 use Rattle.qh_spec.specs.Link.{moments_of, told}
 use Rattle.qh_spec.specs.Lists.{In}

@@ -2,7 +2,7 @@
 use Rattle.std.proofs.Common.{◌≡◌, inl, inr, Bool, true, false, List, [], ◌∷◌, ◌++◌, ℕ, Option, Some, None, Ok, Err, refl, sym, ◌∙◌, ap, subst, append_assoc, append-nil}
 use Rattle.std.specs.Prelude.{IfOk, Result, is_some, length}
 use Rattle.qh_base.specs.declared.connection_error.ConnectionError.{ConnectionError}
-use Rattle.qh_conn.specs.Inner.{is_open}
+use Rattle.qh_core.specs.Inner.{is_open}
 use Rattle.qh_roles.specs.Client.{PlainClient}
 use Rattle.qh_roles.specs.Server.{PlainServer}
 use Rattle.qh_spec.specs.declared.link.Event.{Event}

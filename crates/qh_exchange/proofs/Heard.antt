@@ -2,7 +2,7 @@
 use Rattle.std.proofs.Common.{◌≡◌, ◌⊎◌, inl, inr, ◌≤◌, List, [], ◌∷◌, ◌++◌, ℕ, refl, sym, ◌∙◌, ap, subst, append_assoc, arith}
 use Rattle.qh_base.specs.declared.time.Moment.{Moment}
 use Rattle.qh_conduct.specs.Restarting.{IsCounting}
-use Rattle.qh_conn.specs.Timers.{RunsOn}
+use Rattle.qh_core.specs.Timers.{RunsOn}
 use Rattle.qh_spec.specs.Honest.{IsHonest}
 use Rattle.qh_spec.specs.Link.{given_to, moments_of, other, sent_by}
 use Rattle.qh_spec.specs.Lists.{In}

@@ -2,6 +2,7 @@ pub mod AskedLists
 pub mod Bridged
 pub mod ClockSteps
 pub mod EndCounts
+pub mod EndPolls
 pub mod EndSounds
 pub mod EndSteps
 pub mod EndTicks
@@ -9,6 +10,7 @@ pub mod Endings
 pub mod EndsAt
 pub mod ExchangeEnds
 pub mod Fairness
+pub mod Faults
 pub mod FullRounds
 pub mod FullTurns
 pub mod Heard

@@ -3,7 +3,7 @@ use Rattle.std.proofs.Common.{◌≡◌, inr, Bool, true, List, [], ◌++◌, �
 use Rattle.std.specs.Prelude.{MatchOption, is_some}
 use Rattle.qh_base.specs.declared.connection_error.ConnectionError.{ConnectionError}
 use Rattle.qh_base.specs.declared.time.Moment.{Moment}
-use Rattle.qh_conn.specs.declared.config.ConnConfig.{ConnConfig}
+use Rattle.qh_core.specs.declared.config.ConnConfig.{ConnConfig}
 use Rattle.qh_spec.specs.Record.{PlainEntry}
 use Rattle.qh_spec.specs.declared.link.Event.{Event}
 use Rattle.qh_spec.specs.declared.sides.Side.{Side}
@@ -49,8 +49,9 @@ step_client w now p c t u r K counted some st = record {
   };
   sound = λ whole events entries run honest by s. record {
     fits = s.fits;
+    knows = s.knows;
     lengths = s.lengths;
-    client = keeps Client p.ids p.config (id_length p) now p.client_end c p.server_end events st.more run.client.acts run.server.acts some honest by s.fits s.lengths.1
+    client = keeps Client p.ids p.config (id_length p) now p.client_end c p.server_end events st.more run.client.acts run.server.acts some honest by s.knows s.fits s.lengths.1
         st.silent run.client.at run.server.at (subst (λ (z : Bool). IsEndUndisturbed z now p.client_end c) whole st.undisturbed)
         (subst (λ (z : Bool). KeepsSound z now Client p.client_end c st.more) whole st.sound) s.client s.server;
     server = waits Server p.ids p.config p.server_end events st.more st.silent s.server;
@@ -89,9 +90,10 @@ step_server w now p c t u r K counted some st = record {
   };
   sound = λ whole events entries run honest by s. record {
     fits = s.fits;
+    knows = s.knows;
     lengths = s.lengths;
     client = waits Client p.ids p.config p.client_end events st.more st.silent s.client;
-    server = keeps Server p.ids p.config (id_length p) now p.server_end c p.client_end events st.more run.server.acts run.client.acts some honest by s.fits s.lengths.1
+    server = keeps Server p.ids p.config (id_length p) now p.server_end c p.client_end events st.more run.server.acts run.client.acts some honest by s.knows s.fits s.lengths.1
         st.silent run.server.at run.client.at (subst (λ (z : Bool). IsEndUndisturbed z now p.server_end c) whole st.undisturbed)
         (subst (λ (z : Bool). KeepsSound z now Server p.server_end c st.more) whole st.sound) s.server s.client;
   };
@@ -118,6 +120,7 @@ still_opens_client p now c counted none new names =
       counted = record { client = count; server = counted.server };
       sound = λ events entries run s. record {
         fits = s.fits;
+        knows = s.knows;
         lengths = s.lengths;
         client = opens Client p.ids p.config (id_length p) now p.client_end c events run.client.acts none new names run.client.at;
         server = s.server;
@@ -143,6 +146,7 @@ still_opens_server p now c counted none new names =
       counted = record { client = counted.client; server = count };
       sound = λ events entries run s. record {
         fits = s.fits;
+        knows = s.knows;
         lengths = s.lengths;
         client = s.client;
         server = opens Server p.ids p.config (id_length p) now p.server_end c events run.server.acts none new names run.server.at;
@@ -226,6 +230,7 @@ step_ticks now p c d client server t r counted sc ss tc ts fc fs =
     let well = both_well client server e in
     record {
       fits = s.fits;
+      knows = s.knows;
       lengths = s.lengths;
       client = subst (λ (z : Option ConnectionError). MatchOption z (IsSoundAt Client p.ids p.config c events) (λ e. IsLostFairly now e p.client_end)) well.0
           (fc p.ids p.config events s.client);

@@ -77,6 +77,7 @@ sound_first p config events none_c none_s is fits same key =
     let first = fits.ids.first.1 in
     record {
       fits = rw is (omega (arith, bidi), omega (arith, uni));
+      knows = rw is refl;
       lengths = (same, omega (arith, key, first));
       client = subst (λ (z : Option End). IsSoundAt Client p.ids p.config z events) (sym none_c) tt;
       server = subst (λ (z : Option End). IsSoundAt Server p.ids p.config z events) (sym none_s) tt;
@@ -91,7 +92,7 @@ pub asked_running : (p : PairState) (c : PlainClient) (events : List Event) (ent
 unfolding Running
 asked_running p c events entries none asking next run = record {
   running = asks_first (not p.is_over) p c events entries none asking next run.running;
-  sound = λ e honest. let s = run.sound e honest in record { fits = s.fits; lengths = s.lengths; client = s.client; server = s.server };
+  sound = λ e honest. let s = run.sound e honest in record { fits = s.fits; knows = s.knows; lengths = s.lengths; client = s.client; server = s.server };
 }
 
 -- no more answers are held than there are places for them

@@ -1,5 +1,6 @@
 -- The steps of the roles of a pair: the client asks, and the server serves.
 use Rattle.std.proofs.Common.{◌≡◌, inl, inr, true, List, [], ◌++◌, ℕ, Option, Some, None, refl, sym, ◌∙◌, ap, subst, append-nil}
+use Rattle.qh_roles.proofs.Going.{went_nowhere}
 use Rattle.qh_roles.specs.Client.{Asking}
 use Rattle.qh_roles.specs.Server.{ServerStep, Serving}
 use Rattle.qh_roles.specs.Streams.{Acted}
@@ -38,13 +39,14 @@ client_asks p q counted going polled is =
       running = λ events entries run.
           let stands : Stands Client (id_length p) p.config (Some b) run.client.acts
           = subst (λ (z : Option End). Stands Client (id_length p) p.config z run.client.acts) polled.before_is run.client.at.stands in
-          let did : Acted (Asking q.client) d run.client.acts = polled.asks run.client.acts stands.1 (inr opened_before) run.client.asking in
+          let t = run.client.acts in
+          let did : Acted b t (Asking q.client) d t = polled.asks b t t (went_nowhere b t stands.1) (inr opened_before) run.client.asking in
           record {
             client = record {
               acts = run.client.acts ++ did.acts;
               at = at_acted Client (id_length p) p.config p.client_end q.client_end events run.client.acts did.acts run.client.at did.calls
                   (subst (λ (z : Option End). Stands Client (id_length p) p.config z (run.client.acts ++ did.acts)) (sym polled.after_is)
-                  (same_end Client (id_length p) p.config b d polled.rest stands.0, did.follows));
+                  (same_end Client (id_length p) p.config b d polled.rest stands.0, did.follows.behaves));
               asking = did.holds;
               opened = opened_weak q.client q.client_end count;
             };
@@ -53,6 +55,7 @@ client_asks p q counted going polled is =
       counted = record { client = count; server = counted.server };
       sound = λ events entries run s. record {
         fits = s.fits;
+        knows = s.knows;
         lengths = s.lengths;
         client = rests Client p.ids p.config p.client_end q.client_end b d events polled.before_is polled.after_is polled.rest s.client;
         server = s.server;
@@ -83,7 +86,8 @@ server_serves now p q t r s counted going polled is =
       running = λ events entries run.
           let stands : Stands Server (id_length p) p.config (Some b) run.server.acts
           = subst (λ (z : Option End). Stands Server (id_length p) p.config z run.server.acts) polled.before_is run.server.at.stands in
-          let did : Acted (Serving q.server (entries ++ st.fresh)) d run.server.acts = st.does run.server.acts entries stands.1 run.server.serving in
+          let t = run.server.acts in
+          let did : Acted b t (Serving q.server (entries ++ st.fresh)) d t = st.does b t t entries (went_nowhere b t stands.1) run.server.serving in
           subst (λ (z : List Event). IsRunning true (record p { server = q.server; server_end = q.server_end }) z (entries ++ st.fresh)) (sym (append-nil events))
           (record {
             client = record { acts = run.client.acts; at = run.client.at; asking = run.client.asking; opened = run.client.opened };
@@ -91,7 +95,7 @@ server_serves now p q t r s counted going polled is =
               acts = run.server.acts ++ did.acts;
               at = at_acted Server (id_length p) p.config p.server_end q.server_end events run.server.acts did.acts run.server.at did.calls
                   (subst (λ (z : Option End). Stands Server (id_length p) p.config z (run.server.acts ++ did.acts)) (sym polled.after_is)
-                  (same_end Server (id_length p) p.config b d polled.rest stands.0, did.follows));
+                  (same_end Server (id_length p) p.config b d polled.rest stands.0, did.follows.behaves));
               serving = did.holds;
               accepted = accepted_weak q.server q.server_end count;
             };
@@ -101,6 +105,7 @@ server_serves now p q t r s counted going polled is =
           subst (λ (z : List Event). IsSound (record p { server = q.server; server_end = q.server_end }) z) (sym (append-nil events))
           (record {
             fits = s.fits;
+            knows = s.knows;
             lengths = s.lengths;
             client = s.client;
             server = rests Server p.ids p.config p.server_end q.server_end b d events polled.before_is polled.after_is polled.rest s.server;

@@ -4,10 +4,11 @@ use Rattle.std.specs.Prelude.{MatchOption, is_some}
 use Rattle.qh_base.specs.declared.connection_error.ConnectionError.{ConnectionError}
 use Rattle.qh_base.specs.declared.time.Moment.{Moment}
 use Rattle.qh_conduct.specs.Restarting.{IsCounting, IsSealed}
-use Rattle.qh_conn.specs.Inner.{is_open, with_streams}
-use Rattle.qh_conn.specs.Timers.{IsUndisturbed}
-use Rattle.qh_conn.specs.declared.config.ConnConfig.{ConnConfig}
-use Rattle.qh_conn.specs.declared.idle.IdleTimer.{IdleTimer}
+use Rattle.qh_core.specs.Config.{peer_of}
+use Rattle.qh_core.specs.Inner.{is_open, with_streams}
+use Rattle.qh_core.specs.Timers.{IsUndisturbed}
+use Rattle.qh_core.specs.declared.config.ConnConfig.{ConnConfig}
+use Rattle.qh_core.specs.declared.idle.IdleTimer.{IdleTimer}
 use Rattle.qh_packet.specs.Session.{PlainKeys}
 use Rattle.qh_spec.specs.Honest.{IsHonest}
 use Rattle.qh_spec.specs.Link.{given_to, moments_of, other, sent_by}
@@ -33,18 +34,21 @@ other_twice Server = refl
 
 -- two ends that are sound are joined, where their link is honest
 joined : (side : Side) (ids : Ids) (config : ConnConfig) (k : ℕ) (c q : End) (events : List Event) (t u : List Act) → IsHonest events
+    → config.peer ≡ peer_of config.limits
     → (config.limits.max_bidi ≤ 2 ^ 60) × (config.limits.max_uni ≤ 2 ^ 60) → length ids.key ≤ 20
     → EndAt true side k config (Some c) events t → EndAt true (other side) k config (Some q) events u
     → IsSoundEnd side ids config c events → IsSoundEnd (other side) ids config q events → AreJoined c q t u
-joined side ids config k c q events t u honest fits short at to s r =
+joined side ids config k c q events t u honest knows fits short at to s r =
     let remote : q.remote_id ≡ own_id side ids = r.remote_is ∙ ap (λ (z : Side). own_id z ids) (other_twice side) in
     record {
       peers = record {
         sides = to.stands.0.side_is ∙ ap other (sym at.stands.0.side_is);
         there = remote ∙ sym s.local_is;
         back = s.remote_is ∙ sym r.local_is;
-        config = to.stands.0.config_is ∙ sym at.stands.0.config_is;
+        known = ap (λ (z : ConnConfig). z.peer) to.stands.0.config_is ∙ knows ∙ ap (λ (z : ConnConfig). peer_of z.limits) (sym at.stands.0.config_is);
+        knows = ap (λ (z : ConnConfig). z.peer) at.stands.0.config_is ∙ knows ∙ ap (λ (z : ConnConfig). peer_of z.limits) (sym to.stands.0.config_is);
         fits = subst (λ (z : ConnConfig). (z.limits.max_bidi ≤ 2 ^ 60) × (z.limits.max_uni ≤ 2 ^ 60)) (sym at.stands.0.config_is) fits;
+        fits_back = subst (λ (z : ConnConfig). (z.limits.max_bidi ≤ 2 ^ 60) × (z.limits.max_uni ≤ 2 ^ 60)) (sym to.stands.0.config_is) fits;
       };
       key_is = r.key_is ∙ sym s.key_is;
       short = subst (λ (z : List ℕ). length z ≤ 20) (sym s.key_is) short;
@@ -91,16 +95,16 @@ stays side ids config now c d events more t given by u st s = record {
 
 -- an end went on, and its peer is there and did nothing meanwhile
 pub keeps : (side : Side) (ids : Ids) (config : ConnConfig) (k : ℕ) (now : Moment) (old new peer : Option End) (events more : List Event) (t u : List Act)
-    → is_some peer ≡ true → IsHonest (events ++ more) → AreBy now.0 (events ++ more) → (config.limits.max_bidi ≤ 2 ^ 60) × (config.limits.max_uni ≤ 2 ^ 60) → length ids.key ≤ 20
+    → is_some peer ≡ true → IsHonest (events ++ more) → AreBy now.0 (events ++ more) → config.peer ≡ peer_of config.limits → (config.limits.max_bidi ≤ 2 ^ 60) × (config.limits.max_uni ≤ 2 ^ 60) → length ids.key ≤ 20
     → told_acts (other side) more ≡ [] → EndAt true side k config old events t → EndAt true (other side) k config peer events u
     → IsEndUndisturbed true now old new → KeepsSound true now side old new more
     → IsSoundAt side ids config old events → IsSoundAt (other side) ids config peer events → IsSoundAt side ids config new (events ++ more)
-keeps side ids config k now None None peer events more t u some honest by fits short silent at to rest keep s r = tt
-keeps side ids config k now None (Some d) peer events more t u some honest by fits short silent at to rest keep s r = absurd rest
-keeps side ids config k now (Some c) None peer events more t u some honest by fits short silent at to rest keep s r = absurd rest
-keeps side ids config k now (Some c) (Some d) None events more t u some honest by fits short silent at to rest keep s r = cc
-keeps side ids config k now (Some c) (Some d) (Some q) events more t u some honest by fits short silent at to rest keep s r =
-    let joins : AreJoined c q t u = joined side ids config k c q events t u (honest_front events more honest) fits short at to s r in
+keeps side ids config k now None None peer events more t u some honest by knows fits short silent at to rest keep s r = tt
+keeps side ids config k now None (Some d) peer events more t u some honest by knows fits short silent at to rest keep s r = absurd rest
+keeps side ids config k now (Some c) None peer events more t u some honest by knows fits short silent at to rest keep s r = absurd rest
+keeps side ids config k now (Some c) (Some d) None events more t u some honest by knows fits short silent at to rest keep s r = cc
+keeps side ids config k now (Some c) (Some d) (Some q) events more t u some honest by knows fits short silent at to rest keep s r =
+    let joins : AreJoined c q t u = joined side ids config k c q events t u (honest_front events more honest) knows fits short at to s r in
     let sent : sent_by (other side) (events ++ more) ≡ handed_out u
     = sent_by-append (other side) events more ∙ (ap (λ (z : List (List ℕ)). sent_by (other side) events ++ z) (silent_sent_by (other side) more silent)
     ∙ (append-nil (sent_by (other side) events) ∙ sym (whole_out (other side) events u to.told))) in

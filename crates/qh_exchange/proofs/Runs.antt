@@ -29,13 +29,14 @@ use Rattle.qh_exchange.specs.declared.ending.Ending.{Ending}
 use Rattle.qh_exchange.specs.declared.ending.Outcome.TheVariants.{Failed, Unlisted}
 use Rattle.qh_exchange.specs.Ending.{status_of, text_of}
 use Rattle.qh_exchange.specs.Endings.{EndsAnswered, EndsFailed, IsRunAs, listed, left_out, reported, wanting}
-use Rattle.qh_exchange.specs.Exchange.{IfInvalid, IfOutOfRounds, IfProtocol, IfTimedOut, IsInvalidAnswer}
+use Rattle.qh_exchange.specs.Exchange.{IfInvalid, IfLink, IfOutOfRounds, IfProtocol, IfTimedOut, IsInvalidAnswer}
 use Rattle.qh_exchange.specs.Pair.{KeepWithin}
 use Rattle.qh_exchange.specs.Program.{AreEchoes, HasRun, ScriptEnds, answered, failed, unlisted, unreported, neither}
 use Rattle.qh_exchange.specs.Settings.{conn_config}
 use Rattle.qh_exchange.specs.Sound.{EndsFairly}
-use Rattle.qh_exchange.specs.Turn.{RanOut, WasIdle, WasLost, has_link_failed}
+use Rattle.qh_exchange.specs.Turn.{AddsFault, EndsInFault, RanOut, WasIdle, WasLost, has_link_failed}
 use Rattle.qh_exchange.proofs.Fairness.{fair_again}
+use Rattle.qh_exchange.proofs.Faults.{fault_again, fault_last, fault_whole}
 use Rattle.qh_exchange.proofs.Endings.{ends_by, ends_done}
 use Rattle.qh_exchange.proofs.Reported.{reported as told_of}
 
@@ -61,6 +62,7 @@ pub record Exchanged {V : Type 0} (items : V → List PlainMessage) (config : Pl
   pub not_valid : (IsValidAt config requests → ⊥) → IsInvalidAnswer r (IsUndecidedAt config requests) × (new.events ≡ []) × (after ≡ [])
   pub answers : GrewByAnswers (λ q a. a ≡ echo config.max_response_body q) [] after
   pub cause : CountsFaults 0 new.faults (has_link_failed r)
+  pub fault : IfLink r (EndsInFault new.events)
   pub timed_out : IfTimedOut r (WasIdle (conn_config config).idle [] (moments_of new.events))
   pub fair : IsHonest new.events → EndsFairly config.local_id_len (conn_config config).idle new.events r
   pub lost : IfProtocol r (WasLost requests (Some []) (Some new.events) [] after)
@@ -81,6 +83,7 @@ pub record Clauses {V : Type 0} (items : V → List PlainMessage) (config : Plai
   pub not_valid : (IsValidAt config requests → ⊥) → IsInvalidAnswer r (IsUndecidedAt config requests) × (new ≡ old) × (after ≡ before)
   pub answers : GrewByAnswers (λ q a. a ≡ echo config.max_response_body q) before after
   pub cause : CountsFaults old.faults new.faults (has_link_failed r)
+  pub fault : IfLink r (AddsFault (Some old.events) (Some new.events))
   pub timed_out : IfTimedOut r (WasIdle (conn_config config).idle (moments_of old.events) (moments_of new.events))
   pub fair : (events : List Event) → Some old.events ≡ Some [] → Some new.events ≡ Some events → IsHonest events
       → EndsFairly config.local_id_len (conn_config config).idle events r
@@ -114,6 +117,7 @@ exchanged items config requests rounds old new before after r none never nothing
       not_valid = λ n. let a = x.not_valid n in (a.0, unused a.1, a.2 ∙ nothing);
       answers = subst (λ (z : List PlainEntry). GrewByAnswers (λ q a. a ≡ echo config.max_response_body q) z after) nothing x.answers;
       cause = subst (λ (z : ℕ). CountsFaults z new.faults (has_link_failed r)) never x.cause;
+      fault = fault_last r _ _ (fault_whole old.events new.events none) x.fault;
       timed_out = subst (λ (z : List Event). IfTimedOut r (WasIdle (conn_config config).idle (moments_of z) (moments_of new.events))) none x.timed_out;
       fair = x.fair new.events fresh refl;
       lost = subst (λ (z : List PlainEntry). IfProtocol r (WasLost requests (Some []) (Some new.events) z after)) nothing
@@ -194,6 +198,7 @@ ran_ok items s new after v x step schedule honest = record {
   count = x.count;
   empty = λ e. let a = x.empty e in (refl, a.1, a.2);
   cause = x.cause;
+  fault = tt;
   invalid = tt;
   not_valid = λ n. let a = x.not_valid n in absurd a.0;
   timed_out = tt;
@@ -215,6 +220,7 @@ ran_err {V} items s new after x known step schedule honest = record {
   count = tt;
   empty = λ e. let a = known.empty e in absurd (failed_is_no_answer V x a.0);
   cause = known.cause;
+  fault = fault_again V (List PlainMessage) x _ _ (λ z. z) known.fault;
   invalid = fault_as V (List PlainMessage) x _ known.invalid;
   not_valid = λ n. let a = known.not_valid n in (invalid_as V (List PlainMessage) x _ a.0, a.1, a.2);
   timed_out = time_as V (List PlainMessage) x _ known.timed_out;

@@ -1,11 +1,10 @@
 -- What an end sent kept within the limits that it was given before.
 use Rattle.std.proofs.Common.{◌≡◌, ℕ, ◌<◌, ◌≤◌, Bool, List, [], ◌∷◌, ◌++◌, length, Option, Some, None, refl, sym, ◌∙◌, ap, subst, append_assoc, inl, inr}
 use Rattle.std.specs.Prelude.{not, sum_by}
-use Rattle.qh_conn.specs.Config.{peer_of}
-use Rattle.qh_conn.specs.Follows.{Follows, HasComing, HasSomething, IsWithinLimits, Reaches}
-use Rattle.qh_conn.specs.Follows.Reaches.{run as run_reaches, reset as reset_reaches}
-use Rattle.qh_conn.specs.Inner.{AreOf}
-use Rattle.qh_conn.specs.declared.config.ConnConfig.{ConnConfig}
+use Rattle.qh_core.specs.Follows.{Follows, HasComing, HasSomething, IsWithinLimits, Reaches}
+use Rattle.qh_core.specs.Follows.Reaches.{run as run_reaches, reset as reset_reaches}
+use Rattle.qh_core.specs.Inner.{AreOf}
+use Rattle.qh_core.specs.declared.config.ConnConfig.{ConnConfig}
 use Rattle.qh_halves.specs.Counts.{is_bi, index_of}
 use Rattle.qh_spec.proofs.Members.{in_left, in_more, in_right}
 use Rattle.qh_spec.proofs.TranscriptLaws.{handed_out-append}
@@ -159,15 +158,15 @@ module _ (k : ℕ) (config : ConnConfig) (side : Side) (t before after : List Ac
     came = λ f i. subst (λ (z : List (List ℕ)). HasComing k z (other side) f) ins (p.came f i);
     stream_bytes = λ id end takes.
         subst (λ (n : ℕ). end ≤ greatest (stream_given id) n p.given)
-        (first_limit_is side (peer_of config.limits) p.streams p.of id) (p.stream_bytes id end (reaches (d ∷ []) id end here takes));
+        (first_limit_is side config.peer p.streams p.of id) (p.stream_bytes id end (reaches (d ∷ []) id end here takes));
     all_bytes = λ ends apart each.
         subst (λ (n : ℕ). sum_by (λ (e : ℕ × ℕ). e.1) ends ≤ greatest data_given n p.given)
-        (max_data_is side (peer_of config.limits) p.streams p.of)
+        (max_data_is side config.peer p.streams p.of)
         (p.all_bytes ends apart (λ e i.
         reaches (handed_out before ++ d ∷ []) e.0 e.1 something (subst (λ (z : List (List ℕ)). TakesTo k z side e.0 e.1) (sym out_here) (each e i))));
     count = λ id end takes own.
         subst (λ (n : ℕ). index_of id < greatest (count_given (is_bi id)) n p.given)
-        (first_count_is side (peer_of config.limits) p.streams p.of (is_bi id)) (p.count id end (reaches (d ∷ []) id end here takes) own);
+        (first_count_is side config.peer p.streams p.of (is_bi id)) (p.count id end (reaches (d ∷ []) id end here takes) own);
   }
 
 -- no STREAM frame that an end handed out is empty

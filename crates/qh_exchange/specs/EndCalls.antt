@@ -5,8 +5,8 @@ use Rattle.qh_base.specs.declared.connection_error.ConnectionError.TheVariants a
 use Rattle.qh_base.specs.declared.memory.Memory.{Memory as OutOfMemory}
 use Rattle.qh_base.specs.declared.time.Span.{Span}
 use Rattle.qh_conduct.specs.Behaves.{Behaves}
-use Rattle.qh_conn.specs.Inner.{HaveSameCounts, IsSameEnd}
-use Rattle.qh_conn.specs.Timers.{IsTimedOut}
+use Rattle.qh_core.specs.Inner.{HaveSameCounts, IsSameEnd}
+use Rattle.qh_core.specs.Timers.{IsTimedOut}
 use Rattle.qh_spec.specs.declared.link.Event.{Event}
 use Rattle.qh_spec.specs.declared.link.Event.TheVariants.{Sent, Given}
 use Rattle.qh_spec.specs.declared.sides.Side.{Side}

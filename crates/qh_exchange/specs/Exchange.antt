@@ -2,12 +2,16 @@
 use Rattle.std.specs.Prelude.{◌≡◌, ℕ, Result, Ok, Err}
 use Rattle.qh_base.specs.declared.connection_error.ConnectionError.{ConnectionError}
 use Rattle.qh_exchange.specs.declared.error.ExchangeError.{ExchangeError}
-use Rattle.qh_exchange.specs.declared.error.ExchangeError.TheVariants.{Invalid, TimedOut, OutOfRounds, Protocol, Memory}
+use Rattle.qh_exchange.specs.declared.error.ExchangeError.TheVariants.{Invalid, Link, TimedOut, OutOfRounds, Protocol, Memory}
 
 -- the fact, where the answer is this one
 abbrev pub IfInvalid : {T : Type 0} → Result T ExchangeError → (ℕ → Type 0) → Type 0
 IfInvalid (Err (Invalid index)) P = P index
 IfInvalid _ P = Unit {0}
+
+abbrev pub IfLink : {T : Type 0} → Result T ExchangeError → Type 0 → Type 0
+IfLink (Err Link) P = P
+IfLink _ P = Unit {0}
 
 abbrev pub IfTimedOut : {T : Type 0} → Result T ExchangeError → Type 0 → Type 0
 IfTimedOut (Err TimedOut) P = P

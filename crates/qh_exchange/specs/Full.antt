@@ -1,7 +1,7 @@
 -- Turns in which all was done that could be.
 use Rattle.std.specs.Prelude.{◌≡◌, ◌⊎◌, ℕ, zero, suc, false, List, [], ◌++◌, Option, Some, None, length}
 use Rattle.qh_conduct.specs.Calls.{ToldTheSame}
-use Rattle.qh_conn.specs.Sending.{NothingIsSent}
+use Rattle.qh_core.specs.Sending.{NothingIsSent}
 use Rattle.qh_roles.specs.Client.{PlainClient}
 use Rattle.qh_roles.specs.ClientSteps.{MayOpenNone}
 use Rattle.qh_spec.specs.declared.link.Event.{Event}

@@ -21,12 +21,12 @@ use Rattle.qh_script.specs.Report.{report_by}
 use Rattle.qh_exchange.specs.declared.error.ExchangeError.{ExchangeError}
 use Rattle.qh_exchange.specs.declared.error.ExchangeError.TheVariants.{Memory}
 use Rattle.qh_exchange.specs.Ending.{error_line, error_status, read_fault_line, refused_line, unbuilt_line, unlisted_line, usage_line}
-use Rattle.qh_exchange.specs.Exchange.{IfInvalid, IfOutOfRounds, IfProtocol, IfTimedOut, IsInvalidAnswer}
+use Rattle.qh_exchange.specs.Exchange.{IfInvalid, IfLink, IfOutOfRounds, IfProtocol, IfTimedOut, IsInvalidAnswer}
 use Rattle.qh_exchange.specs.Pair.{KeepWithin}
 use Rattle.qh_exchange.specs.Reading.{HasRead, IsRead, IsInput, IsAppended, IsWritten}
 use Rattle.qh_exchange.specs.Settings.{conn_config}
 use Rattle.qh_exchange.specs.Sound.{EndsFairly}
-use Rattle.qh_exchange.specs.Turn.{RanOut, WasIdle, WasLost, has_link_failed}
+use Rattle.qh_exchange.specs.Turn.{EndsInFault, RanOut, WasIdle, WasLost, has_link_failed}
 use Rattle.qh_exchange.specs.Unbuilt.{IsUnbuiltAt}
 
 -- ---- what is done
@@ -51,6 +51,7 @@ pub record HasRun (s : Script) (link : PlainLink) (served : List PlainEntry) (re
   pub empty : s.requests ≡ [] → IsOk result × (link.events ≡ []) × (served ≡ [])
   -- why it failed
   pub cause : CountsFaults 0 link.faults (has_link_failed result)
+  pub fault : IfLink result (EndsInFault link.events)
   pub invalid : IfInvalid result (λ index. IsFaultIndex s.config.max_requests s.config.max_field_section_size s.config.max_request_body s.requests index × (link.events ≡ []) × (served ≡ []))
   pub not_valid : (IsValidList s.config.max_requests s.config.max_field_section_size s.config.max_request_body s.requests → ⊥) → IsInvalidAnswer result (IsUndecidedList s.config.max_requests s.config.max_field_section_size s.config.max_request_body s.requests)
       × (link.events ≡ []) × (served ≡ [])

@@ -1,6 +1,7 @@
 -- What the ends of a pair begin with, by the settings of an exchange.
 use Rattle.std.specs.Option.{option_map}
-use Rattle.qh_conn.specs.declared.config.ConnConfig.{ConnConfig}
+use Rattle.qh_core.specs.Config.{peer_of}
+use Rattle.qh_core.specs.declared.config.ConnConfig.{ConnConfig}
 use Rattle.qh_service.specs.declared.service.Limits.{Limits}
 use Rattle.qh_spec.specs.Config.{PlainConfig}
 
@@ -18,6 +19,13 @@ conn_config config = record {
     max_bidi = config.max_bidi;
     max_uni = config.max_uni;
   };
+  peer = peer_of (record {
+    receive_window = config.receive_window;
+    stream_window = config.stream_window;
+    send_window = config.send_window;
+    max_bidi = config.max_bidi;
+    max_uni = config.max_uni;
+  });
   idle = option_map (λ n. record { 0 = n }) config.idle;
   initial_rtt = record { 0 = config.initial_rtt };
   initial_window = config.initial_window;

@@ -3,9 +3,9 @@
 use Rattle.std.specs.Prelude.{◌≡◌, ℕ, ◌+◌, ◌≤◌, true, List, [], ◌∷◌, ◌++◌, Option, Some, None, Result, Err, length}
 use Rattle.qh_base.specs.declared.time.Span.{Span}
 use Rattle.qh_conduct.specs.Restarting.{IsCounting, IsSealed}
-use Rattle.qh_conn.specs.Inner.{is_open}
-use Rattle.qh_conn.specs.declared.config.ConnConfig.{ConnConfig}
-use Rattle.qh_conn.specs.declared.inner.Inner.{Inner}
+use Rattle.qh_core.specs.Inner.{is_open}
+use Rattle.qh_core.specs.declared.config.ConnConfig.{ConnConfig}
+use Rattle.qh_core.specs.declared.inner.Inner.{Inner}
 use Rattle.qh_packet.specs.Session.{PlainKeys}
 use Rattle.qh_spec.specs.declared.link.Event.{Event}
 use Rattle.qh_spec.specs.declared.link.Event.TheVariants.{Given}

@@ -7,10 +7,11 @@ use Rattle.qh_base.specs.declared.time.Span.{Span}
 use Rattle.qh_conduct.specs.Behaves.{Behaves}
 use Rattle.qh_conduct.specs.Peers.{AreLinked, ArePeers}
 use Rattle.qh_conduct.specs.Restarting.{AreSealed, IsCounting, IsSealed}
-use Rattle.qh_conn.specs.Inner.{HaveSameCounts, IsSameEnd, is_open, with_streams}
-use Rattle.qh_conn.specs.Timers.{IsTimedOut, IsUndisturbed}
-use Rattle.qh_conn.specs.declared.config.ConnConfig.{ConnConfig}
+use Rattle.qh_core.specs.Inner.{HaveSameCounts, IsSameEnd, is_open, with_streams}
+use Rattle.qh_core.specs.Timers.{IsTimedOut, IsUndisturbed}
+use Rattle.qh_core.specs.declared.config.ConnConfig.{ConnConfig}
 use Rattle.qh_roles.specs.Client.{PlainClient, Asking, HasOpened}
+use Rattle.qh_roles.specs.Going.{WentFrom}
 use Rattle.qh_roles.specs.Server.{PlainServer, HasAccepted, ServerStep}
 use Rattle.qh_roles.specs.Streams.{Acted, IsFresh}
 use Rattle.qh_spec.specs.declared.link.Event.{Event}
@@ -201,7 +202,7 @@ pub record ClientPolled (old new : PlainClient) (old_end new_end : Option End) :
   pub requests : new.requests ≡ old.requests
   pub places : length new.answers ≡ length old.answers
   pub opened : HasOpened old before → HasOpened new after
-  pub asks : (t : List Act) → Behaves before t → HasOpened old before → Asking old t → Acted (Asking new) after t
+  pub asks : (start : End) (done t : List Act) → WentFrom start done before t → HasOpened old before → Asking old t → Acted start done (Asking new) after t
 
 -- A server went on at its end, without a datagram.
 pub record ServerPolled (old new : PlainServer) (old_end new_end : Option End) (served_before served_after : List PlainEntry) : Type 0 where

@@ -1,9 +1,10 @@
 -- What a turn and its steps add to the events of a link, and why one fails.
-use Rattle.std.specs.Prelude.{◌≡◌, ◌≢◌, ◌⊎◌, ◌<◌, ℕ, suc, Bool, true, false, List, [], ◌++◌, Option, Some, None, Result, Ok, Err, length}
+use Rattle.std.specs.Prelude.{◌≡◌, ◌≢◌, ◌⊎◌, ◌<◌, ℕ, suc, Bool, true, false, List, [], ◌∷◌, ◌++◌, Option, Some, None, Result, Ok, Err, length}
 use Rattle.qh_base.specs.declared.connection_error.ConnectionError.{ConnectionError}
 use Rattle.qh_base.specs.declared.connection_error.ConnectionError.TheVariants as lost
 use Rattle.qh_roles.specs.Client.{held}
 use Rattle.qh_spec.specs.declared.link.Event.{Event}
+use Rattle.qh_spec.specs.declared.link.Event.TheVariants.{Fault}
 use Rattle.qh_spec.specs.Message.{PlainMessage}
 use Rattle.qh_spec.specs.Record.{PlainEntry}
 use Rattle.qh_spec.specs.Turns.{AreWholeTurns}
@@ -17,6 +18,15 @@ use Rattle.qh_base.specs.declared.time.Span.{Span}
 -- where the events were told they are told still, with more that are of this kind behind them
 abbrev pub Adds : (List Event → Type 0) → Option (List Event) → Option (List Event) → Type 0
 Adds Kind before after = (events : List Event) → before ≡ Some events → (more : List Event) × (after ≡ Some (events ++ more)) × Kind more
+
+-- the last event of all is that a call on the link failed
+pub record EndsInFault (more : List Event) : Type 0 where
+  pub front : List Event
+  pub are : more ≡ front ++ Fault ∷ []
+
+-- where the events were told, some were added, the last of which is that a call on the link failed
+abbrev pub AddsFault : Option (List Event) → Option (List Event) → Type 0
+AddsFault before after = Adds EndsInFault before after
 
 -- the call answered that the link failed
 abbrev pub is_link : ExchangeError → Bool

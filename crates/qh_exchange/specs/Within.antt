@@ -1,9 +1,8 @@
 -- What a side sends in STREAM and RESET_STREAM frames keeps within the limits of its peer (RFC 9000, sections 4.1, 4.5 and 4.6), told
 -- of events and datagrams alone.
 use Rattle.std.specs.Prelude.{◌≡◌, ℕ, ◌+◌, ◌<◌, ◌≤◌, Bool, true, List, [], ◌∷◌, ◌++◌, length, map, sum_by, if◌then◌else◌}
-use Rattle.qh_conn.specs.Config.{peer_of}
-use Rattle.qh_conn.specs.Follows.{HasComing, HasFrame, reset_frame}
-use Rattle.qh_conn.specs.declared.config.ConnConfig.{ConnConfig}
+use Rattle.qh_core.specs.Follows.{HasComing, HasFrame, reset_frame}
+use Rattle.qh_core.specs.declared.config.ConnConfig.{ConnConfig}
 use Rattle.qh_halves.specs.Counts.{is_bi, is_own, index_of}
 use Rattle.qh_spec.specs.Carried.{HasRun}
 use Rattle.qh_spec.specs.Link.{other, given_to, sent_by}
@@ -38,13 +37,13 @@ pub record KeptWithin (id_length : ℕ) (config : ConnConfig) (side : Side) (bef
   pub came : (f : StreamFrame) → In f given → HasComing id_length (given_to side before) (other side) f
   -- each STREAM and RESET_STREAM frame in the datagram takes its stream no farther than the limit of that stream
   pub stream_bytes : (id end : ℕ) → TakesTo id_length (datagram ∷ []) side id end
-      → end ≤ greatest (stream_given id) (first_stream_limit side (peer_of config.limits) id) given
+      → end ≤ greatest (stream_given id) (first_stream_limit side config.peer id) given
   -- Whatever STREAM and RESET_STREAM frames one takes from it and from all that this side sent before, one of each stream, the offsets
   -- up to which they take their streams come to no more in sum than the limit of all streams. So neither do the greatest of these
   -- offsets on each stream.
   pub all_bytes : (ends : List (ℕ × ℕ)) → Distinct (map (λ (e : ℕ × ℕ). e.0) ends)
       → ((e : ℕ × ℕ) → In e ends → TakesTo id_length (sent_by side before ++ datagram ∷ []) side e.0 e.1)
-      → sum_by (λ (e : ℕ × ℕ). e.1) ends ≤ greatest data_given (peer_of config.limits).max_data given
+      → sum_by (λ (e : ℕ × ℕ). e.1) ends ≤ greatest data_given config.peer.max_data given
   -- each stream of this side's that a STREAM or RESET_STREAM frame in the datagram names is one of those that the peer permits
   pub count : (id end : ℕ) → TakesTo id_length (datagram ∷ []) side id end → is_own side id ≡ true
-      → index_of id < greatest (count_given (is_bi id)) (first_stream_count (peer_of config.limits) (is_bi id)) given
+      → index_of id < greatest (count_given (is_bi id)) (first_stream_count config.peer (is_bi id)) given

@@ -4,14 +4,15 @@ ghost use Rattle.qh_base.specs.declared.time.Span.{Span as ASpan};
 ghost use Rattle.qh_conduct.specs.Behaves.{Behaves};
 ghost use Rattle.qh_conduct.specs.Calls.{ToldTheSame};
 ghost use Rattle.qh_conduct.specs.Restarting.{IsSealed};
-ghost use Rattle.qh_conn.specs.Inner.{IsSameEnd, is_open};
-ghost use Rattle.qh_conn.specs.Sending.{NothingIsSent};
+ghost use Rattle.qh_core.specs.Inner.{IsSameEnd, is_open};
+ghost use Rattle.qh_core.specs.Sending.{NothingIsSent};
 ghost use Rattle.qh_exchange.specs.Clock.{HasPassed, IsEndClocked};
 ghost use Rattle.qh_exchange.specs.EndCalls.{IsHandedIn, IsPolledOut, IsTicked, polled_acts};
+ghost use Rattle.qh_exchange.specs.Exchange.{IfLink};
 ghost use Rattle.qh_exchange.specs.Full.{IsSentOut, ToldAsBefore};
 ghost use Rattle.qh_exchange.specs.Sound.{IsSoundAt, own_id};
 ghost use Rattle.qh_exchange.specs.Steps.{EndStep, EndTicked, HasNames, IsEndUndisturbed, IsLinkError, IsLostFairly, IsNewEnd, KeepsSound, is_done};
-ghost use Rattle.qh_exchange.specs.Turn.{IsLostWith, IsNotLost, has_link_failed};
+ghost use Rattle.qh_exchange.specs.Turn.{AddsFault, IsLostWith, IsNotLost, has_link_failed};
 ghost use Rattle.qh_spec.specs.declared.link.Event.{Event};
 ghost use Rattle.qh_spec.specs.declared.link.Event.TheVariants.{Given};
 ghost use Rattle.qh_spec.specs.Fault.{CountsFaults};
@@ -24,7 +25,7 @@ use crate::{ExchangeError, Link, MAX_DATAGRAM};
 use bytes::Bytes;
 use qh_base::{ConnectionError, ConnectionId, FourTuple, Memory, Moment, Side};
 use qh_conduct::{behaves, permits, plain_tags, restarts};
-use qh_conn::{ConnConfig, Connection, ConnectionEvent, PlainSession};
+use qh_core::{ConnConfig, Connection, ConnectionEvent, PlainSession};
 use std::alloc::Global;
 use std::net::{IpAddr, Ipv4Addr, SocketAddr};
 
@@ -149,6 +150,7 @@ pub(crate) fn receive_at<L: Link>(
     ensures open { is_some slot.new ≡ true }
     ensures moments { L.moments link.new ≡ L.moments link.old }
     ensures cause { CountsFaults (L.faults link.old) (L.faults link.new) (has_link_failed result) }
+    ensures fault { IfLink result (AddsFault (L.events link.old) (L.events link.new)) }
     ensures plan { L.plan link.new ≡ L.plan link.old }
     ensures errors { IfErr result IsLinkError }
 {
@@ -172,6 +174,7 @@ pub(crate) fn transmit_at<L: Link>(
     ensures open { is_some slot.new ≡ true }
     ensures moments { L.moments link.new ≡ L.moments link.old }
     ensures cause { CountsFaults (L.faults link.old) (L.faults link.new) (has_link_failed result) }
+    ensures fault { IfLink result (AddsFault (L.events link.old) (L.events link.new)) }
     ensures plan { L.plan link.new ≡ L.plan link.old }
     ensures errors { IfErr result IsLinkError }
 {
@@ -237,6 +240,7 @@ fn take_datagrams<L: Link>(
     ensures step { EndStep (is_done result) now side (Some end.old) (Some end.new) (L.events link.old) (L.events link.new) (λ more. IfOk result (λ _. IsIntake side more)) }
     ensures moments { L.moments link.new ≡ L.moments link.old }
     ensures cause { CountsFaults (L.faults link.old) (L.faults link.new) (has_link_failed result) }
+    ensures fault { IfLink result (AddsFault (L.events link.old) (L.events link.new)) }
     ensures plan { L.plan link.new ≡ L.plan link.old }
     ensures errors { IfErr result IsLinkError }
 {
@@ -301,6 +305,7 @@ fn send_datagrams<L: Link>(
         (λ more. IfOk result (λ _. IsOutput side more × IsSentOut side (Some end.new) more × ToldTheSame end.old.space.streams end.new.space.streams)) }
     ensures moments { L.moments link.new ≡ L.moments link.old }
     ensures cause { CountsFaults (L.faults link.old) (L.faults link.new) (has_link_failed result) }
+    ensures fault { IfLink result (AddsFault (L.events link.old) (L.events link.new)) }
     ensures plan { L.plan link.new ≡ L.plan link.old }
     ensures errors { IfErr result IsLinkError }
 {

@@ -6,14 +6,14 @@ ghost use Rattle.qh_spec.specs.Fault.{CountsFaults};
 ghost use Rattle.qh_spec.specs.Headline.{ServedOnce, AnsweredOnce};
 ghost use Rattle.qh_spec.specs.Honest.{IsHonest};
 ghost use Rattle.qh_spec.specs.Validity.{IsFaultIndex, IsValidList};
-ghost use Rattle.qh_exchange.specs.Exchange.{EndsAs, IfInvalid, IfMemory, IfOutOfRounds, IfProtocol, IfTimedOut, IsInvalidAnswer, IsListError};
+ghost use Rattle.qh_exchange.specs.Exchange.{EndsAs, IfInvalid, IfLink, IfMemory, IfOutOfRounds, IfProtocol, IfTimedOut, IsInvalidAnswer, IsListError};
 ghost use Rattle.qh_exchange.specs.Clock.{IsClocked};
 ghost use Rattle.qh_exchange.specs.Pair.{KeepWithin};
 ghost use Rattle.qh_exchange.specs.Rounds.{AreFair, IsAsked, RoundsMade};
 ghost use Rattle.qh_roles.specs.Client.{held};
 ghost use Rattle.qh_exchange.specs.Settings.{conn_config, limits_of};
 ghost use Rattle.qh_exchange.specs.Sound.{EndsFairly};
-ghost use Rattle.qh_exchange.specs.Turn.{RanOut, WasIdle, WasLost, has_link_failed};
+ghost use Rattle.qh_exchange.specs.Turn.{AddsFault, RanOut, WasIdle, WasLost, has_link_failed};
 ghost use Rattle.qh_roles.specs.Server.{GrewByAnswers};
 
 use crate::{Config, ExchangeError, Link, Message, Pair, Service, pairs, valid};
@@ -67,6 +67,7 @@ pub fn exchange<V: Service, L: Link>(
     // Each response that was recorded is one that the service may give to its request.
     ensures answers { GrewByAnswers (V.may_answer (limits_of config.now)) (V.served service.old) (V.served service.new) }
     ensures cause { CountsFaults (L.faults link.old) (L.faults link.new) (has_link_failed result) }
+    ensures fault { IfLink result (AddsFault (L.events link.old) (L.events link.new)) }
     ensures timed_out { IfTimedOut result (WasIdle (conn_config config.now).idle (L.moments link.old) (L.moments link.new)) }
     ensures lost { IfProtocol result (WasLost requests.now (L.events link.old) (L.events link.new) (V.served service.old) (V.served service.new)) }
     ensures out_of_rounds { IfOutOfRounds result
@@ -131,6 +132,7 @@ fn make_rounds<V: Service, L: Link>(
     ensures fair { AreFair pair.old (L.events link.old) (L.events link.new) (V.served service.old) result }
     ensures made { RoundsMade rounds pair.old pair.new (L.events link.old) (L.events link.new) (L.moments link.old) (L.moments link.new) (V.served service.old) (V.served service.new) result }
     ensures cause { CountsFaults (L.faults link.old) (L.faults link.new) (has_link_failed result) }
+    ensures fault { IfLink result (AddsFault (L.events link.old) (L.events link.new)) }
     ensures plan { L.plan link.new ≡ L.plan link.old }
     ensures answered { GrewByAnswers (V.may_answer pair.old.server.limits) (V.served service.old) (V.served service.new) }
 {

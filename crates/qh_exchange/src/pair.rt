@@ -1,13 +1,13 @@
 ghost use Rattle.std.specs.Prelude.{◌≡◌, ◌⊎◌, ◌≤◌, ◌<◌, ◌^◌, ◌↔◌, ◌++◌, ◌∷◌, [], ℕ, List, Option, Some, None, true, false, length, is_some, All, IfOk, IfErr, IsTrue, OnOk, map};
-ghost use Rattle.qh_conn.specs.Inner.{is_open};
+ghost use Rattle.qh_core.specs.Inner.{is_open};
 ghost use Rattle.qh_exchange.specs.Clock.{HasPassed, IsClocked, RunsByTheClock};
-ghost use Rattle.qh_exchange.specs.Exchange.{IfProtocol, IfTimedOut};
+ghost use Rattle.qh_exchange.specs.Exchange.{IfLink, IfProtocol, IfTimedOut};
 ghost use Rattle.qh_exchange.specs.Pair.{End as AnEnd, PairState, Running, GoesOn, IsFair, IsRunning, IsSound, Means, KeepWithin, id_length};
 ghost use Rattle.qh_exchange.specs.Settings.{conn_config, limits_of};
 ghost use Rattle.qh_exchange.specs.Full.{AsksWhereItMay, HasAcceptedWhatArrived, IsFullTurn, ToldAsBefore};
 ghost use Rattle.qh_exchange.specs.Sound.{EndsFairly, last_of};
 ghost use Rattle.qh_exchange.specs.Steps.{AreIntakes, AreNotLost, AreOutputs, AreTicking, BeginsAt, ClientPolled, IsCounted, IsLastOf, IsLinkError, IsOnSide, IsOpen, IsStill, KeepsTicking, PairStep, ServerPolled, TicksOn, ended_by, is_done};
-ghost use Rattle.qh_exchange.specs.Turn.{Adds, IsNotLost, IsProtocolLoss, IsTurnError, has_link_failed};
+ghost use Rattle.qh_exchange.specs.Turn.{Adds, AddsFault, IsNotLost, IsProtocolLoss, IsTurnError, has_link_failed};
 ghost use Rattle.qh_roles.specs.Client.{AreAskable, Asking, held};
 ghost use Rattle.qh_roles.specs.Server.{GrewByAnswers};
 ghost use Rattle.qh_spec.specs.declared.link.Event.{Event};
@@ -23,7 +23,7 @@ ghost use Rattle.qh_spec.specs.Record.{PlainEntry};
 use crate::ends::{End, Ids, MAX_NAME, open_end, receive_at, tick_at, transmit_at};
 use crate::{Config, ExchangeError, Head, Link, Message, Service};
 use qh_base::{ConnectionError, Memory, Moment, Side};
-use qh_conn::{ConnConfig, PlainSession, lawful};
+use qh_core::{ConnConfig, PlainSession, first_limits, lawful};
 use qh_roles::{Client, Server};
 use qh_service::Limits;
 use qh_streams::StreamLimits;
@@ -148,6 +148,7 @@ impl Pair {
         ensures round { IfOk result (λ _. (moment : ℕ) × (L.moments link.new ≡ L.moments link.old ++ moment ∷ [])) }
         ensures answered { GrewByAnswers (V.may_answer self.old.server.limits) (V.served service.old) (V.served service.new) }
         ensures cause { CountsFaults (L.faults link.old) (L.faults link.new) (has_link_failed result) }
+        ensures fault { IfLink result (AddsFault (L.events link.old) (L.events link.new)) }
         ensures lost { IfProtocol result (λ e. IsProtocolLoss e self.new) }
         ensures plan { L.plan link.new ≡ L.plan link.old }
         ensures errors { IfErr result IsTurnError }
@@ -192,6 +193,7 @@ impl Pair {
         ensures clock { (before moments : List ℕ) → L.moments link.old ≡ before ++ moments → AreTicking self.old moments → TicksOn self.old self.new before moments (L.moments link.new) result }
         ensures round { IfOk result (λ _. (moment : ℕ) × (L.moments link.new ≡ L.moments link.old ++ moment ∷ [])) }
         ensures cause { CountsFaults (L.faults link.old) (L.faults link.new) (has_link_failed result) }
+        ensures fault { IfLink result (AddsFault (L.events link.old) (L.events link.new)) }
         ensures lost { IfProtocol result (λ e. IsProtocolLoss e self.new) }
         ensures plan { L.plan link.new ≡ L.plan link.old }
         ensures errors { IfErr result IsTurnError }
@@ -231,6 +233,7 @@ impl Pair {
         ensures clock { (before moments : List ℕ) → L.moments link.old ≡ before ++ moments → AreTicking self.old moments → BeginsAt self.new before moments (L.moments link.new) result }
         ensures round { IfOk result (λ now. L.moments link.new ≡ L.moments link.old ++ now.0 ∷ []) }
         ensures cause { CountsFaults (L.faults link.old) (L.faults link.new) (has_link_failed result) }
+        ensures fault { IfLink result (AddsFault (L.events link.old) (L.events link.new)) }
         ensures plan { L.plan link.new ≡ L.plan link.old }
         ensures errors { IfErr result IsLinkError }
     {
@@ -282,6 +285,7 @@ impl Pair {
         ensures ticking { IfOk result (λ _. KeepsTicking now.0 self.old self.new) }
         ensures moments { L.moments link.new ≡ L.moments link.old }
         ensures cause { CountsFaults (L.faults link.old) (L.faults link.new) (has_link_failed result) }
+        ensures fault { IfLink result (AddsFault (L.events link.old) (L.events link.new)) }
         ensures plan { L.plan link.new ≡ L.plan link.old }
         ensures errors { IfErr result IsLinkError }
     {
@@ -341,6 +345,7 @@ impl Pair {
         ensures ticking { IfOk result (λ _. KeepsTicking now.0 self.old self.new) }
         ensures moments { L.moments link.new ≡ L.moments link.old }
         ensures cause { CountsFaults (L.faults link.old) (L.faults link.new) (has_link_failed result) }
+        ensures fault { IfLink result (AddsFault (L.events link.old) (L.events link.new)) }
         ensures plan { L.plan link.new ≡ L.plan link.old }
         ensures errors { IfErr result IsLinkError }
     {
@@ -403,14 +408,16 @@ fn serve_at<V: Service>(
 fn conn_config(config: &Config) -> ConnConfig
     ensures { result ≡ conn_config config.now }
 {
+    let limits = StreamLimits {
+        receive_window: config.receive_window,
+        stream_window: config.stream_window,
+        send_window: config.send_window,
+        max_bidi: config.max_bidi,
+        max_uni: config.max_uni,
+    };
     ConnConfig {
-        limits: StreamLimits {
-            receive_window: config.receive_window,
-            stream_window: config.stream_window,
-            send_window: config.send_window,
-            max_bidi: config.max_bidi,
-            max_uni: config.max_uni,
-        },
+        limits,
+        peer: first_limits(limits),
         idle: config.idle,
         initial_rtt: config.initial_rtt,
         initial_window: config.initial_window,

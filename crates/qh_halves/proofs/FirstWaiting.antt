@@ -7,6 +7,7 @@ use Rattle.qh_half.specs.Send.{PlainSend, Waits}
 use Rattle.qh_halves.specs.SendHalves.{PlainSendHalves, send_at, half_in, half_priority, entry_of, AreSendHalves, NoneWaits, IsFirstToSend, IsNextToSend, IsSentNext, IsStep, Gives}
 use Rattle.qh_halves.specs.declared.send_halves.Transmission.{Transmission}
 use Rattle.qh_halves.proofs.PendingOrder.{same_parts}
+use Rattle.qh_halves.proofs.HalfTransmits.{gives_what_waited}
 
 module _ (s : PlainSendHalves) (pending : PlainPending) (max_data data_sent count : ℕ) (ok : AreSendHalves s.halves pending max_data data_sent count) where
   -- none waits if none waits in the queue
@@ -59,3 +60,10 @@ one_waits s id next none = waits_in (send_at s id) refl next
     waits_in : (o : Option PlainSend) → send_at s id ≡ o → IsSomeAnd o (λ h. Waits h × IsFirstToSend s id h) → ⊥
     waits_in None is next = next
     waits_in (Some h) is next = none id h is next.0
+
+-- the first in the queue comes first if it gives something
+pub gave_next : (s : PlainSendHalves) (pending : PlainPending) (max_data data_sent count : ℕ) → AreSendHalves s.halves pending max_data data_sent count
+    → (p : PendingStream) → IsFirst pending p → (new : PlainSendHalves) (room : ℕ) (t : Transmission) → IsStep (Gives room t) s new p.id 0 → IsSentNext s new room p.id t
+gave_next s pending max_data data_sent count ok p first new room t step =
+    let waiting : IsSomeAnd (half_in s.halves p.id) Waits = rw step.was (gives_what_waited t step.half step.next room step.step) in
+    sent_next s new room p.id t (next_is s pending max_data data_sent count ok p first waiting) step

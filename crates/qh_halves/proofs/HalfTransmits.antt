@@ -89,6 +89,14 @@ gives (Stream out) h next room undone (inl piece) = sends_piece h next room out.
 gives (Stream out) h next room undone (inr end) = sends_end h next out.offsets.start out.offsets.end out.fin undone end
 gives (Reset f) h next room undone reset = sends_reset h next f.code reset.0 reset.2
 
+-- something waited in a half that gives something
+pub gives_what_waited : (t : Transmission) (h next : PlainSend) (room : ℕ) → Gives room t h next → Waits h
+gives_what_waited (Stream out) h next room (inl piece) =
+    let bytes = piece.bytes_are in
+    inl (piece.not_reset, λ none. absurd (false≢true (sym (none out.offsets.start) ∙ bytes.queued out.offsets.start (omega arith) bytes.some)))
+gives_what_waited (Stream out) h next room (inr end) = inl (queued_not_reset h.state end.queued, λ none. end.queued)
+gives_what_waited (Reset f) h next room reset = inr (rw reset.0 refl)
+
 -- by what it answers
 pub sends : (r : Result (Option Transmission) Memory) (h next : PlainSend) (room : ℕ) → is_done h ≡ false
     → IfOk r (λ o. o ≡ None → (next ≡ h) × (Waits h → ⊥)) → IfOk r (λ o. IfSome o (λ t. Gives room t h next)) → OnErr r (next ≡ h) → Sends h next

@@ -1,8 +1,10 @@
 -- In a tree of winners the root is served first, and a leaf that is set makes the nodes above it stale one after another.
 use Rattle.std.proofs.Common.{◌≡◌, ◌⊎◌, ℕ, zero, suc, ◌+◌, ◌-◌, ◌*◌, ◌/◌, ◌<◌, ◌≤◌, true, false, List, length, set, drop, Some, None, refl, sym, ap, ap₂, ◌∙◌, arith, inl, inr}
 use Rattle.std.proofs.lemmas.Bool.{cases_Bool, cases_lt, cases_eq, both_ways, false_from_ne_true, false≢true}
+use Rattle.std.specs.Option.{option_eq}
 use Rattle.std.proofs.lemmas.List.{length-set, get_or-set_same, get_or-set_other, get_or-drop, get_or_past, drop-set-lt, drop-set-add, length-drop}
 use Rattle.qh_halves.specs.declared.pending.PendingStream.{PendingStream}
+use Rattle.qh_halves.specs.contracts.pending.PendingStreamPartialEq.TheImpl.{eq-value as same_value}
 use Rattle.qh_halves.specs.Pending.{goes_before}
 use Rattle.qh_halves.specs.Winners.{Leaf, leaf, goes_first, winner, IsWinner, places, leaves_of, IsWon, IsTree}
 use Rattle.qh_halves.proofs.PendingOrder.{is_same, before_trans, before_otherwise, not_before_itself, not_both_before, same_is}
@@ -159,4 +161,21 @@ pub ended : (nodes : List Leaf) (node count : ℕ) (leaves : List Leaf) → IsRi
 ended nodes node count leaves was root = record {
   even = was.even;
   won = λ i above inner. was.won i above inner (λ e. omega (arith, e, above, root));
+}
+
+-- leaves that compare equal are the same
+pub same_leaf : (a b : Leaf) → option_eq same_value.it a b ≡ true → a ≡ b
+same_leaf None None e = refl
+same_leaf None (Some q) e = absurd (cc)
+same_leaf (Some p) None e = absurd (cc)
+same_leaf (Some p) (Some q) e = ap (λ (x : PendingStream). Some x) (same_is p q e)
+
+-- the node above had the winner of its children already
+pub settled : (nodes : List Leaf) (node up count : ℕ) (leaves : List Leaf) → IsRisen nodes node count leaves → up ≡ node / 2 → IsWon nodes up → IsTree nodes
+settled nodes node up count leaves was up_is here = record {
+  even = was.even;
+  won = λ i above inner. elim (cases_eq i up) [
+    | inl same ↦ rw same here
+    | inr other ↦ was.won i above inner (λ e. other (e ∙ sym up_is))
+  ];
 }

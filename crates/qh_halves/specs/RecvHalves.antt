@@ -127,11 +127,11 @@ is_wanting (Err Memory) = true
 is_wanting other = false
 
 -- nothing waits that a read of the half would give, in the order that its reads have, and in order or not; a half that isn't there has nothing
-abbrev pub WaitsAt : PlainRecvHalves → (id : ℕ) → Type 0
-WaitsAt s id = IfSome (recv_at s id) WaitsForMore
+abbrev pub WaitsForMoreAt : PlainRecvHalves → (id : ℕ) → Type 0
+WaitsForMoreAt s id = IfSome (recv_at s id) WaitsForMore
 
-abbrev pub WaitsInOrderAt : PlainRecvHalves → (id : ℕ) → (ordered : Bool) → Type 0
-WaitsInOrderAt s id ordered = IfSome (recv_at s id) (λ r. WaitsForMore (with_order r ordered))
+abbrev pub WaitsForMoreInOrderAt : PlainRecvHalves → (id : ℕ) → (ordered : Bool) → Type 0
+WaitsForMoreInOrderAt s id ordered = IfSome (recv_at s id) (λ r. WaitsForMore (with_order r ordered))
 
 -- a read that begins, in order or not, and then answers so
 pub record IsBegunRead (max_length : ℕ) (ordered : Bool) (answer : Result (Option Chunk) ReadFault) (old new : PlainRecvHalves) (id : ℕ) : Type 0 where

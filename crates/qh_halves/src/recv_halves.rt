@@ -7,7 +7,7 @@ ghost use Rattle.qh_buffers.specs.declared.send_buffer.Mark.TheVariants.{Sent, A
 ghost use Rattle.qh_half.specs.declared.fault.ReadFault.TheVariants.{Memory as Lacking};
 ghost use Rattle.qh_halves.specs.Limit.{is_due, acked_at, lost_at, owes_value};
 ghost use Rattle.qh_half.specs.Recv.{PlainRecv, new_recv, ingest_fault, is_frame_due, IsFaultOf};
-ghost use Rattle.qh_halves.specs.RecvHalves.{recv_at, recv_half_in, data_limit, IsRecvHalf, IsRecvStep, IsRecvAbsent, ingest_fault_at, IsPieceTaken, IsResetTaken, readable_fault_at, is_closed_at, Reads, Begins, WaitsAt, WaitsInOrderAt, IsBegunRead, is_wanting, Stops, TakesReset, NoneIsDue, GivesControl, IsLimitAcked, IsLimitLost, IsStopAcked, IsStopLost, half_owes_limit, half_owes_stop, half_is_wanted, due_entry, is_credit_due, AreRecvAdded, PlainRecvHalves, IsSettled, IsHalfWritten, IsNoneDue};
+ghost use Rattle.qh_halves.specs.RecvHalves.{recv_at, recv_half_in, data_limit, IsRecvHalf, IsRecvStep, IsRecvAbsent, ingest_fault_at, IsPieceTaken, IsResetTaken, readable_fault_at, is_closed_at, Reads, Begins, WaitsForMoreAt, WaitsForMoreInOrderAt, IsBegunRead, is_wanting, Stops, TakesReset, NoneIsDue, GivesControl, IsLimitAcked, IsLimitLost, IsStopAcked, IsStopLost, half_owes_limit, half_owes_stop, half_is_wanted, due_entry, is_credit_due, AreRecvAdded, PlainRecvHalves, IsSettled, IsHalfWritten, IsNoneDue};
 ghost use Rattle.qh_halves.specs.Counts.{is_in_range};
 ghost use Rattle.qh_halves.specs.Pending.{has_room};
 
@@ -263,7 +263,7 @@ impl RecvHalves {
         requires { readable_fault_at self.old id ordered ≡ None }
         ensures answer { IsBegunRead max_length (ordered || is_wanting result) result self.old self.new id }
         ensures memory { result ≡ Err Lacking → self.new ≡ self.old }
-        ensures lacks { result ≡ Err Lacking → WaitsInOrderAt self.old id ordered → ⊥ }
+        ensures lacks { result ≡ Err Lacking → WaitsForMoreInOrderAt self.old id ordered → ⊥ }
     {
         let Some(half) = self.halves.get_mut(&id) else {
             return Err(ReadFault::Blocked);
@@ -296,7 +296,7 @@ impl RecvHalves {
     pub fn next(&mut self, id: u64, max_length: usize) -> Result<Option<Chunk>, ReadFault>
         requires { is_closed_at self.old id ≡ false }
         ensures answer { IsRecvStep (Reads max_length result) self.old self.new id 0 }
-        ensures lacks { result ≡ Err Lacking → WaitsAt self.old id → ⊥ }
+        ensures lacks { result ≡ Err Lacking → WaitsForMoreAt self.old id → ⊥ }
     {
         let Some(half) = self.halves.get_mut(&id) else {
             return Err(ReadFault::Blocked);

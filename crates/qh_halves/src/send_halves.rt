@@ -404,6 +404,28 @@ impl SendHalves {
         ensures err { OnErr result (self.new ≡ self.old) }
         ensures spans { KeepsSpans self.old self.new }
     {
+        let Some(first) = self.pending.first() else {
+            return Ok(None);
+        };
+        match self.transmit(first.id, max_len) {
+            Ok(Some(transmission)) => Ok(Some((first.id, transmission))),
+            Ok(None) => self.poll_waiting(max_len),
+            Err(_) => self.poll_waiting(max_len),
+        }
+    }
+
+    // The same, if streams in which nothing waits may stand first in the queue. After want of memory it asks for it once more, of
+    // a stream in which something waits.
+    fn poll_waiting(&mut self, max_len: usize) -> Result<Option<(u64, Transmission)>, Memory>
+        requires { 0 < max_len }
+        ensures none { IfOk result (λ o. o ≡ None → (self.new ≡ self.old) × NoneWaits self.old) }
+        ensures some { IfOk result (λ o. IfSome o (λ t. IsSentNext self.old self.new max_len t.0 t.1)) }
+        ensures is_out { IfOk result (λ o. IfSome o (λ t. IsOutNow self.new t.0 t.1)) }
+        ensures bound { IfOk result (λ o. IfSome o (λ t. HasForm t.1)) }
+        ensures waits { OnErr result (NoneWaits self.old → ⊥) }
+        ensures err { OnErr result (self.new ≡ self.old) }
+        ensures spans { KeepsSpans self.old self.new }
+    {
         let Some(id) = self.first_waiting() else {
             return Ok(None);
         };
@@ -428,7 +450,7 @@ impl SendHalves {
         None
     }
 
-    // What a stream sends next.
+    // What a stream sends next. If nothing waits in it afterwards it leaves the queue.
     fn transmit(&mut self, id: u64, max_len: usize) -> Result<Option<Transmission>, Memory>
         requires room { 0 < max_len }
         ensures none { IfOk result (λ o. o ≡ None → (self.new ≡ self.old) × IfSome (send_at self.old id) (λ h. Waits h → ⊥)) }
@@ -441,7 +463,11 @@ impl SendHalves {
         let Some(half) = self.halves.get_mut(&id) else {
             return Ok(None);
         };
-        hand_out(half, max_len)
+        let given = hand_out(half, max_len);
+        if !half.waits() {
+            self.pending.remove(id);
+        }
+        given
     }
 
     /// Appends the bytes of a frame that `poll_transmit` just gave.

@@ -9,3 +9,8 @@ pub mod OwingPackets
 pub mod OwingConnections
 pub mod OwingCalls
 pub mod WhatIsOwed
+pub mod OwingMade
+pub mod LedgerNext
+pub mod LedgerStreams
+pub mod LedgerCalls
+pub mod LedgerNumbers

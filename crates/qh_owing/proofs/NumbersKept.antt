@@ -3,13 +3,13 @@ use Rattle.std.proofs.Common.{◌≡◌, ℕ, ◌-◌, nat_lt, Bool, true, false
 use Rattle.std.specs.Prelude.{MatchBool}
 use Rattle.qh_base.specs.declared.connection_error.ConnectionError.{ConnectionError}
 use Rattle.qh_base.specs.declared.connection_error.ConnectionError.TheVariants.{Memory}
-use Rattle.qh_conn.specs.Follows.{Follows}
-use Rattle.qh_conn.specs.Receiving.{AreFramesTaken}
-use Rattle.qh_conn.specs.Receiving.AreFramesTaken.{none as none_taken, more as more_taken, closed as closed_by, refused as refused_at}
-use Rattle.qh_conn.specs.Timers.{AreLostByAge, IsProbed}
-use Rattle.qh_conn.specs.Timers.AreLostByAge.{due as due_lost, not_yet as none_lost}
-use Rattle.qh_conn.specs.Timers.IsProbed.{due as due_probe, not_yet as no_probe}
-use Rattle.qh_conn.specs.declared.inner.Inner.{Inner}
+use Rattle.qh_core.specs.Follows.{Follows}
+use Rattle.qh_core.specs.Receiving.{AreFramesTaken}
+use Rattle.qh_core.specs.Receiving.AreFramesTaken.{none as none_taken, more as more_taken, closed as closed_by, refused as refused_at}
+use Rattle.qh_core.specs.Timers.{AreLostByAge, IsProbed}
+use Rattle.qh_core.specs.Timers.AreLostByAge.{due as due_lost, not_yet as none_lost}
+use Rattle.qh_core.specs.Timers.IsProbed.{due as due_probe, not_yet as no_probe}
+use Rattle.qh_core.specs.declared.inner.Inner.{Inner}
 use Rattle.qh_frame.specs.declared.frame.Frame.{Frame}
 use Rattle.qh_loss.specs.declared.probe.Probe.{Probe}
 use Rattle.qh_loss.specs.declared.probe.Probe.TheVariants as probe

@@ -5,12 +5,12 @@ use Rattle.std.specs.List.{All}
 use Rattle.std.proofs.lemmas.Bool.{cases_Bool, eqb-true}
 use Rattle.std.proofs.lemmas.List.Elements.{All-head, All-tail}
 use Rattle.qh_base.specs.declared.connection_error.ConnectionError.{ConnectionError}
-use Rattle.qh_conn.specs.Receiving.{AreFramesTaken}
-use Rattle.qh_conn.specs.Receiving.AreFramesTaken.{none as none_taken, more as more_taken, closed as closed_by, refused as refused_at}
-use Rattle.qh_conn.specs.Timers.{AreLostByAge, IsProbed}
-use Rattle.qh_conn.specs.Timers.AreLostByAge.{due as due_lost, not_yet as none_lost}
-use Rattle.qh_conn.specs.Timers.IsProbed.{due as due_probe, not_yet as no_probe}
-use Rattle.qh_conn.proofs.PacketsOut.{IsFewer, lost_fewer}
+use Rattle.qh_core.specs.Receiving.{AreFramesTaken}
+use Rattle.qh_core.specs.Receiving.AreFramesTaken.{none as none_taken, more as more_taken, closed as closed_by, refused as refused_at}
+use Rattle.qh_core.specs.Timers.{AreLostByAge, IsProbed}
+use Rattle.qh_core.specs.Timers.AreLostByAge.{due as due_lost, not_yet as none_lost}
+use Rattle.qh_core.specs.Timers.IsProbed.{due as due_probe, not_yet as no_probe}
+use Rattle.qh_core.proofs.PacketsOut.{IsFewer, lost_fewer}
 use Rattle.qh_frame.specs.Plain.{ack_of, plain_of}
 use Rattle.qh_frame.specs.WrittenForm.{ack_values, or_frame, written_form}
 use Rattle.qh_frame.specs.declared.ack.Ack.{Ack}

@@ -6,18 +6,18 @@ use Rattle.std.specs.Prelude.{IfErr, IfOk, IfSome, OnErr, OnOk, Result, Ok, Err}
 use Rattle.qh_base.specs.declared.memory.Memory.{Memory as OutOfMemory}
 use Rattle.qh_base.specs.declared.stream_id.StreamId.{StreamId}
 use Rattle.qh_buffers.specs.declared.assembler.Chunk.{Chunk}
-use Rattle.qh_conn.specs.Event.{IsDrainedTold, IsPolledEvent}
-use Rattle.qh_conn.specs.Event.IsDrainedTold.{drained as drained_told, none as none_told}
-use Rattle.qh_conn.specs.Event.IsPolledEvent.{stream as stream_told, lost as lost_told, none as nothing_told}
-use Rattle.qh_conn.specs.Follows.{write_acts, write_chunks_acts, finish_acts, reset_by_acts, stop_acts, take_acts, received_reset_acts}
-use Rattle.qh_conn.specs.Inner.{is_open, with_streams}
-use Rattle.qh_conn.specs.Streams.{IsRead, IsReadFault, IsWriteRefused}
-use Rattle.qh_conn.specs.Streams.IsWriteRefused.{closed as closed_to_writes, wanting, refused as refused_write}
-use Rattle.qh_conn.specs.declared.event.EndpointEvent.{EndpointEvent}
-use Rattle.qh_conn.specs.declared.event.Event.{Event}
-use Rattle.qh_conn.specs.declared.fault.TakeFault.{TakeFault}
-use Rattle.qh_conn.specs.declared.fault.TakeFault.TheVariants.{Readable, Read}
-use Rattle.qh_conn.specs.declared.inner.Inner.{Inner}
+use Rattle.qh_core.specs.Event.{IsDrainedTold, IsPolledEvent}
+use Rattle.qh_core.specs.Event.IsDrainedTold.{drained as drained_told, none as none_told}
+use Rattle.qh_core.specs.Event.IsPolledEvent.{stream as stream_told, lost as lost_told, none as nothing_told}
+use Rattle.qh_core.specs.Follows.{write_acts, write_chunks_acts, finish_acts, reset_by_acts, stop_acts, take_acts, received_reset_acts}
+use Rattle.qh_core.specs.Inner.{is_open, with_streams}
+use Rattle.qh_core.specs.Streams.{IsRead, IsReadFault, IsWriteRefused}
+use Rattle.qh_core.specs.Streams.IsWriteRefused.{closed as closed_to_writes, wanting, refused as refused_write}
+use Rattle.qh_core.specs.declared.event.EndpointEvent.{EndpointEvent}
+use Rattle.qh_core.specs.declared.event.Event.{Event}
+use Rattle.qh_core.specs.declared.fault.TakeFault.{TakeFault}
+use Rattle.qh_core.specs.declared.fault.TakeFault.TheVariants.{Readable, Read}
+use Rattle.qh_core.specs.declared.inner.Inner.{Inner}
 use Rattle.qh_half.specs.declared.fault.ClosedStream.{ClosedStream}
 use Rattle.qh_half.specs.declared.fault.FinishFault.{FinishFault}
 use Rattle.qh_half.specs.declared.fault.ReadFault.{ReadFault}
@@ -166,17 +166,17 @@ module _ {S : Type 0} (accepts : AcceptsTag) where
   quiet_call : (old new : Inner S) (s : PlainStreams) (t : List Act) → new ≡ with_streams old s → IsBeside old.space.streams s → Owes accepts old t → Owes accepts new t
   quiet_call old new s t e b o = subst (λ (c : Inner S). Owes accepts c t) (sym e) (without_more accepts (with_streams old s) t (silent old s t [] no_acts b o))
 
-  kept_call : (old new : Inner S) (t : List Act) → new ≡ old → Owes accepts old t → Owes accepts new t
+  pub kept_call : (old new : Inner S) (t : List Act) → new ≡ old → Owes accepts old t → Owes accepts new t
   kept_call old new t e o = subst (λ (c : Inner S). Owes accepts c t) (sym e) o
 
   -- ---- writers
 
-  refused : (id : ℕ) (e : WriteFault) (old new : Inner S) (t : List Act) → IsWriteRefused id e old new → Owes accepts old t → Owes accepts new t
+  pub refused : (id : ℕ) (e : WriteFault) (old new : Inner S) (t : List Act) → IsWriteRefused id e old new → Owes accepts old t → Owes accepts new t
   refused id e old new t (closed_to_writes shut is same) o = kept_call old new t same o
   refused id e old new t (wanting is _ _ same) o = kept_call old new t same o
   refused id e old new t (refused_write up is with) o = quiet_call old new _ t with (blocked_beside old.space.streams id e) o
 
-  wrote_call : (id taken : ℕ) (bytes : List ℕ) (old new : Inner S) (t : List Act) → IsStep (Takes bytes) old.space.streams.send new.space.streams.send id taken
+  pub wrote_call : (id taken : ℕ) (bytes : List ℕ) (old new : Inner S) (t : List Act) → IsStep (Takes bytes) old.space.streams.send new.space.streams.send id taken
       → new ≡ with_streams old (record old.space.streams { send = new.space.streams.send }) → Owes accepts old t → Owes accepts new (t ++ Wrote id bytes ∷ [])
   wrote_call id taken bytes old new t step e o =
       let s : PlainStreams = record old.space.streams { send = new.space.streams.send } in

@@ -9,21 +9,21 @@ use Rattle.qh_base.specs.declared.memory.Memory.{Memory as OutOfMemory}
 use Rattle.qh_base.specs.declared.path.Transmit.{Transmit}
 use Rattle.qh_base.specs.declared.time.Moment.{Moment}
 use Rattle.qh_base.specs.declared.transport_error.TransportError.{TransportError}
-use Rattle.qh_conn.proofs.Ends.{ended_with, goes_on_open}
-use Rattle.qh_conn.proofs.ExpectedNumbers.{expected_of}
-use Rattle.qh_conn.specs.Follows.{event_acts, transmit_acts}
-use Rattle.qh_conn.specs.Inner.{IsFailedBy, IsSameEnd, is_open, with_space}
-use Rattle.qh_conn.specs.Receiving.{AreFramesTaken, GoesOnWith, IsAccepted, IsClosedWith, IsDatagramTaken, IsEventTaken, IsFaulted, IsNewTo, IsOldTo, IsOpenedBy, IsPacketHandled, IsPacketTaken, received}
-use Rattle.qh_conn.specs.Receiving.IsDatagramTaken.{dropped as dropped_datagram, handled as handled_datagram, told_again, closed_too, draining as draining_datagram, drained as drained_datagram}
-use Rattle.qh_conn.specs.Receiving.IsPacketHandled.{repeated, empty, faulty, unnoted, taken as taken_packet}
-use Rattle.qh_conn.specs.Sending.{AreFramesMade, IsDatagramMade, NothingIsSent, datagram_of, overhead}
-use Rattle.qh_conn.specs.Sending.AreFramesMade.{packet as packet_frames, close as close_frames}
-use Rattle.qh_conn.specs.Timers.{AreLostByAge, IsProbed, IsTimedOut, restarted}
-use Rattle.qh_conn.specs.Timers.IsTimedOut.{idle as idle_out, recovery as recovery_out, closed as closed_out, draining as draining_out, waits as waits_out, drained as drained_out}
-use Rattle.qh_conn.specs.declared.event.ConnectionEvent.{ConnectionEvent}
-use Rattle.qh_conn.specs.declared.event.ConnectionEvent.TheVariants.{Datagram, Close}
-use Rattle.qh_conn.specs.declared.inner.Inner.{Inner}
-use Rattle.qh_conn.specs.declared.state.Close.{Close as CloseReason}
+use Rattle.qh_core.proofs.Ends.{ended_with, goes_on_open}
+use Rattle.qh_core.proofs.ExpectedNumbers.{expected_of}
+use Rattle.qh_core.specs.Follows.{event_acts, transmit_acts}
+use Rattle.qh_core.specs.Inner.{IsFailedBy, IsSameEnd, is_open, with_space}
+use Rattle.qh_core.specs.Receiving.{AreFramesTaken, GoesOnWith, IsAccepted, IsClosedWith, IsDatagramTaken, IsEventTaken, IsFaulted, IsNewTo, IsOldTo, IsOpenedBy, IsPacketHandled, IsPacketTaken, received}
+use Rattle.qh_core.specs.Receiving.IsDatagramTaken.{dropped as dropped_datagram, handled as handled_datagram, told_again, closed_too, draining as draining_datagram, drained as drained_datagram}
+use Rattle.qh_core.specs.Receiving.IsPacketHandled.{repeated, empty, faulty, unnoted, taken as taken_packet}
+use Rattle.qh_core.specs.Sending.{AreFramesMade, IsDatagramMade, NothingIsSent, datagram_of, overhead}
+use Rattle.qh_core.specs.Sending.AreFramesMade.{packet as packet_frames, close as close_frames}
+use Rattle.qh_core.specs.Timers.{AreLostByAge, IsProbed, IsTimedOut, restarted}
+use Rattle.qh_core.specs.Timers.IsTimedOut.{idle as idle_out, recovery as recovery_out, closed as closed_out, draining as draining_out, waits as waits_out, drained as drained_out}
+use Rattle.qh_core.specs.declared.event.ConnectionEvent.{ConnectionEvent}
+use Rattle.qh_core.specs.declared.event.ConnectionEvent.TheVariants.{Datagram, Close}
+use Rattle.qh_core.specs.declared.inner.Inner.{Inner}
+use Rattle.qh_core.specs.declared.state.Close.{Close as CloseReason}
 use Rattle.qh_frame.specs.declared.frame.Frame.{Frame}
 use Rattle.qh_owing.proofs.InPackets.{kept_in}
 use Rattle.qh_owing.proofs.KeptStreams.{Reads, again, handed, reads_nothing}
@@ -259,11 +259,11 @@ module _ {S : Type 0} (accepts : AcceptsTag) where
   pub failed : (old new : Inner S) (t u : List Act) → IsFailedBy old new → Owes accepts old t → Owes accepts new (t ++ u)
   failed old new t u f o = subst (λ (n : Inner S). Owes accepts n (t ++ u)) (sym f.rest_is) (shut old _ t u refl refl refl refl o)
 
-  event_taken : (event : ConnectionEvent) (old new : Inner S) (t : List Act) → NamesTags accepts → IsEventTaken accepts event old new → Owes accepts old t → Owes accepts new (t ++ event_acts event)
+  pub event_taken : (event : ConnectionEvent) (old new : Inner S) (t : List Act) → NamesTags accepts → IsEventTaken accepts event old new → Owes accepts old t → Owes accepts new (t ++ event_acts event)
   event_taken (Datagram now remote payload) old new t names taken o = datagram_taken names now payload _ new t taken (counted_owes old _ t o)
   event_taken (Close now code reason) old new t names taken o = nothing_more new t (maybe_closed (is_open old.state) now _ _ old new t taken o)
 
-  event_failed : (event : ConnectionEvent) (old new : Inner S) (t : List Act) → IsFailedBy (received event old) new → Owes accepts old t → Owes accepts new (t ++ event_acts event)
+  pub event_failed : (event : ConnectionEvent) (old new : Inner S) (t : List Act) → IsFailedBy (received event old) new → Owes accepts old t → Owes accepts new (t ++ event_acts event)
   event_failed (Datagram now remote payload) old new t f o = failed _ new t (HandedIn payload ∷ []) f (counted_owes old _ t o)
   event_failed (Close now code reason) old new t f o = failed old new t [] f o
 
@@ -301,14 +301,14 @@ module _ {S : Type 0} (accepts : AcceptsTag) where
   frames_made sealed now old new header bytes t makes below (close_frames reason until is frames_are e) o =
       subst (λ (c : Inner S). Owes accepts c (t ++ HandedOut (datagram_of sealed old bytes) ∷ [])) (sym e) (shut old _ t (HandedOut (datagram_of sealed old bytes) ∷ []) refl refl refl refl o)
 
-  datagram_made : (sealed : Side → Space → ℕ → List ℕ) (now : Moment) (old new : Inner S) (before after : List ℕ) (transmit : Transmit) (t : List Act) → MakesTags sealed
+  pub datagram_made : (sealed : Side → Space → ℕ → List ℕ) (now : Moment) (old new : Inner S) (before after : List ℕ) (transmit : Transmit) (t : List Act) → MakesTags sealed
       → IsDatagramMade sealed now old new before after transmit → Owes accepts old t → Owes accepts new (t ++ HandedOut (drop (length before) after) ∷ [])
   datagram_made sealed now old new before after transmit t makes m o =
       let d = datagram_of sealed old m.bytes.frames in
       let behind : drop (length before) after ≡ d = ap (λ (z : List ℕ). drop (length before) z) m.bytes.after_is ∙ drop-append_seam before d in
       rw behind (frames_made sealed now old new (header_bytes old.remote_id old.space.next_number) m.bytes.frames t makes m.bytes.number m.bytes.made o)
 
-  nothing_sent : (old new : Inner S) (t : List Act) → NothingIsSent old new → Owes accepts old t → Owes accepts new t
+  pub nothing_sent : (old new : Inner S) (t : List Act) → NothingIsSent old new → Owes accepts old t → Owes accepts new t
   nothing_sent old new t n o = subst (λ (c : Inner S). Owes accepts c t) (sym n.0) o
 
   pub transmit_owes : (sealed : Side → Space → ℕ → List ℕ) (now : Moment) (before after : List ℕ) (answer : Result (Option Transmit) OutOfMemory) (old new : Inner S) (t : List Act) → MakesTags sealed

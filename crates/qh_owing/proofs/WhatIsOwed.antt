@@ -4,15 +4,15 @@ use Rattle.std.proofs.lemmas.Bool.{both_ways, false≢true, lt-ltb}
 use Rattle.qh_buffers.specs.SendBuffer.{PlainSendBuffer, is_queued, mark_at, taken_to, waits}
 use Rattle.qh_buffers.specs.declared.send_buffer.Mark.{Mark}
 use Rattle.qh_buffers.specs.declared.send_buffer.Mark.TheVariants.{Sent, Queued, Acked}
-use Rattle.qh_conn.specs.Follows.{Follows}
-use Rattle.qh_conn.specs.Inner.{IsNewSpace, is_open}
-use Rattle.qh_conn.specs.declared.inner.Inner.{Inner}
+use Rattle.qh_core.specs.Follows.{Follows}
+use Rattle.qh_core.specs.Inner.{IsNewSpace, is_open}
+use Rattle.qh_core.specs.declared.inner.Inner.{Inner}
 use Rattle.qh_half.specs.Send.{PlainSend, is_end_acked, is_end_queued, is_finished, is_reset}
 use Rattle.qh_half.specs.declared.send.SendState.{SendState}
 use Rattle.qh_half.specs.declared.send.SendState.TheVariants.{Ready, DataSent, ResetSent}
 use Rattle.qh_halves.specs.SendHalves.{half_in, send_at}
 use Rattle.qh_owing.proofs.NumbersKept.{none_accepted}
-use Rattle.qh_owing.specs.Owing.{AcceptsTag, AreInPackets, AreOutCarried, IsByteOut, IsEndOut, IsFrameCarried, IsInPacket, IsByteKept, IsByteToCome, IsEndKept, IsEndToCome, KeepsStream, KeepsWhatIsOwed, Owes}
+use Rattle.qh_owing.specs.Owing.{AcceptsTag, AreInPackets, AreOutCarried, IsByteOut, IsEndOut, IsFrameCarried, IsInPacket, IsByteKept, IsByteToCome, IsConfirmed, IsEndKept, IsEndToCome, KeepsStream, KeepsWhatIsOwed, Owes}
 use Rattle.qh_owing.specs.Owing.AreAccepted.{none as none_at_first}
 use Rattle.qh_recovery.specs.SentPackets.{packet_at}
 use Rattle.qh_recovery.specs.declared.sent_packets.SentPacket.{SentPacket}
@@ -112,6 +112,18 @@ module _ (Byte : ℕ → Type 0) (End : Type 0) (s : DataSpace) (stream count : 
         waits_or_out = elim (end_waits_or_sent h.state (keeps.half.end live ∙ was) kept) [ inl queued ↦ inl queued | inr sent ↦ inr (in_end (owed.ends stream h is sent)) ];
       }
 
+-- ---- a half that is gone
+
+none_kept : (X : Type 0) (o : Option PlainSend) (k : ℕ) → o ≡ None → X ⊎ IsByteKept o k → X
+none_kept X None k e (inl x) = x
+none_kept X None k e (inr there) = absurd there
+none_kept X (Some h) k e is = absurd (cc)
+
+none_kept_end : (X : Type 0) (o : Option PlainSend) → o ≡ None → X ⊎ IsEndKept o → X
+none_kept_end X None e (inl x) = x
+none_kept_end X None e (inr there) = absurd there
+none_kept_end X (Some h) e is = absurd (cc)
+
 module _ {S : Type 0} (accepts : AcceptsTag) where
   pub fresh : (c : Inner S) → IsNewSpace c.config c.side c.space → c.error ≡ None → Follows c [] → Owes accepts c []
   unfolding Owes
@@ -162,4 +174,17 @@ module _ {S : Type 0} (accepts : AcceptsTag) where
               | inr kept ↦ end_to_come _ _ c.space stream (length (written t stream)) (finished t stream) (was_reset t stream) (length c.remote_id) c.side t p.in_packets p.out w.not_reset (send_at c.space.streams.send stream) refl keeps w.was_finished kept
             ];
         carried = p.out;
+      }
+
+  -- a finished stream that wasn't reset, whose half is gone, is confirmed
+  pub confirmed : (c : Inner S) (t : List Act) (stream : ℕ) → is_open c.state ≡ true → Owes accepts c t → finished t stream ≡ true → was_reset t stream ≡ false
+      → send_at c.space.streams.send stream ≡ None → IsConfirmed accepts c t stream
+  unfolding Owes
+  confirmed c t stream up (accepted, o) ended kept gone =
+      let s = (o.space up).kept.streams stream in
+      record {
+        accepted = accepted;
+        come = o.come;
+        bytes = λ k below. none_kept _ (send_at c.space.streams.send stream) k gone (s.bytes kept k below);
+        end = none_kept_end _ (send_at c.space.streams.send stream) gone (s.end kept ended);
       }

@@ -3,8 +3,8 @@
 use Rattle.std.specs.Prelude.{◌≡◌, ◌⊎◌, ℕ, ◌+◌, ◌^◌, ◌<◌, ◌≤◌, Bool, true, false, List, [], ◌∷◌, ◌++◌, length, map, Option, Some, None}
 use Rattle.qh_buffers.specs.SendBuffer.{taken_to, mark_at, is_queued}
 use Rattle.qh_buffers.specs.declared.send_buffer.Mark.TheVariants.{Acked, Sent}
-use Rattle.qh_conn.specs.Inner.{is_open}
-use Rattle.qh_conn.specs.declared.inner.Inner.{Inner}
+use Rattle.qh_core.specs.Inner.{is_open}
+use Rattle.qh_core.specs.declared.inner.Inner.{Inner}
 use Rattle.qh_half.specs.Send.{PlainSend, IsSentAsTaken, is_reset, is_finished, is_end_acked, is_end_queued}
 use Rattle.qh_half.specs.declared.send.Outgoing.{Outgoing}
 use Rattle.qh_half.specs.declared.send.SendState.TheVariants.{DataSent, ResetSent}
@@ -240,6 +240,14 @@ module _ {S : Type 0} (accepts : AcceptsTag) where
     pub bytes : (stream offset byte : ℕ) → IsOwed (length c.remote_id) (handed_out t) accepted c.side t stream offset byte → IsByteToCome (length c.remote_id) c.side t c.space stream offset
     pub ends : (stream : ℕ) → IsEndOwed (length c.remote_id) (handed_out t) accepted c.side t stream → IsEndToCome (length c.remote_id) c.side t c.space stream
     pub carried : AreOutCarried (length c.remote_id) c.side t c.space.sent
+
+  -- All that was written on the stream, and its end, is confirmed: each byte, and the end, was carried by a packet that was handed out
+  -- and that an ACK in an accepted packet covers.
+  pub record IsConfirmed (c : Inner S) (t : List Act) (stream : ℕ) : Type 0 where
+    pub accepted : List Packet
+    pub come : (p : Packet) → In p accepted → WasAccepted accepts c.local_id (handed_in t) (other c.side) p
+    pub bytes : (offset : ℕ) → offset < length (written t stream) → IsByteAcknowledged (length c.remote_id) (handed_out t) accepted c.side stream offset
+    pub end : IsEndAcknowledged (length c.remote_id) (handed_out t) accepted c.side stream
 
 -- the connection owes so what was written by then, where its session accepts these tags
 unfoldable pub Owes : {S : Type 0} → AcceptsTag → Inner S → List Act → Type 0

@@ -6,19 +6,20 @@ ghost use Rattle.qh_base.specs.declared.path.Transmit.{Transmit as ATransmit};
 ghost use Rattle.qh_base.specs.declared.stream_id.StreamId.{StreamId as AStreamId};
 ghost use Rattle.qh_base.specs.declared.time.Moment.{Moment as AMoment};
 ghost use Rattle.qh_buffers.specs.declared.assembler.Chunk.{Chunk as AChunk};
-ghost use Rattle.qh_conn.specs.Event.{IsDrainedTold, IsPolledEvent};
-ghost use Rattle.qh_conn.specs.Follows.{Follows, event_acts, transmit_acts, write_acts, write_chunks_acts, finish_acts, reset_by_acts, stop_acts, take_acts, received_reset_acts};
-ghost use Rattle.qh_conn.specs.Inner.{IsFailedBy, IsNewSpace, is_open, with_streams};
-ghost use Rattle.qh_conn.specs.Receiving.{IsClosedWith, IsEventTaken, received};
-ghost use Rattle.qh_conn.specs.Sending.{IsDatagramMade, NothingIsSent};
-ghost use Rattle.qh_conn.specs.Streams.{IsRead, IsReadFault, IsWriteRefused};
-ghost use Rattle.qh_conn.specs.Timers.{IsTimedOut};
-ghost use Rattle.qh_conn.specs.declared.event.ConnectionEvent.{ConnectionEvent as AConnectionEvent};
-ghost use Rattle.qh_conn.specs.declared.event.EndpointEvent.{EndpointEvent as AnEndpointEvent};
-ghost use Rattle.qh_conn.specs.declared.event.Event.{Event as AnEvent};
-ghost use Rattle.qh_conn.specs.declared.fault.TakeFault.{TakeFault as ATakeFault};
-ghost use Rattle.qh_conn.specs.declared.inner.Inner.{Inner as AnInner};
-ghost use Rattle.qh_conn.specs.declared.state.Close.{Close as AClose};
+ghost use Rattle.qh_core.specs.Event.{IsDrainedTold, IsPolledEvent};
+ghost use Rattle.qh_core.specs.Follows.{Follows, event_acts, transmit_acts, write_acts, write_chunks_acts, finish_acts, reset_by_acts, stop_acts, take_acts, received_reset_acts};
+ghost use Rattle.qh_core.specs.Inner.{IsFailedBy, IsNewSpace, is_open, with_streams};
+ghost use Rattle.qh_core.specs.Made.{AcceptsTags, MakesTagsOf, AreMade};
+ghost use Rattle.qh_core.specs.Receiving.{IsClosedWith, IsEventTaken, received};
+ghost use Rattle.qh_core.specs.Sending.{IsDatagramMade, NothingIsSent};
+ghost use Rattle.qh_core.specs.Streams.{IsRead, IsReadFault, IsWriteRefused};
+ghost use Rattle.qh_core.specs.Timers.{IsTimedOut};
+ghost use Rattle.qh_core.specs.declared.event.ConnectionEvent.{ConnectionEvent as AConnectionEvent};
+ghost use Rattle.qh_core.specs.declared.event.EndpointEvent.{EndpointEvent as AnEndpointEvent};
+ghost use Rattle.qh_core.specs.declared.event.Event.{Event as AnEvent};
+ghost use Rattle.qh_core.specs.declared.fault.TakeFault.{TakeFault as ATakeFault};
+ghost use Rattle.qh_core.specs.declared.inner.Inner.{Inner as AnInner};
+ghost use Rattle.qh_core.specs.declared.state.Close.{Close as AClose};
 ghost use Rattle.qh_half.specs.declared.fault.ClosedStream.{ClosedStream as AClosedStream};
 ghost use Rattle.qh_half.specs.declared.fault.FinishFault.{FinishFault as AFinishFault};
 ghost use Rattle.qh_half.specs.declared.fault.WriteFault.{WriteFault as AWriteFault};
@@ -26,11 +27,11 @@ ghost use Rattle.qh_half.specs.declared.send.Written.{Written as AWritten};
 ghost use Rattle.qh_halves.specs.Counts.{other_side};
 ghost use Rattle.qh_halves.specs.RecvHalves.{IsRecvStep, Stops, TakesReset, is_closed_at};
 ghost use Rattle.qh_halves.specs.SendHalves.{send_at, finish_fault_at, is_reset_refused_at, IsStep, Takes, Finishes, IsResetWith, HasPriority};
-ghost use Rattle.qh_owing.specs.Owing.{AcceptsTag, KeepsWhatIsOwed, MakesTags, NamesTags, Owes};
+ghost use Rattle.qh_owing.specs.Owing.{AcceptsTag, IsConfirmed, KeepsWhatIsOwed, MakesTags, NamesTags, Owes};
 ghost use Rattle.qh_packet.specs.Session.{PlainKeys};
 ghost use Rattle.qh_spec.specs.StreamId.{stream_id};
 ghost use Rattle.qh_spec.specs.Tag.{tag_bytes};
-ghost use Rattle.qh_spec.specs.Transcript.{Act};
+ghost use Rattle.qh_spec.specs.Transcript.{Act, finished, was_reset};
 ghost use Rattle.qh_spec.specs.declared.sides.Dir.{Dir as ADir};
 ghost use Rattle.qh_spec.specs.declared.sides.Side.{Side as ASide};
 ghost use Rattle.qh_spec.specs.declared.sides.Space.{Space as ASpace};
@@ -51,6 +52,8 @@ pub fn plain_tags()
 /// be tags.
 pub fn owing<S>()
     ensures owed { (accepts : AcceptsTag) (c : AnInner S) (t : List Act) → is_open c.state ≡ true → Owes accepts c t → KeepsWhatIsOwed accepts c t }
+    ensures confirmed { (accepts : AcceptsTag) (c : AnInner S) (t : List Act) (stream : ℕ) → is_open c.state ≡ true → Owes accepts c t → finished t stream ≡ true → was_reset t stream ≡ false
+        → send_at c.space.streams.send stream ≡ None → IsConfirmed accepts c t stream }
     ensures fresh { (accepts : AcceptsTag) (c : AnInner S) → IsNewSpace c.config c.side c.space → c.error ≡ None → Follows c [] → Owes accepts c [] }
     ensures event { (accepts : AcceptsTag) (event : AConnectionEvent) (result : Result Unit OutOfMemory) (old new : AnInner S) (t : List Act)
         → NamesTags accepts → OnOk result (IsEventTaken accepts event old new) → OnErr result (IsFailedBy (received event old) new)
@@ -113,4 +116,10 @@ pub fn owing<S>()
         → new ≡ with_streams old (record old.space.streams { send = record old.space.streams.send { send_window = bytes } }) → Owes accepts old t → Owes accepts new t }
     ensures set_receive_window { (accepts : AcceptsTag) (bytes : ℕ) (old new : AnInner S) (t : List Act)
         → new ≡ with_streams old (record old.space.streams { recv = record old.space.streams.recv { receive_window = bytes } }) → Owes accepts old t → Owes accepts new t }
+{}
+
+/// So it is over whatever calls are made of a connection whose session's tags are tags.
+pub fn owing_on<S>()
+    ensures { (accepts : AcceptsTags S) (sealed : MakesTagsOf S) (old new : AnInner S) (acts t : List Act) → NamesTags (accepts old.session) → MakesTags (sealed old.session)
+        → AreMade accepts sealed old new acts → Owes (accepts old.session) old t → Owes (accepts old.session) new (t ++ acts) }
 {}

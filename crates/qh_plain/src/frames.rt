@@ -64,8 +64,47 @@ const DATA: u64 = 0;
 /// The type of a HEADERS frame (section 7.2.2).
 const HEADERS: u64 = 1;
 
+/// The type of a CANCEL_PUSH frame (section 7.2.3).
+const CANCEL_PUSH: u64 = 3;
+
+/// The type of a SETTINGS frame (section 7.2.4).
+const SETTINGS: u64 = 4;
+
+/// The type of a PUSH_PROMISE frame (section 7.2.5).
+const PUSH_PROMISE: u64 = 5;
+
+/// The type of a GOAWAY frame (section 7.2.6).
+const GOAWAY: u64 = 7;
+
+/// The type of a MAX_PUSH_ID frame (section 7.2.7).
+const MAX_PUSH_ID: u64 = 13;
+
+/// The type of a PRIORITY frame of HTTP/2 (section 7.2.8).
+const HTTP2_PRIORITY: u64 = 2;
+
+/// The type of a PING frame of HTTP/2.
+const HTTP2_PING: u64 = 6;
+
+/// The type of a WINDOW_UPDATE frame of HTTP/2.
+const HTTP2_WINDOW_UPDATE: u64 = 8;
+
+/// The type of a CONTINUATION frame of HTTP/2.
+const HTTP2_CONTINUATION: u64 = 9;
+
 /// The types to which HTTP/3 gives a meaning (section 7.2), and those to which HTTP/2 gave one (section 7.2.8).
-const KNOWN_KINDS: [u64; 11] = [0, 1, 3, 4, 5, 7, 13, 2, 6, 8, 9];
+const KNOWN_KINDS: [u64; 11] = [
+    DATA,
+    HEADERS,
+    CANCEL_PUSH,
+    SETTINGS,
+    PUSH_PROMISE,
+    GOAWAY,
+    MAX_PUSH_ID,
+    HTTP2_PRIORITY,
+    HTTP2_PING,
+    HTTP2_WINDOW_UPDATE,
+    HTTP2_CONTINUATION,
+];
 
 /// The frames that the bytes are, one after another, or None where the bytes are no frames.
 pub fn frames(alloc: Global, bytes: &[u8]) -> Result<Option<Vec<HttpFrame>>, Memory>

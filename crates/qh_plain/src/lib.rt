@@ -9,3 +9,4 @@ pub mod messages;
 pub mod packets;
 pub mod requests;
 pub mod sections;
+mod types;

@@ -3,9 +3,9 @@ use Rattle.std.proofs.Common.{ℕ, List, [], ◌++◌, drop, Result, Ok, Err, re
 use Rattle.std.proofs.lemmas.Bool.{false≢true}
 use Rattle.std.proofs.lemmas.List.{take-append-drop}
 use Rattle.qh_base.specs.declared.memory.Memory.{Memory as OutOfMemory}
-use Rattle.qh_conduct.specs.Behaves.{Behaves}
-use Rattle.qh_conn.specs.declared.inner.Inner.{Inner}
+use Rattle.qh_core.specs.declared.inner.Inner.{Inner}
 use Rattle.qh_roles.proofs.Acts.{calls_append, none_calls, same_written, same_finished, same_pieces, same_read, same_ended}
+use Rattle.qh_roles.specs.Going.{WentFrom}
 use Rattle.qh_roles.specs.Streams.{Outgoing, Incoming, Acted, IsUntouched, IsUnread, IsWriting, HasWritten, IsWrittenTo, HasRead}
 use Rattle.qh_roles.specs.declared.outgoing.WriteState.{WriteState}
 use Rattle.qh_roles.specs.declared.outgoing.WriteState.TheVariants as writing
@@ -69,28 +69,28 @@ reads_kept t u stream m unread r = record {
 
 -- ---- calls
 
-module _ {S : Type 0} where
+module _ {S : Type 0} (start : Inner S) (before : List Act) where
   -- no call was made
-  pub acted_nothing : (Holds : List Act → Type 0) (c : Inner S) (t : List Act) → Behaves c t → Holds t → Acted Holds c t
+  pub acted_nothing : (Holds : List Act → Type 0) (c : Inner S) (t : List Act) → WentFrom start before c t → Holds t → Acted start before Holds c t
   acted_nothing Holds c t follows holds = record {
     acts = [];
     calls = none_calls;
-    follows = subst (Behaves c) (sym (append-nil t)) follows;
+    follows = subst (WentFrom start before c) (sym (append-nil t)) follows;
     holds = subst Holds (sym (append-nil t)) holds;
   }
 
   -- calls behind calls
-  pub acted_then : (Before After : List Act → Type 0) (mid new : Inner S) (t : List Act) → Acted Before mid t
-      → ((u : List Act) → Behaves mid u → Before u → Acted After new u) → Acted After new t
+  pub acted_then : (Before After : List Act → Type 0) (mid new : Inner S) (t : List Act) → Acted start before Before mid t
+      → ((u : List Act) → WentFrom start before mid u → Before u → Acted start before After new u) → Acted start before After new t
   acted_then Before After mid new t first next =
       let second = next (t ++ first.acts) first.follows first.holds in
       record {
         acts = first.acts ++ second.acts;
         calls = calls_append first.acts second.acts first.calls second.calls;
-        follows = subst (Behaves new) (append_assoc t first.acts second.acts) second.follows;
+        follows = subst (WentFrom start before new) (append_assoc t first.acts second.acts) second.follows;
         holds = subst After (append_assoc t first.acts second.acts) second.holds;
       }
 
   -- what holds may be said in another way
-  pub acted_weaker : (Before After : List Act → Type 0) (new : Inner S) (t : List Act) → ((u : List Act) → Before u → After u) → Acted Before new t → Acted After new t
+  pub acted_weaker : (Before After : List Act → Type 0) (new : Inner S) (t : List Act) → ((u : List Act) → Before u → After u) → Acted start before Before new t → Acted start before After new t
   acted_weaker Before After new t weaker a = record { acts = a.acts; calls = a.calls; follows = a.follows; holds = weaker (t ++ a.acts) a.holds }

@@ -8,15 +8,16 @@ use Rattle.qh_base.specs.declared.connection_error.ConnectionError.TheVariants.{
 use Rattle.qh_base.specs.declared.memory.Memory.{Memory as OutOfMemory}
 use Rattle.qh_base.specs.declared.stream_id.StreamId.{StreamId}
 use Rattle.qh_conduct.specs.Behaves.{Behaves}
-use Rattle.qh_conn.specs.Follows.{Follows}
-use Rattle.qh_conn.specs.Inner.{is_open, with_streams}
-use Rattle.qh_conn.specs.declared.inner.Inner.{Inner}
+use Rattle.qh_core.specs.Follows.{Follows}
+use Rattle.qh_core.specs.Inner.{is_open, with_streams}
+use Rattle.qh_core.specs.declared.inner.Inner.{Inner}
 use Rattle.qh_halves.specs.Counts.{is_bi}
 use Rattle.qh_roles.proofs.Acts.{fresh_append, calls_append, none_calls, fresh_writing}
 use Rattle.qh_roles.proofs.ClientLaws.{asks_kept, answer_kept, asked_kept, advances_as}
 use Rattle.qh_roles.proofs.ClientLists.{in_set, in_set_apart, map_set, of_filtered, distinct_filter, get_set, length_set, answers_kept, none_held, nothing_left}
 use Rattle.qh_roles.specs.Client.{PlainClient, AreAskable, Asking, IsAskedIn, IsClient, SpellsAsked, held}
 use Rattle.qh_roles.specs.ClientSteps.{Advances, AsksOn, Goes, IsAdvanced, with_answer}
+use Rattle.qh_roles.specs.Going.{WentFrom}
 use Rattle.qh_roles.specs.Streams.{IsFresh, IsStirred, Acted}
 use Rattle.qh_roles.specs.declared.client.RequestStream.{RequestStream}
 use Rattle.qh_roles.specs.declared.client.RequestState.{RequestState}
@@ -204,9 +205,9 @@ apart_streams : (k j : ℕ) → (k ≡ j → ⊥) → 4 * k ≡ 4 * j → ⊥
 apart_streams k j apart e = apart (omega (arith, e))
 
 module _ {S : Type 0} where
-  module _ (c : PlainClient) (at : ℕ) (r : RequestStream) (state : RequestState) (answer : Option PlainMessage) (new : Inner S) (t : List Act)
+  module _ (c : PlainClient) (at : ℕ) (r : RequestStream) (state : RequestState) (answer : Option PlainMessage) (new start : Inner S) (before t : List Act)
       (place : slice_get c.streams at ≡ Some r) (below : r.index < c.next) (asking : Asking c t)
-      (a : Advances (λ (u : List Act). IsAskedIn c.requests u r.index state × IfSome answer (λ m. IsResponse m.head × ReadsMessage u (4 * r.index) m)) c.requests r.index new t) where
+      (a : Advances start before (λ (u : List Act). IsAskedIn c.requests u r.index state × IfSome answer (λ m. IsResponse m.head × ReadsMessage u (4 * r.index) m)) c.requests r.index new t) where
     moved_asks : (stream : ℕ) → AsksOn c.requests (t ++ a.acts) stream
     moved_asks stream = elim (cases_eq stream (4 * r.index)) [
       | inl e ↦ subst (AsksOn c.requests (t ++ a.acts)) (sym e) (a.asks (asking.asks (4 * r.index)))
@@ -241,7 +242,7 @@ module _ {S : Type 0} where
     ]
 
     -- what a client does where one of its streams went on
-    pub moved_asking : Acted (Asking (moved c at r.index state answer)) new t
+    pub moved_asking : Acted start before (Asking (moved c at r.index state answer)) new t
     moved_asking = record {
       acts = a.acts;
       calls = a.on.calls;
@@ -266,7 +267,7 @@ module _ {S : Type 0} where
     places = refl;
     kept = λ k m is. (m, is);
     opened = λ h. h;
-    asks = λ t f h a. record { acts = []; calls = none_calls; follows = subst (Behaves end) (sym (append-nil t)) f; holds = subst (Asking c) (sym (append-nil t)) a };
+    asks = λ start before t f h a. record { acts = []; calls = none_calls; follows = subst (WentFrom start before end) (sym (append-nil t)) f; holds = subst (Asking c) (sym (append-nil t)) a };
   }
 
   pub goes_after : (c d e : PlainClient) (old mid new : Inner S) → Goes c old d mid → Goes d mid e new → Goes c old e new
@@ -276,13 +277,13 @@ module _ {S : Type 0} where
     places = second.places ∙ first.places;
     kept = λ k m is. let one = first.kept k m is in second.kept k one.0 one.1;
     opened = λ h. second.opened (first.opened h);
-    asks = λ t f h a.
-        let one = first.asks t f h a in
-        let two = second.asks (t ++ one.acts) one.follows (first.opened h) one.holds in
+    asks = λ start before t f h a.
+        let one = first.asks start before t f h a in
+        let two = second.asks start before (t ++ one.acts) one.follows (first.opened h) one.holds in
         record {
           acts = one.acts ++ two.acts;
           calls = calls_append one.acts two.acts one.calls two.calls;
-          follows = subst (Behaves new) (append_assoc t one.acts two.acts) two.follows;
+          follows = subst (WentFrom start before new) (append_assoc t one.acts two.acts) two.follows;
           holds = subst (Asking e) (append_assoc t one.acts two.acts) two.holds;
         };
   }
@@ -295,7 +296,7 @@ module _ {S : Type 0} where
     places = ap length answers;
     kept = λ k m is. (m, rw answers is);
     opened = λ h. elim h [ inl e ↦ inl e | inr n ↦ inr (n ∙ sym next) ];
-    asks = λ t follows h a. record { acts = []; calls = none_calls; follows = subst (Behaves end) (sym (append-nil t)) follows; holds = subst (Asking d) (sym (append-nil t)) (f t a) };
+    asks = λ start before t follows h a. record { acts = []; calls = none_calls; follows = subst (WentFrom start before end) (sym (append-nil t)) follows; holds = subst (Asking d) (sym (append-nil t)) (f t a) };
   }
 
   pub filter_goes : (c : PlainClient) (p : RequestStream → Bool) (end : Inner S) → Goes c end (record c { streams = filter p c.streams }) end
@@ -304,8 +305,8 @@ module _ {S : Type 0} where
   -- one stream goes on
   pub moved_goes : (c d : PlainClient) (at : ℕ) (r : RequestStream) (state : RequestState) (answer : Option PlainMessage) (old new : Inner S)
       → slice_get c.streams at ≡ Some r → r.index < c.next → d ≡ moved c at r.index state answer → IsStirred old new
-      → ((requests : List PlainMessage) (index : ℕ) (t : List Act) → Behaves old t → IsAskedIn requests t index r.state
-      → Advances (λ (u : List Act). IsAskedIn requests u index state × IfSome answer (λ m. IsResponse m.head × ReadsMessage u (4 * index) m)) requests index new t)
+      → ((requests : List PlainMessage) (index : ℕ) (start : Inner S) (before t : List Act) → WentFrom start before old t → IsAskedIn requests t index r.state
+      → Advances start before (λ (u : List Act). IsAskedIn requests u index state × IfSome answer (λ m. IsResponse m.head × ReadsMessage u (4 * index) m)) requests index new t)
       → Goes c old d new
   moved_goes c d at r state answer old new place below is stirred advances = subst (λ (x : PlainClient). Goes c old x new) (sym is) (record {
     rest = stirred.rest_is;
@@ -316,29 +317,29 @@ module _ {S : Type 0} where
       | inl e ↦ inl (ap (λ (x : Inner S). x.error) stirred.rest_is ∙ e)
       | inr n ↦ inr (stirred.counts.bi_opened ∙ n)
     ];
-    asks = λ t f h a. moved_asking c at r state answer new t place below a (advances c.requests r.index t f (a.streams.each r (in_at c.streams at r place)));
+    asks = λ start before t f h a. moved_asking c at r state answer new start before t place below a (advances c.requests r.index start before t f (a.streams.each r (in_at c.streams at r place)));
   })
 
   -- a stream on which memory lacked is given up
   pub lost_goes : (c d : PlainClient) (at : ℕ) (x r : RequestStream) (result : Result (RequestState × Option PlainMessage) OutOfMemory) (old new : Inner S)
       → slice_get c.streams at ≡ Some x → slice_get c.streams at ≡ Some r → x.index < c.next → d ≡ record c { streams = slice_set c.streams at (record { index = x.index; state = Done }) } → IsStirred old new
-      → ((requests : List PlainMessage) (index : ℕ) (t : List Act) → Behaves old t → IsAskedIn requests t index r.state → Advances (IsAdvanced requests index result) requests index new t) → Goes c old d new
+      → ((requests : List PlainMessage) (index : ℕ) (start : Inner S) (before t : List Act) → WentFrom start before old t → IsAskedIn requests t index r.state → Advances start before (IsAdvanced requests index result) requests index new t) → Goes c old d new
   lost_goes c d at x r result old new place taken below is stirred advances =
       let one : x ≡ r = let some : ◌≡◌ {A = Option RequestStream} (Some x) (Some r) = sym place ∙ taken in cc in
       let index : x.index ≡ r.index = ap index_of one in
       moved_goes c d at r Done None old new taken (omega (arith, below, index)) (is ∙ ap (λ (k : ℕ). moved c at k Done None) index) stirred
-      (λ requests k t f a. advances_as (λ (u : List Act). IsAskedIn requests u k Done × IfSome {T = PlainMessage} None (λ m. IsResponse m.head × ReadsMessage u (4 * k) m)) (IsAdvanced requests k result) requests k new t (λ u h. (tt, tt)) (advances requests k t f a))
+      (λ requests k start before t f a. advances_as start before (λ (u : List Act). IsAskedIn requests u k Done × IfSome {T = PlainMessage} None (λ m. IsResponse m.head × ReadsMessage u (4 * k) m)) (IsAdvanced requests k result) requests k new t (λ u h. (tt, tt)) (advances requests k start before t f a))
 
   -- a stream went on, and its answer is held where it came
   pub kept_goes : (c d : PlainClient) (at : ℕ) (x r : RequestStream) (state : RequestState) (answer : Option PlainMessage) (result : Result (RequestState × Option PlainMessage) OutOfMemory) (old new : Inner S)
       → slice_get c.streams at ≡ Some x → slice_get c.streams at ≡ Some r → x.index < c.next → result ≡ Ok (state, answer) → d ≡ moved c at x.index state answer → IsStirred old new
-      → ((requests : List PlainMessage) (index : ℕ) (t : List Act) → Behaves old t → IsAskedIn requests t index r.state → Advances (IsAdvanced requests index result) requests index new t) → Goes c old d new
+      → ((requests : List PlainMessage) (index : ℕ) (start : Inner S) (before t : List Act) → WentFrom start before old t → IsAskedIn requests t index r.state → Advances start before (IsAdvanced requests index result) requests index new t) → Goes c old d new
   kept_goes c d at x r state answer result old new place taken below ok is stirred advances =
       let one : x ≡ r = let some : ◌≡◌ {A = Option RequestStream} (Some x) (Some r) = sym place ∙ taken in cc in
       let index : x.index ≡ r.index = ap index_of one in
       moved_goes c d at r state answer old new taken (omega (arith, below, index)) (is ∙ ap (λ (k : ℕ). moved c at k state answer) index) stirred
-      (λ requests k t f a. advances_as (λ (u : List Act). IsAskedIn requests u k state × IfSome answer (λ m. IsResponse m.head × ReadsMessage u (4 * k) m)) (IsAdvanced requests k result) requests k new t
-      (λ u h. subst (λ (r : Result (RequestState × Option PlainMessage) OutOfMemory). IsAdvanced requests k r u) ok h) (advances requests k t f a))
+      (λ requests k start before t f a. advances_as start before (λ (u : List Act). IsAskedIn requests u k state × IfSome answer (λ m. IsResponse m.head × ReadsMessage u (4 * k) m)) (IsAdvanced requests k result) requests k new t
+      (λ u h. subst (λ (r : Result (RequestState × Option PlainMessage) OutOfMemory). IsAdvanced requests k r u) ok h) (advances requests k start before t f a))
 
   -- ---- opening a stream
 
@@ -353,7 +354,7 @@ module _ {S : Type 0} where
   -- a stream was opened for the next request
   pub opened_goes : (c d : PlainClient) (old new : Inner S) (id : ℕ) → is_open old.state ≡ true → (is_open old.state ≡ true → old.error ≡ None) → old.side ≡ Client
       → id ≡ stream_id old.space.streams.side Bi old.space.streams.bi.opened → IsOpened old.space.streams new.space.streams id → new ≡ with_streams old new.space.streams
-      → ((t : List Act) → Behaves old t → Behaves new t)
+      → ((start : Inner S) (before t : List Act) → WentFrom start before old t → WentFrom start before new t)
       → d.next ≡ c.next + 1 → d.requests ≡ c.requests → d.answers ≡ c.answers → ((t : List Act) → id ≡ 4 * c.next → Asking c t → Asking d t) → Goes c old d new
   opened_goes c d old new id open_now named side is opened rest follows next requests answers asks =
       let lives : (old.error ≡ Some Memory → ⊥) = λ failed. let none = named open_now in absurd (cc) in
@@ -368,15 +369,15 @@ module _ {S : Type 0} where
               let more = one_more old.space.streams new.space.streams id (subst (λ (k : ℕ). is_bi k ≡ true) (sym is) (bi_id old.space.streams.side Bi old.space.streams.bi.opened)) opened in
               inr (omega (arith, more, n, next))
         ];
-        asks = λ t f h a. elim h [
+        asks = λ start before t f h a. elim h [
           | inl failed ↦ absurd (lives failed)
           | inr n ↦
-              let client = side_of old t f lives ∙ side in
+              let client = side_of old t f.behaves lives ∙ side in
               let id_is : id ≡ 4 * old.space.streams.bi.opened + 2 * 0 + 0 = subst (λ (s : Side). id ≡ stream_id s Bi old.space.streams.bi.opened) client is in
               record {
                 acts = [];
                 calls = none_calls;
-                follows = subst (Behaves new) (sym (append-nil t)) (follows t f);
+                follows = subst (WentFrom start before new) (sym (append-nil t)) (follows start before t f);
                 holds = subst (Asking d) (sym (append-nil t)) (asks t (omega (arith, id_is, n)) a);
               }
         ];
@@ -388,7 +389,7 @@ module _ {S : Type 0} where
       × IsOpened old.space.streams new.space.streams id.0 × (new ≡ with_streams old new.space.streams))
       → (is_open old.state ≡ true → old.error ≡ None) → old.side ≡ Client
       → ((id : ℕ) → id ≡ stream_id old.space.streams.side Bi old.space.streams.bi.opened → IsOpened old.space.streams new.space.streams id → new ≡ with_streams old new.space.streams
-      → (t : List Act) → Behaves old t → Behaves new t)
+      → (start : Inner S) (before t : List Act) → WentFrom start before old t → WentFrom start before new t)
       → d.next ≡ c.next + 1 → (d.requests ≡ c.requests) × (d.answers ≡ c.answers) → ((t : List Act) → stream.0 ≡ 4 * c.next → Asking c t → Asking d t) → Goes c old d new
   open_goes c d old new None stream is some named side follows next same asks = absurd (cc)
   open_goes c d old new (Some id) stream is some named side follows next same asks =

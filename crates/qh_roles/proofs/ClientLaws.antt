@@ -3,11 +3,11 @@ use Rattle.std.proofs.Common.{◌≡◌, ℕ, ◌*◌, true, false, List, [], �
 use Rattle.std.proofs.lemmas.Bool.{both_ways}
 use Rattle.std.proofs.lemmas.List.{take-append-drop}
 use Rattle.qh_base.specs.declared.memory.Memory.{Memory as OutOfMemory}
-use Rattle.qh_conduct.specs.Behaves.{Behaves}
-use Rattle.qh_conn.specs.declared.inner.Inner.{Inner}
+use Rattle.qh_core.specs.declared.inner.Inner.{Inner}
 use Rattle.qh_roles.proofs.Acts.{same_written, same_finished, same_pieces, same_read, same_ended, untouched_append, unread_append, on_append, none_on, writing_kept, reading_kept}
 use Rattle.qh_roles.specs.Client.{Asks, IsAskedIn, SpellsAsked}
 use Rattle.qh_roles.specs.ClientSteps.{Advances, AsksOn, IsAdvanced, IsSent}
+use Rattle.qh_roles.specs.Going.{WentFrom}
 use Rattle.qh_roles.specs.Streams.{Outgoing, Incoming, IsUntouched, IsUnread, IsFresh, AreOn, IsWriting, HasWritten, IsWrittenTo, IsReading, HasRead, IsReadTo, IsStirred, Writes, ReadsOn}
 use Rattle.qh_roles.specs.declared.client.RequestState.{RequestState}
 use Rattle.qh_roles.specs.declared.client.RequestState.TheVariants.{Sending, Receiving, Done}
@@ -115,28 +115,29 @@ module _ {S : Type 0} where
   pub stirred_still : (c : Inner S) → IsStirred c c
   stirred_still c = record { rest_is = refl; counts = record { bi_opened = refl; bi_accepted = refl; uni_opened = refl; uni_accepted = refl } }
 
+module _ {S : Type 0} (start : Inner S) (before : List Act) where
   -- nothing was done
-  pub rests : (Is : List Act → Type 0) (requests : List PlainMessage) (index : ℕ) (c : Inner S) (t : List Act) → Behaves c t → Is t → Advances Is requests index c t
+  pub rests : (Is : List Act → Type 0) (requests : List PlainMessage) (index : ℕ) (c : Inner S) (t : List Act) → WentFrom start before c t → Is t → Advances start before Is requests index c t
   rests Is requests index c t follows is = record {
     acts = [];
     on = none_on (4 * index);
-    follows = subst (Behaves c) (sym (append-nil t)) follows;
+    follows = subst (WentFrom start before c) (sym (append-nil t)) follows;
     asks = λ a. subst (λ (u : List Act). AsksOn requests u (4 * index)) (sym (append-nil t)) a;
     answered = λ m a. subst (λ (u : List Act). ReadsMessage u (4 * index) m) (sym (append-nil t)) a;
     is = subst Is (sym (append-nil t)) is;
   }
 
   -- a state that doesn't send
-  pub left_alone : (requests : List PlainMessage) (index : ℕ) (state : RequestState) (c : Inner S) (t : List Act) → Behaves c t → IsAskedIn requests t index state → Advances (IsSent requests index (Ok state)) requests index c t
+  pub left_alone : (requests : List PlainMessage) (index : ℕ) (state : RequestState) (c : Inner S) (t : List Act) → WentFrom start before c t → IsAskedIn requests t index state → Advances start before (IsSent requests index (Ok state)) requests index c t
   left_alone requests index state c t follows is = rests (IsSent requests index (Ok state)) requests index c t follows is
 
   -- one step behind another
-  pub advances_after : (Is Was : List Act → Type 0) (requests : List PlainMessage) (index : ℕ) (mid new : Inner S) (t : List Act) → (first : Advances Was requests index mid t)
-      → Advances Is requests index new (t ++ first.acts) → Advances Is requests index new t
+  pub advances_after : (Is Was : List Act → Type 0) (requests : List PlainMessage) (index : ℕ) (mid new : Inner S) (t : List Act) → (first : Advances start before Was requests index mid t)
+      → Advances start before Is requests index new (t ++ first.acts) → Advances start before Is requests index new t
   advances_after Is Was requests index mid new t first second = record {
     acts = first.acts ++ second.acts;
     on = on_append (4 * index) first.acts second.acts first.on second.on;
-    follows = subst (Behaves new) (append_assoc t first.acts second.acts) second.follows;
+    follows = subst (WentFrom start before new) (append_assoc t first.acts second.acts) second.follows;
     asks = λ a. subst (λ (u : List Act). AsksOn requests u (4 * index)) (append_assoc t first.acts second.acts) (second.asks (first.asks a));
     answered = λ m a. subst (λ (u : List Act). ReadsMessage u (4 * index) m) (append_assoc t first.acts second.acts) (second.answered m (first.answered m a));
     is = subst Is (append_assoc t first.acts second.acts) second.is;
@@ -144,13 +145,13 @@ module _ {S : Type 0} where
 
   -- the same acts, of which less is said
   pub advances_as : (Is Was : List Act → Type 0) (requests : List PlainMessage) (index : ℕ) (new : Inner S) (t : List Act) → ((u : List Act) → Was u → Is u)
-      → Advances Was requests index new t → Advances Is requests index new t
+      → Advances start before Was requests index new t → Advances start before Is requests index new t
   advances_as Is Was requests index new t less a = record { acts = a.acts; on = a.on; follows = a.follows; asks = a.asks; answered = a.answered; is = less (t ++ a.acts) a.is }
 
   -- a write of a request
   pub write_advances : (Is : List Act → Type 0) (requests : List PlainMessage) (index : ℕ) (result : Result WriteState OutOfMemory) (old o : Outgoing) (new : Inner S) (t : List Act)
-      → IsAskedIn requests t index (Sending old) → (o.stream ≡ old.stream) × (o.bytes ≡ old.bytes) → Writes result o new t
-      → ((u : List Act) → SpellsOf requests index o → IsWrittenTo result u o → IsUnread u (4 * index) → Is u) → Advances Is requests index new t
+      → IsAskedIn requests t index (Sending old) → (o.stream ≡ old.stream) × (o.bytes ≡ old.bytes) → Writes start before result o new t
+      → ((u : List Act) → SpellsOf requests index o → IsWrittenTo result u o → IsUnread u (4 * index) → Is u) → Advances start before Is requests index new t
   write_advances Is requests index result old o new t is same w f =
       let at : o.stream ≡ 4 * index = same.0 ∙ is.0 in
       let s : SpellsAsked requests index o.bytes = subst (SpellsAsked requests index) (sym same.1) is.1 in
@@ -165,7 +166,7 @@ module _ {S : Type 0} where
 
   -- a stream is given up: what was done before stays
   pub given_up_advances : (requests : List PlainMessage) (index stream : ℕ) (new : Inner S) (t acts : List Act) → stream ≡ 4 * index
-      → AreOn stream acts → IsFresh acts stream → Behaves new (t ++ acts) → Advances (IsSent requests index (Ok Done)) requests index new t
+      → AreOn stream acts → IsFresh acts stream → WentFrom start before new (t ++ acts) → Advances start before (IsSent requests index (Ok Done)) requests index new t
   given_up_advances requests index stream new t acts at on fresh follows =
       let still : IsFresh acts (4 * index) = subst (IsFresh acts) at fresh in
       record {
@@ -179,8 +180,8 @@ module _ {S : Type 0} where
 
   -- a read of an answer
   pub read_advances : (Is : List Act → Type 0) (requests : List PlainMessage) (index : ℕ) (result : Result ReadState OutOfMemory) (old i : Incoming) (new : Inner S) (t : List Act)
-      → old.stream ≡ 4 * index → IsReading t old → i.stream ≡ old.stream → ReadsOn result i new t
-      → ((u : List Act) → i.stream ≡ 4 * index → IsReadTo result u i → Is u) → Advances Is requests index new t
+      → old.stream ≡ 4 * index → IsReading t old → i.stream ≡ old.stream → ReadsOn start before result i new t
+      → ((u : List Act) → i.stream ≡ 4 * index → IsReadTo result u i → Is u) → Advances start before Is requests index new t
   read_advances Is requests index result old i new t place is same r f =
       let at : i.stream ≡ 4 * index = same ∙ place in
       let still : IsUntouched r.acts (4 * index) = subst (IsUntouched r.acts) at r.untouched in

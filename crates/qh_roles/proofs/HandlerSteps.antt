@@ -3,9 +3,9 @@ use Rattle.std.proofs.Common.{◌≡◌, ℕ, List, [], ◌++◌, take, drop, Re
 use Rattle.std.proofs.lemmas.List.{take-append-drop}
 use Rattle.std.proofs.lemmas.Bool.{false≢true}
 use Rattle.qh_base.specs.declared.memory.Memory.{Memory as OutOfMemory}
-use Rattle.qh_conduct.specs.Behaves.{Behaves}
-use Rattle.qh_conn.specs.declared.inner.Inner.{Inner}
+use Rattle.qh_core.specs.declared.inner.Inner.{Inner}
 use Rattle.qh_roles.proofs.Acts.{none_on, none_fresh, on_append, unread_append, untouched_append, read_kept, written_to_kept}
+use Rattle.qh_roles.specs.Going.{WentFrom}
 use Rattle.qh_roles.specs.Handling.{IsAnswering, IsServed, IsFreshOn, IsQuiet, Handles, HandlerStep, state_of}
 use Rattle.qh_roles.specs.Server.{IsHandledIn, SpellsResponse, Responds}
 use Rattle.qh_roles.specs.Streams.{Outgoing, Incoming, AreOn, IsFresh, IsUnread, IsUntouched, IsWriting, HasWritten, IsWrittenTo, IsReading, HasRead, Writes, ReadsOn}
@@ -104,12 +104,12 @@ spells_same : (entries : List PlainEntry) (stream : ℕ) (old new : List ℕ) �
 spells_same entries stream old new same s = spells_left entries [] stream new (subst (λ (bytes : List ℕ). SpellsResponse entries stream bytes) (sym same) s)
 
 module _ {S : Type 0} where
-  pub none_quiet : (stream : ℕ) (c : Inner S) (t : List Act) → Behaves c t → IsQuiet stream c t
-  none_quiet stream c t follows = record { acts = []; on = none_on stream; fresh = none_fresh stream; follows = subst (Behaves c) (sym (append-nil t)) follows }
+  pub none_quiet : (stream : ℕ) (c start : Inner S) (done t : List Act) → WentFrom start done c t → IsQuiet start done stream c t
+  none_quiet stream c start done t follows = record { acts = []; on = none_on stream; fresh = none_fresh stream; follows = subst (WentFrom start done c) (sym (append-nil t)) follows }
 
-  pub acted_quiet : (stream : ℕ) (old new : Inner S) → ((t : List Act) → Behaves old t → (acts : List Act) × AreOn stream acts × IsFresh acts stream × Behaves new (t ++ acts))
-      → (t : List Act) → Behaves old t → IsQuiet stream new t
-  acted_quiet stream old new acted t follows = let a = acted t follows in record { acts = a.0; on = a.1; fresh = a.2; follows = a.3 }
+  pub acted_quiet : (stream : ℕ) (old new : Inner S) → ((start : Inner S) (done t : List Act) → WentFrom start done old t → (acts : List Act) × AreOn stream acts × IsFresh acts stream × WentFrom start done new (t ++ acts))
+      → (start : Inner S) (done t : List Act) → WentFrom start done old t → IsQuiet start done stream new t
+  acted_quiet stream old new acted start done t follows = let a = acted start done t follows in record { acts = a.0; on = a.1; fresh = a.2; follows = a.3 }
 
   -- nothing was done
   pub none_handled : (stream : ℕ) (state : HandlerState) (c : Inner S) (recorded : List PlainEntry) → HandlerStep stream state state c c recorded recorded
@@ -117,10 +117,10 @@ module _ {S : Type 0} where
     fresh = [];
     longer = sym (append-nil recorded);
     once = tt;
-    does = λ t entries follows handled. record {
+    does = λ start done t entries follows handled. record {
       acts = [];
       on = none_on stream;
-      follows = subst (Behaves c) (sym (append-nil t)) follows;
+      follows = subst (WentFrom start done c) (sym (append-nil t)) follows;
       reads = inl (none_fresh stream).1;
       writes = inl (none_fresh stream).0;
       each = λ e among. absurd among;
@@ -131,19 +131,19 @@ module _ {S : Type 0} where
   -- ---- reading
 
   -- a call of `read` behind which calls did nothing, with what holds of the stream then
-  read_goes : (stream : ℕ) (r : Result ReadState OutOfMemory) (i new : Incoming) (state : HandlerState) (mid end_after : Inner S) (entries fresh : List PlainEntry) (t : List Act)
-      → i.stream ≡ stream → new.stream ≡ i.stream → IsReading t i → (d : ReadsOn r new mid t) → (q : IsQuiet stream end_after (t ++ d.acts))
+  read_goes : (stream : ℕ) (r : Result ReadState OutOfMemory) (i new : Incoming) (state : HandlerState) (mid end_after : Inner S) (entries fresh : List PlainEntry) (start : Inner S) (done t : List Act)
+      → i.stream ≡ stream → new.stream ≡ i.stream → IsReading t i → (d : ReadsOn start done r new mid t) → (q : IsQuiet start done stream end_after (t ++ d.acts))
       → ((e : PlainEntry) → In e fresh → IsFreshOn stream t (d.acts ++ q.acts) e)
       → (IsUntouched (d.acts ++ q.acts) stream → IsHandledIn (entries ++ fresh) (t ++ (d.acts ++ q.acts)) stream state)
-      → Handles stream state end_after entries fresh t
-  read_goes stream r i new state mid end_after entries fresh t is same was d q each handled =
+      → Handles start done stream state end_after entries fresh t
+  read_goes stream r i new state mid end_after entries fresh start done t is same was d q each handled =
       let on = subst (λ (s : ℕ). AreOn s d.acts) (same ∙ is) d.on in
       let untouched = subst (λ (s : ℕ). IsUntouched d.acts s) (same ∙ is) d.untouched in
       let whole = untouched_append d.acts q.acts stream untouched q.fresh.0 in
       record {
         acts = d.acts ++ q.acts;
         on = on_append stream d.acts q.acts on q.on;
-        follows = subst (Behaves end_after) (append_assoc t d.acts q.acts) q.follows;
+        follows = subst (WentFrom start done end_after) (append_assoc t d.acts q.acts) q.follows;
         reads = inr (ap (ended t) (sym is) ∙ was.endless);
         writes = inl whole;
         each = each;
@@ -152,27 +152,27 @@ module _ {S : Type 0} where
 
   -- the stream is given up, or memory is wanting
   pub read_gone : (stream : ℕ) (r : Result ReadState OutOfMemory) (i new : Incoming) (end_before mid end_after : Inner S) (recorded : List PlainEntry)
-      → new.stream ≡ i.stream → ((t : List Act) → Behaves end_before t → IsReading t i → ReadsOn r new mid t)
-      → ((t : List Act) → Behaves mid t → IsQuiet stream end_after t) → HandlerStep stream (Reading i) Done end_before end_after recorded recorded
+      → new.stream ≡ i.stream → ((start : Inner S) (done t : List Act) → WentFrom start done end_before t → IsReading t i → ReadsOn start done r new mid t)
+      → ((start : Inner S) (done t : List Act) → WentFrom start done mid t → IsQuiet start done stream end_after t) → HandlerStep stream (Reading i) Done end_before end_after recorded recorded
   read_gone stream r i new end_before mid end_after recorded same reads quiet = record {
     fresh = [];
     longer = sym (append-nil recorded);
     once = tt;
-    does = λ t entries follows handled.
-        let d = reads t follows handled.1 in
-        read_goes stream r i new Done mid end_after entries [] t handled.0 same handled.1 d (quiet (t ++ d.acts) d.follows) (λ e among. absurd among) (λ whole. tt);
+    does = λ start done t entries follows handled.
+        let d = reads start done t follows handled.1 in
+        read_goes stream r i new Done mid end_after entries [] start done t handled.0 same handled.1 d (quiet start done (t ++ d.acts) d.follows) (λ e among. absurd among) (λ whole. tt);
   }
 
   -- more is to come
   pub read_blocked : (stream : ℕ) (i new : Incoming) (end_before end_after : Inner S) (recorded : List PlainEntry)
-      → new.stream ≡ i.stream → ((t : List Act) → Behaves end_before t → IsReading t i → ReadsOn (Ok reading.Blocked) new end_after t)
+      → new.stream ≡ i.stream → ((start : Inner S) (done t : List Act) → WentFrom start done end_before t → IsReading t i → ReadsOn start done (Ok reading.Blocked) new end_after t)
       → HandlerStep stream (Reading i) (Reading new) end_before end_after recorded recorded
   read_blocked stream i new end_before end_after recorded same reads = record {
     fresh = [];
     longer = sym (append-nil recorded);
     once = tt;
-    does = λ t entries follows handled.
-        let d = reads t follows handled.1 in
+    does = λ start done t entries follows handled.
+        let d = reads start done t follows handled.1 in
         let untouched = subst (λ (s : ℕ). IsUntouched d.acts s) (same ∙ handled.0) d.untouched in
         record {
           acts = d.acts;
@@ -187,19 +187,19 @@ module _ {S : Type 0} where
 
   -- all came, and it was served, or refused
   pub read_served : (stream : ℕ) (i new : Incoming) (result : Result HandlerState OutOfMemory) (end_before mid end_after : Inner S) (before after : List PlainEntry)
-      → new.stream ≡ i.stream → ((t : List Act) → Behaves end_before t → IsReading t i → ReadsOn (Ok reading.Ended) new mid t)
-      → ((t : List Act) → Behaves mid t → IsQuiet stream end_after t) → IsServed stream new.bytes result before after
+      → new.stream ≡ i.stream → ((start : Inner S) (done t : List Act) → WentFrom start done end_before t → IsReading t i → ReadsOn start done (Ok reading.Ended) new mid t)
+      → ((start : Inner S) (done t : List Act) → WentFrom start done mid t → IsQuiet start done stream end_after t) → IsServed stream new.bytes result before after
       → HandlerStep stream (Reading i) (state_of result) end_before end_after before after
   read_served stream i new result end_before mid end_after before after same reads quiet served = record {
     fresh = served.fresh;
     longer = served.longer;
     once = served.once;
-    does = λ t entries follows handled.
-        let d = reads t follows handled.1 in
-        let q = quiet (t ++ d.acts) d.follows in
+    does = λ start done t entries follows handled.
+        let d = reads start done t follows handled.1 in
+        let q = quiet start done (t ++ d.acts) d.follows in
         let is = same ∙ handled.0 in
         let has = subst (λ (u : List Act). HasRead u new) (append_assoc t d.acts q.acts) (read_kept (t ++ d.acts) q.acts new (subst (λ (s : ℕ). IsUnread q.acts s) (sym is) q.fresh.1) d.is) in
-        read_goes stream (Ok reading.Ended) i new (state_of result) mid end_after entries served.fresh t handled.0 same handled.1 d q
+        read_goes stream (Ok reading.Ended) i new (state_of result) mid end_after entries served.fresh start done t handled.0 same handled.1 d q
         (λ e among. let came = served.each e among in record {
           stream_is = came.stream_is;
           is_request = came.is_request;
@@ -216,18 +216,18 @@ module _ {S : Type 0} where
   -- ---- writing
 
   -- a call of `write` behind which calls did nothing
-  write_goes : (stream : ℕ) (r : Result WriteState OutOfMemory) (new : Outgoing) (state : HandlerState) (mid end_after : Inner S) (entries : List PlainEntry) (t : List Act)
-      → new.stream ≡ stream → SpellsResponse (entries ++ []) stream new.bytes → (w : Writes r new mid t) → (q : IsQuiet stream end_after (t ++ w.acts))
+  write_goes : (stream : ℕ) (r : Result WriteState OutOfMemory) (new : Outgoing) (state : HandlerState) (mid end_after : Inner S) (entries : List PlainEntry) (start : Inner S) (done t : List Act)
+      → new.stream ≡ stream → SpellsResponse (entries ++ []) stream new.bytes → (w : Writes start done r new mid t) → (q : IsQuiet start done stream end_after (t ++ w.acts))
       → (IsWrittenTo r (t ++ (w.acts ++ q.acts)) new → IsHandledIn (entries ++ []) (t ++ (w.acts ++ q.acts)) stream state)
-      → Handles stream state end_after entries [] t
-  write_goes stream r new state mid end_after entries t is spells w q handled =
+      → Handles start done stream state end_after entries [] t
+  write_goes stream r new state mid end_after entries start done t is spells w q handled =
       let on = subst (λ (s : ℕ). AreOn s w.acts) is w.on in
       let unread = subst (λ (s : ℕ). IsUnread w.acts s) is w.unread in
       let to = subst (λ (u : List Act). IsWrittenTo r u new) (append_assoc t w.acts q.acts) (written_to_kept r (t ++ w.acts) q.acts new (subst (λ (s : ℕ). IsUntouched q.acts s) (sym is) q.fresh.0) w.is) in
       record {
         acts = w.acts ++ q.acts;
         on = on_append stream w.acts q.acts on q.on;
-        follows = subst (Behaves end_after) (append_assoc t w.acts q.acts) q.follows;
+        follows = subst (WentFrom start done end_after) (append_assoc t w.acts q.acts) q.follows;
         reads = inl (unread_append w.acts q.acts stream unread q.fresh.1);
         writes = inr (to_responds r (entries ++ []) (t ++ (w.acts ++ q.acts)) stream new is spells to);
         each = λ e among. absurd among;
@@ -236,28 +236,28 @@ module _ {S : Type 0} where
 
   -- all was written, or the stream is given up, or memory is wanting
   pub write_gone : (stream : ℕ) (r : Result WriteState OutOfMemory) (o new : Outgoing) (end_before mid end_after : Inner S) (recorded : List PlainEntry)
-      → (new.stream ≡ o.stream) × (new.bytes ≡ o.bytes) → ((t : List Act) → Behaves end_before t → IsWriting t o → Writes r new mid t)
-      → ((t : List Act) → Behaves mid t → IsQuiet stream end_after t) → HandlerStep stream (Responding o) Done end_before end_after recorded recorded
+      → (new.stream ≡ o.stream) × (new.bytes ≡ o.bytes) → ((start : Inner S) (done t : List Act) → WentFrom start done end_before t → IsWriting t o → Writes start done r new mid t)
+      → ((start : Inner S) (done t : List Act) → WentFrom start done mid t → IsQuiet start done stream end_after t) → HandlerStep stream (Responding o) Done end_before end_after recorded recorded
   write_gone stream r o new end_before mid end_after recorded same writes quiet = record {
     fresh = [];
     longer = sym (append-nil recorded);
     once = tt;
-    does = λ t entries follows handled.
-        let w = writes t follows handled.2 in
-        write_goes stream r new Done mid end_after entries t (same.0 ∙ handled.0) (spells_same entries stream o.bytes new.bytes same.1 handled.1) w (quiet (t ++ w.acts) w.follows) (λ to. tt);
+    does = λ start done t entries follows handled.
+        let w = writes start done t follows handled.2 in
+        write_goes stream r new Done mid end_after entries start done t (same.0 ∙ handled.0) (spells_same entries stream o.bytes new.bytes same.1 handled.1) w (quiet start done (t ++ w.acts) w.follows) (λ to. tt);
   }
 
   -- bytes are left
   pub write_blocked : (stream : ℕ) (o new : Outgoing) (end_before end_after : Inner S) (recorded : List PlainEntry)
-      → (new.stream ≡ o.stream) × (new.bytes ≡ o.bytes) → ((t : List Act) → Behaves end_before t → IsWriting t o → Writes (Ok writing.Blocked) new end_after t)
+      → (new.stream ≡ o.stream) × (new.bytes ≡ o.bytes) → ((start : Inner S) (done t : List Act) → WentFrom start done end_before t → IsWriting t o → Writes start done (Ok writing.Blocked) new end_after t)
       → HandlerStep stream (Responding o) (Responding new) end_before end_after recorded recorded
   write_blocked stream o new end_before end_after recorded same writes = record {
     fresh = [];
     longer = sym (append-nil recorded);
     once = tt;
-    does = λ t entries follows handled.
-        let w = writes t follows handled.2 in
+    does = λ start done t entries follows handled.
+        let w = writes start done t follows handled.2 in
         let is = same.0 ∙ handled.0 in
         let spells = spells_same entries stream o.bytes new.bytes same.1 handled.1 in
-        write_goes stream (Ok writing.Blocked) new (Responding new) end_after end_after entries t is spells w (none_quiet stream end_after (t ++ w.acts) w.follows) (λ to. (is, spells, to));
+        write_goes stream (Ok writing.Blocked) new (Responding new) end_after end_after entries start done t is spells w (none_quiet stream end_after start done (t ++ w.acts) w.follows) (λ to. (is, spells, to));
   }

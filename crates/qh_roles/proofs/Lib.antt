@@ -4,6 +4,7 @@ pub mod Calling
 pub mod ClientGoes
 pub mod ClientLaws
 pub mod ClientLists
+pub mod Going
 pub mod HandlerLists
 pub mod HandlerSteps
 pub mod Reading

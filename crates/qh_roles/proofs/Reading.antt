@@ -3,11 +3,11 @@ use Rattle.std.proofs.Common.{◌≡◌, ℕ, ◌==◌, Bool, true, false, ◌&&
 use Rattle.std.specs.Prelude.{if◌then◌else◌}
 use Rattle.std.proofs.lemmas.Bool.{cases_Bool, eq-eqb}
 use Rattle.qh_buffers.specs.declared.assembler.Chunk.{Chunk}
-use Rattle.qh_conn.specs.Streams.{IsRead, IsReadFault}
-use Rattle.qh_conn.specs.declared.fault.TakeFault.{TakeFault}
-use Rattle.qh_conn.specs.declared.fault.TakeFault.TheVariants.{Readable, Read}
-use Rattle.qh_half.specs.Recv.{PlainRecv, IsReadAnswer, is_closed, is_done, readable_fault, with_order}
-use Rattle.qh_half.specs.Recv.IsReadAnswer.{blocked, reset}
+use Rattle.qh_core.specs.Streams.{IsRead, IsReadFault}
+use Rattle.qh_core.specs.declared.fault.TakeFault.{TakeFault}
+use Rattle.qh_core.specs.declared.fault.TakeFault.TheVariants.{Readable, Read}
+use Rattle.qh_half.specs.Recv.{PlainRecv, IsReadAnswer, is_closed, is_done, readable_fault, reset_code, with_order}
+use Rattle.qh_half.specs.Recv.IsReadAnswer.{blocked, bytes, memory, nothing, reset}
 use Rattle.qh_half.specs.declared.fault.ReadFault.{ReadFault}
 use Rattle.qh_half.specs.declared.fault.ReadFault.TheVariants as waiting
 use Rattle.qh_halves.specs.RecvHalves.{PlainRecvHalves, recv_at, unless_done}
@@ -109,6 +109,18 @@ on r closed = elim (cases_Bool r.is_given) [
 
 -- ---- what the answers tell
 
+-- a half that can be read in order and wasn't reset gives more
+gives_more : (max id : ℕ) (a : Result (Option Chunk) ReadFault) (old new : PlainRecvHalves) (r : Reader max id a old new) → reset_code r.half.state ≡ None → GivesNoMore old id → ⊥
+gives_more max id a old new r none (inl fault) = let no = rw (r.was, r.closed, r.order) at fault in cc
+gives_more max id a old new r none (inr was) = grind arith
+
+not_reset_bytes : (id : ℕ) (c : Chunk) (old new : PlainRecvHalves) (r : Reader 65536 id (Ok (Some c)) old new) → IsReadAnswer (with_order r.half true) r.next 65536 (Ok (Some c)) → reset_code r.half.state ≡ None
+not_reset_bytes id c old new r (bytes _ asked gives) = gives.not_reset
+not_reset_bytes id c old new r (nothing asked same _ empty) = absurd (omega (arith, asked))
+
+not_reset_memory : (id : ℕ) (old new : PlainRecvHalves) (r : Reader 65536 id (Err waiting.Memory) old new) → IsReadAnswer (with_order r.half true) r.next 65536 (Err waiting.Memory) → reset_code r.half.state ≡ None
+not_reset_memory id old new r (memory wants same) = wants.not_reset
+
 gave_bytes : (id : ℕ) (c : Chunk) (old new : PlainRecvHalves) (r : Reader 65536 id (Ok (Some c)) old new) → IsReadAnswer (with_order r.half true) r.next 65536 (Ok (Some c)) → GivesNoMore new id → GivesNoMore old id
 gave_bytes id c old new r step more = grind arith
 
@@ -127,8 +139,10 @@ was_reset id code old new r (reset known some is same) = inr (record { half = r.
 pub taken : (id : ℕ) (r : Result (Option Chunk) TakeFault) (old new : PlainStreams) → IfOk r (λ o. IsRead 65536 true id (Ok o) old new) → IfErr r (λ e. IsReadFault 65536 true id e old new)
     → IsTaken id r old.recv new.recv
 taken id (Ok None) old new ok err = tt
-taken id (Ok (Some c)) old new ok err = let r = reader 65536 id (Ok (Some c)) old new ok in gave_bytes id c old.recv new.recv r r.step
+taken id (Ok (Some c)) old new ok err = let r = reader 65536 id (Ok (Some c)) old new ok in
+    (gives_more 65536 id (Ok (Some c)) old.recv new.recv r (not_reset_bytes id c old.recv new.recv r r.step), gave_bytes id c old.recv new.recv r r.step)
 taken id (Err (Read waiting.Blocked)) old new ok err = let r = reader 65536 id (Err waiting.Blocked) old new err in waits id old.recv new.recv r r.step
 taken id (Err (Read (waiting.Reset code))) old new ok err = let r = reader 65536 id (Err (waiting.Reset code)) old new err in was_reset id code old.recv new.recv r r.step
-taken id (Err (Read waiting.Memory)) old new ok err = tt
+taken id (Err (Read waiting.Memory)) old new ok err = let r = reader 65536 id (Err waiting.Memory) old new err in
+    gives_more 65536 id (Err waiting.Memory) old.recv new.recv r (not_reset_memory id old.recv new.recv r r.step)
 taken id (Err (Readable e)) old new ok err = inl (rw err.0 refl)

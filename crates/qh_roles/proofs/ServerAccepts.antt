@@ -4,13 +4,14 @@ use Rattle.std.proofs.lemmas.List.{map-append}
 use Rattle.std.specs.List.{items_where_true}
 use Rattle.std.specs.Prelude.{map}
 use Rattle.qh_conduct.specs.Behaves.{Behaves}
-use Rattle.qh_conn.specs.Follows.{Follows}
-use Rattle.qh_conn.specs.Inner.{with_streams}
-use Rattle.qh_conn.specs.declared.inner.Inner.{Inner}
+use Rattle.qh_core.specs.Follows.{Follows}
+use Rattle.qh_core.specs.Inner.{with_streams}
+use Rattle.qh_core.specs.declared.inner.Inner.{Inner}
 use Rattle.qh_halves.specs.Counts.{other_side}
 use Rattle.qh_roles.proofs.Acts.{fresh_reading}
 use Rattle.qh_roles.proofs.ServerEntries.{none_answered}
 use Rattle.qh_roles.proofs.ServerSteps.{no_step, quiet_step, steps_after, kept_step}
+use Rattle.qh_roles.specs.Going.{WentFrom}
 use Rattle.qh_roles.specs.Handling.{AcceptStep, Advances, HandlersStep}
 use Rattle.qh_roles.specs.Server.{IsHandledIn, HasAccepted, Serving}
 use Rattle.qh_roles.specs.Streams.{Incoming, IsFresh}
@@ -115,7 +116,7 @@ module _ {S : Type 0} where
 
   module _ (n more : ℕ) (handlers : List Handler) (id : ℕ) (old new : Inner S) (sound : old.error ≡ None) (side : old.side ≡ Server) (same : old.space.streams.bi.accepted ≡ n)
       (is : new ≡ with_streams old (with_counts old.space.streams true (with_accepted old.space.streams.bi))) (named : id ≡ stream_id (other_side old.space.streams.side) Bi old.space.streams.bi.accepted)
-      (below : id < 2 ^ 64) (rose : more ≡ min (n + 1) 18446744073709551615) (follow : (t : List Act) → Behaves old t → Behaves new t) where
+      (below : id < 2 ^ 64) (rose : more ≡ min (n + 1) 18446744073709551615) (follow : (start : Inner S) (done t : List Act) → WentFrom start done old t → WentFrom start done new t) where
     count_is : more ≡ n + 1
     count_is = rises (other_side old.space.streams.side) n more id (named ∙ ap (λ (k : ℕ). stream_id (other_side old.space.streams.side) Bi k) same) below rose
 
@@ -131,7 +132,7 @@ module _ {S : Type 0} where
       rest = accepted_rest old new is;
       counts = counts_are;
       serves = λ limits recorded. rw count_is (quiet_step (record { limits = limits; accepted = n; handlers = handlers }) (record { limits = limits; accepted = n + 1; handlers = handlers }) old new recorded follow
-          (λ t entries follows serving. counted limits n handlers entries t serving));
+          (λ start done t entries follows serving. counted limits n handlers entries t serving));
     }
 
     pub taken_in : (h : Handler) (i : Incoming) → h.stream.0 ≡ id → h.state ≡ Reading i → i ≡ record { stream = h.stream.0; bytes = [] } → AcceptStep n more handlers (handlers ++ h ∷ []) old new
@@ -139,7 +140,7 @@ module _ {S : Type 0} where
       rest = accepted_rest old new is;
       counts = counts_are;
       serves = λ limits recorded. rw count_is (quiet_step (record { limits = limits; accepted = n; handlers = handlers }) (record { limits = limits; accepted = n + 1; handlers = handlers ++ h ∷ [] }) old new recorded follow
-          (λ t entries follows serving. begun limits n handlers h i entries t (stream ∙ at_client t follows) state begins serving));
+          (λ start done t entries follows serving. begun limits n handlers h i entries t (stream ∙ at_client t follows.behaves) state begins serving));
     }
 
   -- ---- all that one call of the server does

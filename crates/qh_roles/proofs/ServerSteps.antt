@@ -5,12 +5,12 @@ use Rattle.std.proofs.Math.Seq.{map-set_same}
 use Rattle.std.proofs.lemmas.Bool.{cases_eq, false≢true}
 use Rattle.std.proofs.lemmas.List.{map-append}
 use Rattle.std.specs.List.{items_where_true}
-use Rattle.qh_conduct.specs.Behaves.{Behaves}
-use Rattle.qh_conn.specs.declared.inner.Inner.{Inner}
+use Rattle.qh_core.specs.declared.inner.Inner.{Inner}
 use Rattle.qh_roles.proofs.Acts.{none_calls, calls_append, untouched_append, same_written, same_finished, same_pieces, same_read, same_ended, fresh_append, writing_kept, reading_kept}
 use Rattle.qh_roles.proofs.HandlerLists.{same_default, in_set, in_kept, distinct_kept}
 use Rattle.qh_roles.proofs.HandlerSteps.{spells_left}
 use Rattle.qh_roles.proofs.Stirred.{stirred_after, stirred_same}
+use Rattle.qh_roles.specs.Going.{WentFrom}
 use Rattle.qh_roles.specs.Handling.{Handles, HandlerStep, HandlersStep}
 use Rattle.qh_roles.specs.Server.{PlainServer, IsHandledIn, Responds, Serving, ServerStep, GrewByAnswers}
 use Rattle.qh_roles.specs.Streams.{IsFresh, IsUnread, IsUntouched, IsStirred}
@@ -78,40 +78,40 @@ module _ {S : Type 0} where
   steps_after a b c old mid new before between after first second = record {
     fresh = first.fresh ++ second.fresh;
     served_is = second.served_is ∙ ap (λ (z : List PlainEntry). z ++ second.fresh) first.served_is ∙ append_assoc before first.fresh second.fresh;
-    does = λ t entries follows serving.
-        let d = first.does t entries follows serving in
-        let e = second.does (t ++ d.acts) (entries ++ first.fresh) d.follows d.holds in
+    does = λ start done t entries follows serving.
+        let d = first.does start done t entries follows serving in
+        let e = second.does start done (t ++ d.acts) (entries ++ first.fresh) d.follows d.holds in
         record {
           acts = d.acts ++ e.acts;
           calls = calls_append d.acts e.acts d.calls e.calls;
-          follows = subst (Behaves new) (append_assoc t d.acts e.acts) e.follows;
+          follows = subst (WentFrom start done new) (append_assoc t d.acts e.acts) e.follows;
           holds = subst (λ (u : List Act). Serving c (entries ++ (first.fresh ++ second.fresh)) u) (append_assoc t d.acts e.acts)
               (subst (λ (es : List PlainEntry). Serving c es ((t ++ d.acts) ++ e.acts)) (append_assoc entries first.fresh second.fresh) e.holds);
         };
   }
 
   -- where what is served stays as it is, and nothing was done
-  pub quiet_step : (a b : PlainServer) (old new : Inner S) (recorded : List PlainEntry) → ((t : List Act) → Behaves old t → Behaves new t)
-      → ((t : List Act) (entries : List PlainEntry) → Behaves old t → Serving a entries t → Serving b entries t) → ServerStep a b old new recorded recorded
+  pub quiet_step : (a b : PlainServer) (old new : Inner S) (recorded : List PlainEntry) → ((start : Inner S) (done t : List Act) → WentFrom start done old t → WentFrom start done new t)
+      → ((start : Inner S) (done t : List Act) (entries : List PlainEntry) → WentFrom start done old t → Serving a entries t → Serving b entries t) → ServerStep a b old new recorded recorded
   quiet_step a b old new recorded follow serve = record {
     fresh = [];
     served_is = sym (append-nil recorded);
-    does = λ t entries follows serving. record {
+    does = λ start done t entries follows serving. record {
       acts = [];
       calls = none_calls;
-      follows = subst (Behaves new) (sym (append-nil t)) (follow t follows);
-      holds = still b entries t (serve t entries follows serving);
+      follows = subst (WentFrom start done new) (sym (append-nil t)) (follow start done t follows);
+      holds = still b entries t (serve start done t entries follows serving);
     };
   }
 
   pub no_step : (s : PlainServer) (c : Inner S) (recorded : List PlainEntry) → ServerStep s s c c recorded recorded
-  no_step s c recorded = quiet_step s s c c recorded (λ t follows. follows) (λ t entries follows serving. serving)
+  no_step s c recorded = quiet_step s s c c recorded (λ start done t follows. follows) (λ start done t entries follows serving. serving)
 
   -- ---- a handler goes on
 
-  module _ (limits : Limits) (accepted : ℕ) (old : List Handler) (at : ℕ) (was new : Handler) (end_after : Inner S) (entries fresh : List PlainEntry) (t : List Act)
+  module _ (limits : Limits) (accepted : ℕ) (old : List Handler) (at : ℕ) (was new : Handler) (end_after : Inner S) (entries fresh : List PlainEntry) (start : Inner S) (done t : List Act)
       (within : at < length old) (is : get_or old at was ≡ was) (same : new.stream.0 ≡ was.stream.0)
-      (serving : Serving (record { limits = limits; accepted = accepted; handlers = old }) entries t) (d : Handles was.stream.0 new.state end_after entries fresh t) where
+      (serving : Serving (record { limits = limits; accepted = accepted; handlers = old }) entries t) (d : Handles start done was.stream.0 new.state end_after entries fresh t) where
     here : In was old
     here = subst (λ (z : Handler). In z old) is (in_index old at was within)
 
@@ -176,23 +176,23 @@ module _ {S : Type 0} where
   handler_goes limits accepted old at was new end_before end_after before after within is same step = record {
     fresh = step.fresh;
     served_is = step.longer;
-    does = λ t entries follows serving.
+    does = λ start done t entries follows serving.
         let here = subst (λ (z : Handler). In z old) is (in_index old at was within) in
-        let d = step.does t entries follows (serving.handlers.each was here) in
+        let d = step.does start done t entries follows (serving.handlers.each was here) in
         record {
           acts = d.acts;
           calls = d.on.calls;
           follows = d.follows;
           holds = record {
-            served = served_on limits accepted old at was new end_after entries step.fresh t within is same serving d;
+            served = served_on limits accepted old at was new end_after entries step.fresh start done t within is same serving d;
             once = subst Distinct (sym (map-append (λ (e : PlainEntry). e.stream) entries step.fresh))
-                (distinct_append (streams_of entries) (streams_of step.fresh) serving.once step.once (not_twice limits accepted old at was new end_after entries step.fresh t within is same serving d));
-            responds = responds_on limits accepted old at was new end_after entries step.fresh t within is same serving d;
+                (distinct_append (streams_of entries) (streams_of step.fresh) serving.once step.once (not_twice limits accepted old at was new end_after entries step.fresh start done t within is same serving d));
+            responds = responds_on limits accepted old at was new end_after entries step.fresh start done t within is same serving d;
             handlers = record {
-              each = each_handled limits accepted old at was new end_after entries step.fresh t within is same serving d;
-              accepted = each_accepted limits accepted old at was new end_after entries step.fresh t within is same serving d;
+              each = each_handled limits accepted old at was new end_after entries step.fresh start done t within is same serving d;
+              accepted = each_accepted limits accepted old at was new end_after entries step.fresh start done t within is same serving d;
               apart = subst Distinct (sym (map-set_same (λ (h : Handler). h.stream.0) old at new was (same ∙ ap (λ (h : Handler). h.stream.0) (sym is)))) serving.handlers.apart;
-              fresh = still_fresh limits accepted old at was new end_after entries step.fresh t within is same serving d;
+              fresh = still_fresh limits accepted old at was new end_after entries step.fresh start done t within is same serving d;
             };
           };
         };
@@ -228,7 +228,7 @@ module _ {S : Type 0} where
       → ServerStep (record { limits = limits; accepted = accepted; handlers = handlers }) (record { limits = limits; accepted = accepted; handlers = items_where_true bs handlers }) c c recorded recorded
   kept_step limits accepted bs handlers c recorded =
       quiet_step (record { limits = limits; accepted = accepted; handlers = handlers }) (record { limits = limits; accepted = accepted; handlers = items_where_true bs handlers }) c c recorded
-      (λ t follows. follows) (λ t entries follows serving. record {
+      (λ start done t follows. follows) (λ start done t entries follows serving. record {
         served = serving.served;
         once = serving.once;
         responds = serving.responds;

@@ -2,12 +2,12 @@
 use Rattle.std.proofs.Common.{◌≡◌, ℕ, ◌==◌, Bool, true, false, ◌&&◌, not, Option, Result, Ok, Err, IfOk, IfErr, refl, sym, ap, ◌∙◌, subst, inl, inr}
 use Rattle.std.proofs.lemmas.Bool.{cases_Bool}
 use Rattle.qh_buffers.specs.declared.assembler.Chunk.{Chunk}
-use Rattle.qh_conn.specs.Inner.{HaveSameCounts, with_streams}
-use Rattle.qh_conn.specs.Streams.{IsRead, IsReadFault, IsWriteRefused}
-use Rattle.qh_conn.specs.Streams.IsWriteRefused.{closed, wanting, refused}
-use Rattle.qh_conn.specs.declared.fault.TakeFault.{TakeFault}
-use Rattle.qh_conn.specs.declared.fault.TakeFault.TheVariants.{Readable, Read}
-use Rattle.qh_conn.specs.declared.inner.Inner.{Inner}
+use Rattle.qh_core.specs.Inner.{HaveSameCounts, with_streams}
+use Rattle.qh_core.specs.Streams.{IsRead, IsReadFault, IsWriteRefused}
+use Rattle.qh_core.specs.Streams.IsWriteRefused.{closed, wanting, refused}
+use Rattle.qh_core.specs.declared.fault.TakeFault.{TakeFault}
+use Rattle.qh_core.specs.declared.fault.TakeFault.TheVariants.{Readable, Read}
+use Rattle.qh_core.specs.declared.inner.Inner.{Inner}
 use Rattle.qh_half.specs.declared.fault.ReadFault.{ReadFault}
 use Rattle.qh_half.specs.declared.fault.WriteFault.{WriteFault}
 use Rattle.qh_half.specs.declared.fault.WriteFault.TheVariants as fault

@@ -1,7 +1,7 @@
 -- How a client stands to what was done with its end.
 use Rattle.std.specs.Prelude.{◌≡◌, ◌⊎◌, ℕ, ◌+◌, ◌*◌, ◌<◌, ◌≤◌, Bool, true, false, List, [], ◌∷◌, length, map, filter, slice_get, Option, Some, None, is_some}
 use Rattle.qh_base.specs.declared.connection_error.ConnectionError.TheVariants.{Memory}
-use Rattle.qh_conn.specs.declared.inner.Inner.{Inner}
+use Rattle.qh_core.specs.declared.inner.Inner.{Inner}
 use Rattle.qh_message.specs.Written.{CanBeWritten}
 use Rattle.qh_roles.specs.Streams.{IsUntouched, IsUnread, IsFresh, IsWriting, IsReading}
 use Rattle.qh_roles.specs.declared.client.RequestStream.{RequestStream}

@@ -1,10 +1,10 @@
 -- What the steps of a client do with its streams.
 use Rattle.std.specs.Prelude.{◌≡◌, ◌⊎◌, ℕ, ◌*◌, Bool, true, false, not, List, [], ◌∷◌, ◌++◌, length, Option, Some, None, Result, Ok, Err, IfSome, slice_get, slice_set}
 use Rattle.qh_base.specs.declared.memory.Memory.{Memory as OutOfMemory}
-use Rattle.qh_conduct.specs.Behaves.{Behaves}
-use Rattle.qh_conn.specs.Inner.{is_open, with_streams}
-use Rattle.qh_conn.specs.declared.inner.Inner.{Inner}
+use Rattle.qh_core.specs.Inner.{is_open, with_streams}
+use Rattle.qh_core.specs.declared.inner.Inner.{Inner}
 use Rattle.qh_roles.specs.Client.{PlainClient, Asks, Asking, HasOpened, IsAskedIn}
+use Rattle.qh_roles.specs.Going.{WentFrom}
 use Rattle.qh_roles.specs.Streams.{Acted, AreOn, IsUntouched}
 use Rattle.qh_roles.specs.declared.client.RequestStream.{RequestStream}
 use Rattle.qh_roles.specs.declared.client.RequestState.{RequestState}
@@ -65,10 +65,10 @@ module _ {S : Type 0} where
 
   -- Behind this transcript calls were made on the stream of this index alone. What was asked on it is one of the requests still,
   -- an answer that was read of it is what was read, and this holds of all.
-  pub record Advances (Is : List Act → Type 0) (requests : List PlainMessage) (index : ℕ) (new : Inner S) (t : List Act) : Type 0 where
+  pub record Advances (start : Inner S) (before : List Act) (Is : List Act → Type 0) (requests : List PlainMessage) (index : ℕ) (new : Inner S) (t : List Act) : Type 0 where
     pub acts : List Act
     pub on : AreOn (4 * index) acts
-    pub follows : Behaves new (t ++ acts)
+    pub follows : WentFrom start before new (t ++ acts)
     pub asks : AsksOn requests t (4 * index) → AsksOn requests (t ++ acts) (4 * index)
     pub answered : (m : PlainMessage) → ReadsMessage t (4 * index) m → ReadsMessage (t ++ acts) (4 * index) m
     pub is : Is (t ++ acts)
@@ -80,4 +80,4 @@ module _ {S : Type 0} where
     pub places : length new.answers ≡ length old.answers
     pub kept : KeepsAnswers old.answers new.answers
     pub opened : HasOpened old old_end → HasOpened new new_end
-    pub asks : (t : List Act) → Behaves old_end t → HasOpened old old_end → Asking old t → Acted (Asking new) new_end t
+    pub asks : (start : Inner S) (before t : List Act) → WentFrom start before old_end t → HasOpened old old_end → Asking old t → Acted start before (Asking new) new_end t

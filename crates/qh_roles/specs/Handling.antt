@@ -1,10 +1,10 @@
 -- What the parts of a server do: calls on one stream, and entries of that stream.
 use Rattle.std.specs.Prelude.{◌≡◌, ◌⊎◌, ℕ, ◌≤◌, ◌<◌, ◌^◌, true, false, List, ◌++◌, Result, Ok, Err, IfOk}
 use Rattle.qh_base.specs.declared.memory.Memory.{Memory as OutOfMemory}
-use Rattle.qh_conduct.specs.Behaves.{Behaves}
-use Rattle.qh_conn.specs.Inner.{with_streams}
-use Rattle.qh_conn.specs.declared.inner.Inner.{Inner}
+use Rattle.qh_core.specs.Inner.{with_streams}
+use Rattle.qh_core.specs.declared.inner.Inner.{Inner}
 use Rattle.qh_halves.specs.Counts.{other_side}
+use Rattle.qh_roles.specs.Going.{WentFrom}
 use Rattle.qh_roles.specs.Server.{AreGoing, AreOnStreams, HasHandler, IsOn, IsHandledIn, is_done, SpellsResponse, Responds, HasAccepted, ServerStep, GrewByAnswers}
 use Rattle.qh_roles.specs.Streams.{AreOn, IsFresh, IsOver, IsUntouched, IsUnread, IsStirred, NoneArrived}
 use Rattle.qh_roles.specs.declared.server.Handler.{Handler}
@@ -82,17 +82,17 @@ pub record Polls (old new : List Handler) (before after : PlainStreams) : Type 0
 
 module _ {S : Type 0} where
   -- calls on this stream neither wrote nor read anything
-  pub record IsQuiet (stream : ℕ) (new : Inner S) (t : List Act) : Type 0 where
+  pub record IsQuiet (start : Inner S) (before : List Act) (stream : ℕ) (new : Inner S) (t : List Act) : Type 0 where
     pub acts : List Act
     pub on : AreOn stream acts
     pub fresh : IsFresh acts stream
-    pub follows : Behaves new (t ++ acts)
+    pub follows : WentFrom start before new (t ++ acts)
 
   -- what calls on one stream did behind this transcript, and how the stream is handled then
-  pub record Handles (stream : ℕ) (state : HandlerState) (new : Inner S) (entries fresh : List PlainEntry) (t : List Act) : Type 0 where
+  pub record Handles (start : Inner S) (before : List Act) (stream : ℕ) (state : HandlerState) (new : Inner S) (entries fresh : List PlainEntry) (t : List Act) : Type 0 where
     pub acts : List Act
     pub on : AreOn stream acts
-    pub follows : Behaves new (t ++ acts)
+    pub follows : WentFrom start before new (t ++ acts)
     pub reads : IsUnread acts stream ⊎ (ended t stream ≡ false)
     pub writes : IsUntouched acts stream ⊎ Responds (entries ++ fresh) (t ++ acts) stream
     pub each : (e : PlainEntry) → In e fresh → IsFreshOn stream t acts e
@@ -103,7 +103,8 @@ module _ {S : Type 0} where
     pub fresh : List PlainEntry
     pub longer : after ≡ before ++ fresh
     pub once : Distinct (streams_of fresh)
-    pub does : (t : List Act) (entries : List PlainEntry) → Behaves end_before t → IsHandledIn entries t stream old → Handles stream new end_after entries fresh t
+    pub does : (start : Inner S) (done t : List Act) (entries : List PlainEntry) → WentFrom start done end_before t → IsHandledIn entries t stream old
+        → Handles start done stream new end_after entries fresh t
 
   -- handlers went on with their streams
   pub record HandlersStep (Answer : PlainMessage → PlainMessage → Type 0) (limits : Limits) (accepted : ℕ) (old new : List Handler)

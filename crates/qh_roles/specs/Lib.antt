@@ -1,5 +1,6 @@
 pub mod Client
 pub mod ClientSteps
+pub mod Going
 pub mod Handling
 pub mod Server
 pub mod Steps

@@ -1,9 +1,9 @@
 -- How a server stands to what was done with its end, and to what was served.
 use Rattle.std.specs.Prelude.{◌≡◌, ◌⊎◌, ℕ, ◌*◌, ◌<◌, ◌≤◌, ◌^◌, Bool, true, false, not, List, ◌++◌, map, Some}
 use Rattle.qh_base.specs.declared.connection_error.ConnectionError.TheVariants.{Memory}
-use Rattle.qh_conduct.specs.Behaves.{Behaves}
-use Rattle.qh_conn.specs.declared.inner.Inner.{Inner}
+use Rattle.qh_core.specs.declared.inner.Inner.{Inner}
 use Rattle.qh_halves.specs.Counts.{other_side}
+use Rattle.qh_roles.specs.Going.{WentFrom}
 use Rattle.qh_roles.specs.Streams.{Acted, IsOver, IsUntouched, IsFresh, IsWriting, IsReading}
 use Rattle.qh_roles.specs.declared.server.Handler.{Handler}
 use Rattle.qh_roles.specs.declared.server.HandlerState.{HandlerState}
@@ -122,4 +122,5 @@ module _ {S : Type 0} where
   pub record ServerStep (old new : PlainServer) (end_before end_after : Inner S) (before after : List PlainEntry) : Type 0 where
     pub fresh : List PlainEntry
     pub served_is : after ≡ before ++ fresh
-    pub does : (t : List Act) (entries : List PlainEntry) → Behaves end_before t → Serving old entries t → Acted (Serving new (entries ++ fresh)) end_after t
+    pub does : (start : Inner S) (done t : List Act) (entries : List PlainEntry) → WentFrom start done end_before t → Serving old entries t
+        → Acted start done (Serving new (entries ++ fresh)) end_after t

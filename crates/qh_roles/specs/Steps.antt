@@ -2,16 +2,16 @@
 use Rattle.std.specs.Prelude.{◌≡◌, ◌⊎◌, ℕ, ◌<◌, min, false, List, [], ◌++◌, length, take, Option, Some, None, Result, Ok, Err}
 use Rattle.qh_base.specs.declared.memory.Memory.{Memory as OutOfMemory}
 use Rattle.qh_buffers.specs.declared.assembler.Chunk.{Chunk}
-use Rattle.qh_conduct.specs.Behaves.{Behaves}
-use Rattle.qh_conn.specs.Streams.{IsWriteRefused}
-use Rattle.qh_conn.specs.declared.fault.TakeFault.{TakeFault}
-use Rattle.qh_conn.specs.declared.fault.TakeFault.TheVariants.{Read}
-use Rattle.qh_conn.specs.declared.inner.Inner.{Inner}
+use Rattle.qh_core.specs.Streams.{IsWriteRefused}
+use Rattle.qh_core.specs.declared.fault.TakeFault.{TakeFault}
+use Rattle.qh_core.specs.declared.fault.TakeFault.TheVariants.{Read}
+use Rattle.qh_core.specs.declared.inner.Inner.{Inner}
 use Rattle.qh_half.specs.Send.{PlainSend, credit}
 use Rattle.qh_half.specs.declared.fault.WriteFault.{WriteFault}
 use Rattle.qh_halves.specs.SendHalves.{finish_fault_at, send_at, write_limit}
 use Rattle.qh_half.specs.declared.fault.ReadFault.TheVariants as waiting
 use Rattle.qh_halves.specs.RecvHalves.{PlainRecvHalves}
+use Rattle.qh_roles.specs.Going.{WentFrom}
 use Rattle.qh_roles.specs.Streams.{AreOn, GivesNoMore, IsUnread, WaitsToRead}
 use Rattle.qh_roles.specs.declared.incoming.ReadState.{ReadState}
 use Rattle.qh_roles.specs.declared.incoming.ReadState.TheVariants.{Blocked}
@@ -28,23 +28,24 @@ so_far (Ok None) = Ok Blocked
 so_far (Ok (Some state)) = Ok state
 so_far (Err e) = Err e
 
--- what a read that answers so tells of the receiving half of its stream
+-- what a read that answers so tells of the receiving half of its stream: bytes are given, and memory wanted for them, only while
+-- the half gives more
 abbrev pub IsTaken : (stream : ℕ) → Result (Option Chunk) TakeFault → (old new : PlainRecvHalves) → Type 0
 IsTaken stream (Ok None) old new = Unit {0}
-IsTaken stream (Ok (Some c)) old new = GivesNoMore new stream → GivesNoMore old stream
+IsTaken stream (Ok (Some c)) old new = (GivesNoMore old stream → ⊥) × (GivesNoMore new stream → GivesNoMore old stream)
 IsTaken stream (Err (Read waiting.Blocked)) old new = WaitsToRead new stream
-IsTaken stream (Err (Read waiting.Memory)) old new = Unit {0}
+IsTaken stream (Err (Read waiting.Memory)) old new = GivesNoMore old stream → ⊥
 IsTaken stream (Err other) old new = GivesNoMore old stream
 
 module _ {S : Type 0} where
   -- behind this transcript these bytes were written on the stream, which wasn't finished
-  pub record Pushes (stream : ℕ) (bytes : List ℕ) (new : Inner S) (t : List Act) : Type 0 where
+  pub record Pushes (start : Inner S) (before : List Act) (stream : ℕ) (bytes : List ℕ) (new : Inner S) (t : List Act) : Type 0 where
     pub acts : List Act
     pub on : AreOn stream acts
     pub unread : IsUnread acts stream
     pub written_is : written acts stream ≡ bytes
     pub unfinished : finished acts stream ≡ false
-    pub follows : Behaves new (t ++ acts)
+    pub follows : WentFrom start before new (t ++ acts)
 
   -- so many of the bytes were taken for the stream, as the credit permitted, and it may be finished
   pub record Took (stream : ℕ) (bytes : List ℕ) (n : ℕ) (old new : Inner S) : Type 0 where

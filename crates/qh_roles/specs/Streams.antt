@@ -1,15 +1,15 @@
 -- How far the bytes of a message are on a stream, and what the calls of a role add to what was done with an end.
 use Rattle.std.specs.Prelude.{◌≡◌, ◌⊎◌, ℕ, ◌+◌, ◌-◌, ◌^◌, ◌<◌, min, Bool, true, false, List, [], ◌++◌, length, take, Option, Some, None, IsSome, Result, Ok}
 use Rattle.qh_base.specs.declared.memory.Memory.{Memory as OutOfMemory}
-use Rattle.qh_conduct.specs.Behaves.{Behaves}
-use Rattle.qh_conn.specs.Inner.{HaveSameCounts, is_open, with_streams}
-use Rattle.qh_conn.specs.declared.inner.Inner.{Inner}
+use Rattle.qh_core.specs.Inner.{HaveSameCounts, is_open, with_streams}
+use Rattle.qh_core.specs.declared.inner.Inner.{Inner}
 use Rattle.qh_half.specs.Recv.{PlainRecv, WaitsForMore, is_at_end, reset_code}
 use Rattle.qh_half.specs.Send.{PlainSend, credit}
 use Rattle.qh_half.specs.declared.fault.WriteFault.{WriteFault}
 use Rattle.qh_half.specs.declared.fault.WriteFault.TheVariants.{ClosedStream, Stopped}
 use Rattle.qh_halves.specs.RecvHalves.{PlainRecvHalves, readable_fault_at, recv_at}
 use Rattle.qh_halves.specs.SendHalves.{PlainSendHalves, IsResetWith, IsStep, finish_fault_at, is_reset_refused_at, send_at, write_fault_at, write_limit}
+use Rattle.qh_roles.specs.Going.{WentFrom}
 use Rattle.qh_roles.specs.declared.incoming.ReadState.{ReadState}
 use Rattle.qh_roles.specs.declared.incoming.ReadState.TheVariants as reading
 use Rattle.qh_roles.specs.declared.outgoing.WriteState.{WriteState}
@@ -155,24 +155,24 @@ module _ {S : Type 0} where
   IsBlocked c old new = (is_open c.state ≡ false) ⊎ TookAllCredit c.space.streams.send old new
 
   -- what a call of `write` did behind this transcript
-  pub record Writes (result : Result WriteState OutOfMemory) (o : Outgoing) (new : Inner S) (t : List Act) : Type 0 where
+  pub record Writes (start : Inner S) (before : List Act) (result : Result WriteState OutOfMemory) (o : Outgoing) (new : Inner S) (t : List Act) : Type 0 where
     pub acts : List Act
     pub on : AreOn o.stream acts
     pub unread : IsUnread acts o.stream
-    pub follows : Behaves new (t ++ acts)
+    pub follows : WentFrom start before new (t ++ acts)
     pub is : IsWrittenTo result (t ++ acts) o
 
   -- what a call of `read` did behind this transcript
-  pub record ReadsOn (result : Result ReadState OutOfMemory) (i : Incoming) (new : Inner S) (t : List Act) : Type 0 where
+  pub record ReadsOn (start : Inner S) (before : List Act) (result : Result ReadState OutOfMemory) (i : Incoming) (new : Inner S) (t : List Act) : Type 0 where
     pub acts : List Act
     pub on : AreOn i.stream acts
     pub untouched : IsUntouched acts i.stream
-    pub follows : Behaves new (t ++ acts)
+    pub follows : WentFrom start before new (t ++ acts)
     pub is : IsReadTo result (t ++ acts) i
 
   -- behind this transcript a role made calls on streams, and this holds of all
-  pub record Acted (Holds : List Act → Type 0) (new : Inner S) (t : List Act) : Type 0 where
+  pub record Acted (start : Inner S) (before : List Act) (Holds : List Act → Type 0) (new : Inner S) (t : List Act) : Type 0 where
     pub acts : List Act
     pub calls : AreCalls acts
-    pub follows : Behaves new (t ++ acts)
+    pub follows : WentFrom start before new (t ++ acts)
     pub holds : Holds (t ++ acts)

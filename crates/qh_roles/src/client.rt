@@ -1,8 +1,9 @@
 ghost use Rattle.std.specs.Prelude.{◌≡◌, ◌⊎◌, [], ℕ, ◌+◌, ◌*◌, ◌<◌, List, true, false, Some, None, Ok, length, map, filter, replicate, IfOk, OnOk, OnErr, slice_get, slice_set, if◌then◌else◌};
-ghost use Rattle.qh_conduct.specs.Behaves.{Behaves};
-ghost use Rattle.qh_conn.specs.Inner.{with_streams};
+ghost use Rattle.qh_core.specs.Inner.{with_streams};
+ghost use Rattle.qh_core.specs.declared.inner.Inner.{Inner as AnInner};
 ghost use Rattle.qh_roles.specs.Client.{AreAskable, Asking, HasOpened, IsAskedIn, held};
 ghost use Rattle.qh_roles.specs.ClientSteps.{Advances, AreLeft, Goes, IsAdvanced, IsSent, KeepsAnswers, MayOpenNone, is_left, is_over, with_answer};
+ghost use Rattle.qh_roles.specs.Going.{WentFrom};
 ghost use Rattle.qh_roles.specs.Streams.{Acted, IsReading, IsStirred};
 ghost use Rattle.qh_spec.specs.Message.{PlainMessage};
 ghost use Rattle.qh_spec.specs.Transcript.{Act};
@@ -12,7 +13,7 @@ use crate::outgoing::give_up;
 use crate::{Incoming, Outgoing, ReadState, WriteState};
 use qh_base::{Code, Dir, Memory, StreamId};
 use qh_conduct::behaves;
-use qh_conn::Connection;
+use qh_core::{Connection, made};
 use qh_message::{read_response, write_message};
 use qh_service::Message;
 use std::alloc::Global;
@@ -137,7 +138,7 @@ impl Client {
         ensures places { length self.new.answers ≡ length self.old.answers }
         ensures kept { KeepsAnswers self.old.answers self.new.answers }
         ensures opened { HasOpened self.old connection.old → HasOpened self.new connection.new }
-        ensures asks { (t : List Act) → Behaves connection.old t → HasOpened self.old connection.old → Asking self.old t → Acted (Asking self.new) connection.new t }
+        ensures asks { (start : AnInner S) (before t : List Act) → WentFrom start before connection.old t → HasOpened self.old connection.old → Asking self.old t → Acted start before (Asking self.new) connection.new t }
         ensures going { OnOk result (AreLeft self.new.streams) }
         ensures opens { OnOk result ((self.new.next ≡ length self.new.requests) ⊎ MayOpenNone connection.new) }
     {
@@ -226,6 +227,7 @@ impl Client {
         // An open connection has no error: its contract says so from here on.
         connection.is_owed();
         behaves::<S>();
+        made::<S>();
         if self.next == self.requests.len() {
             return Ok(false);
         }
@@ -304,7 +306,7 @@ impl RequestState {
         connection: &mut Connection<S>,
     ) -> Result<(RequestState, Option<Message>), Memory>
         ensures stirred { IsStirred connection.old connection.new }
-        ensures advances { (requests : List PlainMessage) (index : ℕ) (t : List Act) → Behaves connection.old t → IsAskedIn requests t index self → Advances (IsAdvanced requests index result) requests index connection.new t }
+        ensures advances { (requests : List PlainMessage) (index : ℕ) (start : AnInner S) (before t : List Act) → WentFrom start before connection.old t → IsAskedIn requests t index self → Advances start before (IsAdvanced requests index result) requests index connection.new t }
     {
         match self.send(alloc, connection)? {
             RequestState::Receiving(incoming) => receive(alloc, incoming, connection),
@@ -315,7 +317,7 @@ impl RequestState {
     // Sends what is left of the request.
     fn send<S>(self, alloc: Global, connection: &mut Connection<S>) -> Result<RequestState, Memory>
         ensures stirred { IsStirred connection.old connection.new }
-        ensures sends { (requests : List PlainMessage) (index : ℕ) (t : List Act) → Behaves connection.old t → IsAskedIn requests t index self → Advances (IsSent requests index result) requests index connection.new t }
+        ensures sends { (requests : List PlainMessage) (index : ℕ) (start : AnInner S) (before t : List Act) → WentFrom start before connection.old t → IsAskedIn requests t index self → Advances start before (IsSent requests index result) requests index connection.new t }
     {
         let RequestState::Sending(mut outgoing) = self else {
             return Ok(self);
@@ -339,7 +341,7 @@ fn receive<S>(
     connection: &mut Connection<S>,
 ) -> Result<(RequestState, Option<Message>), Memory>
     ensures stirred { IsStirred connection.old connection.new }
-    ensures receives { (requests : List PlainMessage) (index : ℕ) (t : List Act) → Behaves connection.old t → incoming.stream ≡ 4 * index → IsReading t incoming → Advances (IsAdvanced requests index result) requests index connection.new t }
+    ensures receives { (requests : List PlainMessage) (index : ℕ) (start : AnInner S) (before t : List Act) → WentFrom start before connection.old t → incoming.stream ≡ 4 * index → IsReading t incoming → Advances start before (IsAdvanced requests index result) requests index connection.new t }
 {
     let mut incoming = incoming;
     match incoming.read(connection)? {

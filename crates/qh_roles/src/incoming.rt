@@ -1,6 +1,7 @@
-ghost use Rattle.std.specs.Prelude.{◌≡◌, ◌<◌, ◌++◌, [], ℕ, List, length, None, Some, Ok, OnOk, IfOk, IfSome};
-ghost use Rattle.qh_conduct.specs.Behaves.{Behaves};
-ghost use Rattle.qh_conn.specs.Follows.{take_acts};
+ghost use Rattle.std.specs.Prelude.{◌≡◌, ◌<◌, ◌++◌, [], ℕ, List, length, None, Some, Ok, OnErr, OnOk, IfOk, IfSome};
+ghost use Rattle.qh_core.specs.Follows.{take_acts};
+ghost use Rattle.qh_core.specs.declared.inner.Inner.{Inner as AnInner};
+ghost use Rattle.qh_roles.specs.Going.{WentFrom};
 ghost use Rattle.qh_roles.specs.Steps.{IsTaken, so_far};
 ghost use Rattle.qh_roles.specs.Streams.{GivesNoMore, IsReading, IsStirred, NoneArrived, ReadsOn, WaitsToRead};
 ghost use Rattle.qh_roles.specs.declared.incoming.ReadState.TheVariants as reading;
@@ -9,7 +10,7 @@ ghost use Rattle.qh_spec.specs.Transcript.{Act, read};
 use qh_base::{Memory, StreamId};
 use qh_buffers::Chunk;
 use qh_conduct::behaves;
-use qh_conn::{Connection, TakeFault};
+use qh_core::{Connection, TakeFault, made};
 use qh_streams::ReadFault;
 use std::alloc::Global;
 use std::marker::Model;
@@ -61,15 +62,16 @@ impl Incoming {
         &self.bytes
     }
 
-    /// Reads all that waits.
+    /// Reads all that waits. Memory is wanted only for bytes: not for a stream that the peer reset, or that can't be read.
     pub fn read<S>(&mut self, connection: &mut Connection<S>) -> Result<ReadState, Memory>
         ensures same { self.new.stream ≡ self.old.stream }
         ensures stirred { IsStirred connection.old connection.new }
-        ensures reads { (t : List Act) → Behaves connection.old t → IsReading t self.old → ReadsOn result self.new connection.new t }
+        ensures reads { (start : AnInner S) (before t : List Act) → WentFrom start before connection.old t → IsReading t self.old → ReadsOn start before result self.new connection.new t }
         ensures none_arrived { NoneArrived connection.old.space.streams connection.new.space.streams }
         ensures unwritten { connection.new.space.streams.send ≡ connection.old.space.streams.send }
         ensures blocked { result ≡ Ok reading.Blocked → WaitsToRead connection.new.space.streams.recv self.old.stream }
         ensures refused { result ≡ Ok reading.Refused → GivesNoMore connection.old.space.streams.recv self.old.stream }
+        ensures memory { OnErr result (GivesNoMore connection.old.space.streams.recv self.old.stream → ⊥) }
     {
         for _piece in 0..u64::MAX {
             if let Some(state) = self.read_piece(connection)? {
@@ -84,12 +86,14 @@ impl Incoming {
     fn read_piece<S>(&mut self, connection: &mut Connection<S>) -> Result<Option<ReadState>, Memory>
         ensures same { self.new.stream ≡ self.old.stream }
         ensures stirred { IsStirred connection.old connection.new }
-        ensures reads { (t : List Act) → Behaves connection.old t → IsReading t self.old → ReadsOn (so_far result) self.new connection.new t }
+        ensures reads { (start : AnInner S) (before t : List Act) → WentFrom start before connection.old t → IsReading t self.old → ReadsOn start before (so_far result) self.new connection.new t }
         ensures none_arrived { NoneArrived connection.old.space.streams connection.new.space.streams }
         ensures unwritten { connection.new.space.streams.send ≡ connection.old.space.streams.send }
         ensures blocked { result ≡ Ok (Some reading.Blocked) → WaitsToRead connection.new.space.streams.recv self.old.stream }
         ensures refused { result ≡ Ok (Some reading.Refused) → GivesNoMore connection.old.space.streams.recv self.old.stream }
+        ensures given { result ≡ Ok None → GivesNoMore connection.old.space.streams.recv self.old.stream → ⊥ }
         ensures more { result ≡ Ok None → GivesNoMore connection.new.space.streams.recv self.old.stream → GivesNoMore connection.old.space.streams.recv self.old.stream }
+        ensures memory { OnErr result (GivesNoMore connection.old.space.streams.recv self.old.stream → ⊥) }
     {
         match take_piece(connection, self.stream) {
             Ok(Some(chunk)) => {
@@ -117,12 +121,13 @@ fn take_piece<S>(
     stream: StreamId,
 ) -> Result<Option<Chunk>, TakeFault>
     ensures stirred { IsStirred connection.old connection.new }
-    ensures follows { (t : List Act) → Behaves connection.old t → Behaves connection.new (t ++ take_acts stream.0 result) }
-    ensures in_order { IfOk result (λ o. IfSome o (λ c. (t : List Act) → Behaves connection.old t → 0 < length c.bytes → c.offset ≡ length (read t stream.0))) }
+    ensures follows { (start : AnInner S) (before t : List Act) → WentFrom start before connection.old t → WentFrom start before connection.new (t ++ take_acts stream.0 result) }
+    ensures in_order { IfOk result (λ o. IfSome o (λ c. (start : AnInner S) (before t : List Act) → WentFrom start before connection.old t → 0 < length c.bytes → c.offset ≡ length (read t stream.0))) }
     ensures none_arrived { NoneArrived connection.old.space.streams connection.new.space.streams }
     ensures unwritten { connection.new.space.streams.send ≡ connection.old.space.streams.send }
     ensures taken { IsTaken stream.0 result connection.old.space.streams.recv connection.new.space.streams.recv }
 {
     behaves::<S>();
+    made::<S>();
     connection.read(stream, PIECE, true)
 }

@@ -1,7 +1,9 @@
-ghost use Rattle.std.specs.Prelude.{◌≡◌, ◌++◌, ◌-◌, ◌^◌, ℕ, ◌<◌, ◌≤◌, List, length, min, IsSome, Ok, IfOk, OnOk, OnErr};
-ghost use Rattle.qh_conduct.specs.Behaves.{Behaves};
-ghost use Rattle.qh_conn.specs.Follows.{finish_acts};
+ghost use Rattle.std.specs.Prelude.{◌≡◌, ◌++◌, ◌-◌, ◌^◌, ℕ, ◌<◌, ◌≤◌, List, length, min, true, IsSome, Ok, IfOk, OnOk, OnErr};
+ghost use Rattle.qh_core.specs.Follows.{finish_acts};
+ghost use Rattle.qh_core.specs.Inner.{is_open};
+ghost use Rattle.qh_core.specs.declared.inner.Inner.{Inner as AnInner};
 ghost use Rattle.qh_halves.specs.SendHalves.{finish_fault_at};
+ghost use Rattle.qh_roles.specs.Going.{WentFrom};
 ghost use Rattle.qh_roles.specs.Steps.{IsPushed, Pushes, pushed};
 ghost use Rattle.qh_roles.specs.Streams.{AreOn, IsBlocked, IsFresh, IsGivenUp, IsOver, IsStirred, IsWriting, KeepsOver, NoneArrived, TakesNothing, Writes};
 ghost use Rattle.qh_roles.specs.declared.outgoing.WriteState.TheVariants as writing;
@@ -9,7 +11,7 @@ ghost use Rattle.qh_spec.specs.Transcript.{Act};
 
 use qh_base::{Code, Memory, StreamId, VarInt};
 use qh_conduct::behaves;
-use qh_conn::Connection;
+use qh_core::{Connection, made};
 use qh_streams::{FinishFault, WriteFault};
 use std::marker::Model;
 
@@ -63,16 +65,18 @@ impl Outgoing {
         self.stream
     }
 
-    /// Writes as many of the bytes that are left as the limits permit, and finishes the stream behind the last one.
+    /// Writes as many of the bytes that are left as the limits permit, and finishes the stream behind the last one. Memory is
+    /// wanted only on an open connection, and not for a stream that is closed, or that the peer stopped.
     pub fn write<S>(&mut self, connection: &mut Connection<S>) -> Result<WriteState, Memory>
         ensures same { (self.new.stream ≡ self.old.stream) × (self.new.bytes ≡ self.old.bytes) }
         ensures stirred { IsStirred connection.old connection.new }
         ensures none_arrived { NoneArrived connection.old.space.streams connection.new.space.streams }
         ensures over { KeepsOver connection.old.space.streams.send connection.new.space.streams.send }
-        ensures writes { (t : List Act) → Behaves connection.old t → IsWriting t self.old → Writes result self.new connection.new t }
+        ensures writes { (start : AnInner S) (before t : List Act) → WentFrom start before connection.old t → IsWriting t self.old → Writes start before result self.new connection.new t }
         ensures finished { result ≡ Ok writing.Finished → IsOver connection.new.space.streams.send self.old.stream }
         ensures blocked { result ≡ Ok writing.Blocked → IsBlocked connection.old self.old self.new }
         ensures refused { result ≡ Ok writing.Refused → TakesNothing connection.old.space.streams.send self.old }
+        ensures memory { OnErr result ((is_open connection.old.state ≡ true) × (TakesNothing connection.old.space.streams.send self.old → ⊥)) }
     {
         match push(connection, self.stream, &self.bytes[self.taken..]) {
             Ok(count) => {
@@ -90,7 +94,7 @@ impl Outgoing {
         ensures stirred { IsStirred connection.old connection.new }
         ensures none_arrived { NoneArrived connection.old.space.streams connection.new.space.streams }
         ensures over { KeepsOver connection.old.space.streams.send connection.new.space.streams.send }
-        ensures writes { (t : List Act) → Behaves connection.old t → IsWriting t self.now → Writes (Ok result) self.now connection.new t }
+        ensures writes { (start : AnInner S) (before t : List Act) → WentFrom start before connection.old t → IsWriting t self.now → Writes start before (Ok result) self.now connection.new t }
         ensures finished { result ≡ writing.Finished → IsOver connection.new.space.streams.send self.now.stream }
         ensures blocked { result ≡ writing.Blocked → self.now.taken < length self.now.bytes }
         ensures refused { result ≡ writing.Refused → (self.now.taken ≡ length self.now.bytes) × IsSome (finish_fault_at connection.old.space.streams.send self.now.stream) }
@@ -115,13 +119,14 @@ fn push<S>(
     ensures stirred { IsStirred connection.old connection.new }
     ensures none_arrived { NoneArrived connection.old.space.streams connection.new.space.streams }
     ensures over { KeepsOver connection.old.space.streams.send connection.new.space.streams.send }
-    ensures pushes { (t : List Act) → Behaves connection.old t → Pushes stream.0 (pushed bytes.now result) connection.new t }
+    ensures pushes { (start : AnInner S) (before t : List Act) → WentFrom start before connection.old t → Pushes start before stream.0 (pushed bytes.now result) connection.new t }
     ensures pushed { IsPushed stream.0 bytes.now result connection.old connection.new }
 {
     if bytes.is_empty() {
         return Ok(0);
     }
     behaves::<S>();
+    made::<S>();
     connection.write(stream, bytes)
 }
 
@@ -130,11 +135,12 @@ fn finish<S>(connection: &mut Connection<S>, stream: StreamId) -> Result<(), Fin
     ensures stirred { IsStirred connection.old connection.new }
     ensures none_arrived { NoneArrived connection.old.space.streams connection.new.space.streams }
     ensures over { KeepsOver connection.old.space.streams.send connection.new.space.streams.send }
-    ensures follows { (t : List Act) → Behaves connection.old t → Behaves connection.new (t ++ finish_acts stream.0 result) }
+    ensures follows { (start : AnInner S) (before t : List Act) → WentFrom start before connection.old t → WentFrom start before connection.new (t ++ finish_acts stream.0 result) }
     ensures finished { OnOk result (IsOver connection.new.space.streams.send stream.0) }
     ensures fault { OnErr result (IsSome (finish_fault_at connection.old.space.streams.send stream.0)) }
 {
     behaves::<S>();
+    made::<S>();
     connection.finish(stream)
 }
 
@@ -143,11 +149,12 @@ pub(crate) fn give_up<S>(connection: &mut Connection<S>, stream: StreamId, code:
     ensures stirred { IsStirred connection.old connection.new }
     ensures none_arrived { NoneArrived connection.old.space.streams connection.new.space.streams }
     ensures over { KeepsOver connection.old.space.streams.send connection.new.space.streams.send }
-    ensures acted { (t : List Act) → Behaves connection.old t → (acts : List Act) × AreOn stream.0 acts × IsFresh acts stream.0 × Behaves connection.new (t ++ acts) }
+    ensures acted { (start : AnInner S) (before t : List Act) → WentFrom start before connection.old t → (acts : List Act) × AreOn stream.0 acts × IsFresh acts stream.0 × WentFrom start before connection.new (t ++ acts) }
     ensures done { IsOver connection.new.space.streams.send stream.0 }
     ensures given_up { IsGivenUp connection.old.space.streams.send connection.new.space.streams.send stream.0 code.0 }
 {
     behaves::<S>();
+    made::<S>();
     let _refused = connection.reset(stream, number_of(code));
 }
 

@@ -1,7 +1,8 @@
 ghost use Rattle.std.specs.Prelude.{◌≡◌, [], ℕ, ◌≤◌, ◌^◌, ◌↔◌, true, false, filter, List, None, Ok, OnOk, IfOk, IfSome, IsTrue};
-ghost use Rattle.qh_conduct.specs.Behaves.{Behaves};
-ghost use Rattle.qh_conn.specs.Inner.{is_open, with_streams};
+ghost use Rattle.qh_core.specs.Inner.{is_open, with_streams};
+ghost use Rattle.qh_core.specs.declared.inner.Inner.{Inner as AnInner};
 ghost use Rattle.qh_message.specs.Written.{CanBeWritten};
+ghost use Rattle.qh_roles.specs.Going.{WentFrom};
 ghost use Rattle.qh_roles.specs.Handling.{AcceptStep, Accepts, Advances, AreFitting, HandlerStep, HandlersStep, IsQuiet, IsServed, IsSettledIn, Polls, state_of};
 ghost use Rattle.qh_roles.specs.Server.{AreGoing, AreOnStreams, ForgetsNone, GrewByAnswers, HasAccepted, ServerStep, Serving, IsOn, is_done, is_going};
 ghost use Rattle.qh_roles.specs.Streams.{IsStirred, KeepsOver, NoneArrived};
@@ -16,7 +17,7 @@ use crate::outgoing::give_up;
 use crate::{Incoming, Outgoing, ReadState, WriteState};
 use qh_base::{Code, Dir, Memory, StreamId};
 use qh_conduct::behaves;
-use qh_conn::Connection;
+use qh_core::{Connection, made};
 use qh_message::{read_request, writable, write_message};
 use qh_service::{Head, Limits, Message, Service};
 use std::alloc::Global;
@@ -179,6 +180,7 @@ fn accept_next<S>(
     ensures accepts { OnOk result (Accepts handlers.old.items handlers.new.items connection.old.space.streams connection.new.space.streams) }
 {
     behaves::<S>();
+    made::<S>();
     let Some(stream) = connection.accept(Dir::Bi) else {
         return Ok(false);
     };
@@ -304,7 +306,7 @@ fn serve<S, V: Service>(
     ensures none_arrived { NoneArrived connection.old.space.streams connection.new.space.streams }
     ensures over { KeepsOver connection.old.space.streams.send connection.new.space.streams.send }
     ensures settled { IfOk result (IsSettledIn stream.0 connection.new.space.streams) }
-    ensures quiet { (t : List Act) → Behaves connection.old t → IsQuiet stream.0 connection.new t }
+    ensures quiet { (start : AnInner S) (before t : List Act) → WentFrom start before connection.old t → IsQuiet start before stream.0 connection.new t }
     ensures served { IsServed stream.0 bytes.now result (V.served service.old) (V.served service.new) }
     ensures answered { GrewByAnswers (V.may_answer limits.now) (V.served service.old) (V.served service.new) }
 {

@@ -49,14 +49,14 @@ ping_shape = refl
 ping_frames : AreQuicFrames (1 ∷ []) (record { kind = 1; values = [] } ∷ [])
 ping_frames = ([], record { fields = []; shape = []; kind = (1 ∷ [], refl, one (omega arith) refl); shaped = ping_shape; values = refl }, refl)
 
-abbrev initial_tag : List ℕ
+abbrev pub initial_tag : List ℕ
 initial_tag = 208 ∷ 0 ∷ 0 ∷ 0 ∷ 0 ∷ 0 ∷ 0 ∷ 0 ∷ 0 ∷ 0 ∷ 0 ∷ 0 ∷ 0 ∷ 0 ∷ 0 ∷ 0
     ∷ 165 ∷ 0 ∷ 0 ∷ 0 ∷ 0 ∷ 0 ∷ 0 ∷ 0 ∷ 0 ∷ 7 ∷ 8 ∷ 0 ∷ 0 ∷ 0 ∷ 0 ∷ 0 ∷ []
 
-abbrev initial_body : List ℕ
+abbrev pub initial_body : List ℕ
 initial_body = 0 ∷ 0 ∷ 0 ∷ 7 ∷ 1 ∷ initial_tag
 
-initial_form : IsInitialForm initial_part 195 initial_body
+pub initial_form : IsInitialForm initial_part 195 initial_body
 initial_form = record {
   destination = 208 ∷ 0 ∷ 0 ∷ 0 ∷ 0 ∷ 0 ∷ 0 ∷ 0 ∷ [];
   source = 192 ∷ 0 ∷ 0 ∷ 0 ∷ 0 ∷ 0 ∷ 0 ∷ 0 ∷ [];

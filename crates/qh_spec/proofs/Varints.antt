@@ -12,7 +12,7 @@ abbrev whole : ℕ → ℕ → ℕ → Option (ℕ × ℕ)
 whole there len n = if nat_lt there len then None else Some (n, len)
 
 -- the number that stands in front of some bytes, and how many bytes it takes
-unfoldable varint_at : List ℕ → Option (ℕ × ℕ)
+unfoldable pub varint_at : List ℕ → Option (ℕ × ℕ)
 varint_at bytes = if nat_lt (length bytes) 1 then None
     else if nat_lt (slice_index bytes 0) 64 then Some (slice_index bytes 0, 1)
     else if nat_lt (slice_index bytes 0) 128 then whole (length bytes) 2 (from_be_bytes w16 (take 2 bytes) - 2 ^ 14)
@@ -20,7 +20,7 @@ varint_at bytes = if nat_lt (length bytes) 1 then None
     else whole (length bytes) 8 (from_be_bytes w64 (take 8 bytes) - (2 ^ 63 + 2 ^ 62))
 
 -- what is spelled so is read, whatever follows
-spelled_read : (bytes rest : List ℕ) (n : ℕ) → IsVarint bytes n → varint_at (bytes ++ rest) ≡ Some (n, length bytes)
+pub spelled_read : (bytes rest : List ℕ) (n : ℕ) → IsVarint bytes n → varint_at (bytes ++ rest) ≡ Some (n, length bytes)
 unfolding varint_at
 spelled_read bytes rest n (one bound e) =
     let t : nat_lt n 64 ≡ true = lt-ltb n 64 bound in

@@ -1,5 +1,6 @@
 -- Which packet numbers an ACK frame acknowledges (RFC 9000, section 19.3).
-use Rattle.std.specs.Prelude.{◌≡◌, ◌⊎◌, ℕ, ◌+◌, ◌/◌, ◌≤◌, List, [], ◌∷◌}
+use Rattle.std.specs.Prelude.{◌≡◌, ◌⊎◌, ℕ, ◌+◌, ◌≤◌, List, [], ◌∷◌}
+use Rattle.qh_spec.specs.FrameTypes.{IsAckType}
 use Rattle.qh_spec.specs.QuicFrames.{QuicFrame, Value, Num, Nums}
 
 -- the number is in the range, which holds the greatest and so many more below it (section 19.3.1)
@@ -26,4 +27,4 @@ ValuesCover _ n = ⊥
 
 -- the frame is an ACK, of type 02 or 03, and acknowledges the packet number (section 19.3)
 abbrev pub Covers : QuicFrame → ℕ → Type 0
-Covers f n = (f.kind / 2 ≡ 1) × ValuesCover f.values n
+Covers f n = IsAckType f.kind × ValuesCover f.values n

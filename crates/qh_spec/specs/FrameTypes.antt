@@ -1,5 +1,5 @@
 -- The types of QUIC's frames (RFC 9000, sections 12.4 and 19; RFC 9221, section 4).
-use Rattle.std.specs.Prelude.{ℕ, ◌/◌, ◌==◌, Bool}
+use Rattle.std.specs.Prelude.{◌≡◌, ℕ, ◌/◌, ◌==◌, Bool}
 
 abbrev pub padding : ℕ
 padding = 0x00
@@ -84,10 +84,16 @@ abbrev pub datagram_with_length : ℕ
 datagram_with_length = 0x31
 
 -- one of the eight types of STREAM, 08 to 0f (section 19.8)
+abbrev pub IsStreamType : ℕ → Type 0
+IsStreamType kind = kind / 8 ≡ 1
+
 abbrev pub is_stream_type : ℕ → Bool
 is_stream_type kind = kind / 8 == 1
 
 -- one of the two types of ACK (section 19.3)
+abbrev pub IsAckType : ℕ → Type 0
+IsAckType kind = kind / 2 ≡ 1
+
 abbrev pub is_ack_type : ℕ → Bool
 is_ack_type kind = kind / 2 == 1
 

@@ -1,4 +1,5 @@
 pub mod Acknowledged
+pub mod Announced
 pub mod Carried
 pub mod Codes
 pub mod Config
@@ -10,8 +11,14 @@ pub mod Fault
 pub mod Fields
 pub mod FrameTypes
 pub mod FrameViews
+pub mod Greeted
+pub mod GreetedRows
 pub mod Growth
+pub mod HandshakeOrder
 pub mod Headline
+pub mod Hello
+pub mod HelloFaults
+pub mod HelloRows
 pub mod Honest
 pub mod HttpFrame
 pub mod HttpFrameTypes
@@ -23,6 +30,8 @@ pub mod Meaning
 pub mod Message
 pub mod MessageRows
 pub mod Packet
+pub mod ParameterIds
+pub mod Parted
 pub mod PrefixInteger
 pub mod QuicFrame
 pub mod QuicFrames

@@ -1,5 +1,6 @@
 -- Frames of QUIC (RFC 9000, section 19). So far the STREAM frame (section 19.8) alone.
 use Rattle.std.specs.Prelude.{◌≡◌, ℕ, ◌+◌, ◌/◌, ◌%◌, Bool, ◌==◌, MatchBool, List, [], ◌∷◌, ◌++◌, length, if◌then◌else◌}
+use Rattle.qh_spec.specs.FrameTypes.{IsStreamType}
 use Rattle.qh_spec.specs.Varint.{IsVarint, varint}
 
 -- bytes of a stream at their offset, and whether the stream ends with them
@@ -23,7 +24,7 @@ pub record IsStreamFrame (bytes : List ℕ) (f : StreamFrame) (rest : List ℕ) 
   pub length_bytes : List ℕ
   pub whole : bytes ≡ kind_bytes ++ (id_bytes ++ (offset_bytes ++ (length_bytes ++ (f.payload ++ rest))))
   pub kind_is : IsVarint kind_bytes kind
-  pub is_stream : kind / 8 ≡ 1
+  pub is_stream : IsStreamType kind
   pub id_is : IsVarint id_bytes f.id
   pub offset_is : MatchBool (has_bit 4 kind) (IsVarint offset_bytes f.offset) ((offset_bytes ≡ []) × (f.offset ≡ 0))
   pub length_is : MatchBool (has_bit 2 kind) (IsVarint length_bytes (length f.payload)) ((length_bytes ≡ []) × (rest ≡ []))

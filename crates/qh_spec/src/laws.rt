@@ -1,6 +1,8 @@
 //! Laws of the definitions. Each function does nothing: its contract is the law.
 
 pub mod bridges;
+pub mod greetings;
+pub mod hellos;
 pub mod links;
 pub mod messages;
 pub mod owing;

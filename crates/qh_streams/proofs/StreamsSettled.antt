@@ -72,6 +72,13 @@ closed_alone s id was_live = elim (cases_Bool (not (is_own s.side id) && (was_li
   | inr e ↦ rw e (record { send_is = refl; recv_is = refl; events_are = refl })
 ]
 
+-- of the streams that this end opened none is counted as closed
+pub counted_of_peer : (s : PlainStreams) (id : ℕ) (live : Bool) → counted_closed s id (not (is_own s.side id) && live) ≡ counted_closed s id live
+counted_of_peer s id live = elim (cases_Bool (is_own s.side id)) [
+  | inl own ↦ rw own refl
+  | inr peer ↦ rw peer refl
+]
+
 pub is_piece_acked : (old new : PlainStreams) (send : PlainSendHalves) (id : StreamId) (piece : Outgoing) (finished : Bool) → IsSettledBy (IsAcked piece) old.send send id.0 finished
     → new ≡ counted_closed (record old { send = send; events = old.events ++ finished_events finished id }) id.0 (is_live old id.0) → IsAckedFrame old new (Stream id piece)
 is_piece_acked old new send id piece finished settled is =

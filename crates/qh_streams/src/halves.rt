@@ -5,7 +5,7 @@ ghost use Rattle.qh_streams.specs.Halves.{IsChunk, last_answer, state_after};
 ghost use Rattle.qh_half.specs.declared.fault.ReadFault.TheVariants.{Memory as Lacking};
 ghost use Rattle.qh_half.specs.Send.{credit, chunks_after, whole_chunks};
 ghost use Rattle.qh_halves.specs.SendHalves.{send_at, write_limit, write_fault_at, finish_fault_at, is_reset_refused_at, half_priority, IsStep, Takes, Finishes, IsResetWith, HasPriority};
-ghost use Rattle.qh_halves.specs.RecvHalves.{IsRecvStep, Begins, WaitsAt, Stops, TakesReset, readable_fault_at, is_closed_at, is_credit_due};
+ghost use Rattle.qh_halves.specs.RecvHalves.{IsRecvStep, Begins, WaitsForMoreAt, Stops, TakesReset, readable_fault_at, is_closed_at, is_credit_due};
 ghost use Rattle.qh_streams.specs.Streams.{counted_closed, is_live, IsWriteRefusal, KeepsOut};
 
 use crate::{ClosedStream, FinishFault, ReadFault, ReadableFault, Streams, WriteFault, Written};
@@ -210,7 +210,7 @@ impl Chunks<'_> {
         ensures id { self.new.id ≡ self.old.id }
         ensures keeps_out { KeepsOut self.old.streams.now self.new.streams.now }
         ensures answer { IsChunk self.old.streams.now self.new.streams.now self.old.id.0 max_length self.old.state self.new.state result }
-        ensures lacks { result ≡ Err Lacking → WaitsAt self.old.streams.now.recv self.old.id.0 → ⊥ }
+        ensures lacks { result ≡ Err Lacking → WaitsForMoreAt self.old.streams.now.recv self.old.id.0 → ⊥ }
         ensures readable { self.new.state ≡ Readable → is_closed_at self.new.streams.now.recv self.new.id.0 ≡ false }
     {
         if let Some(last) = last_answer(self.state) {

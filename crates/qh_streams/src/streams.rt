@@ -1,4 +1,4 @@
-ghost use Rattle.std.specs.Prelude.{◌≡◌, ◌-◌, ◌<◌, ◌^◌, ◌==◌, min, [], length, None, IfSome, if◌then◌else◌};
+ghost use Rattle.std.specs.Prelude.{◌≡◌, ◌-◌, ◌<◌, ◌^◌, ◌==◌, ◌&&◌, not, min, [], length, None, IfSome, if◌then◌else◌};
 ghost use Rattle.qh_spec.specs.StreamId.{stream_id};
 ghost use Rattle.qh_buffers.specs.declared.send_buffer.Mark.TheVariants.{Acked};
 ghost use Rattle.qh_halves.specs.Counts.{AreCounts, AreNoFewer, is_own, new_counts, other_side, count_limit};
@@ -205,10 +205,19 @@ impl Streams {
         ensures halves { (self.new.send ≡ self.old.send) × (self.new.recv ≡ self.old.recv) }
         ensures keeps_out { KeepsOut self.old self.new }
     {
-        let is_closed = !self.is_own(id) && was_live && !self.is_live(id);
+        if self.is_own(id) || !was_live || self.is_live(id) {
+            return;
+        }
         let counts = self.counts(id.dir());
-        let closed = counts.closed.saturating_add(u64::from(is_closed));
+        let closed = counts.closed.saturating_add(1);
         self.set_counts(id.dir(), StreamCounts { closed, ..counts });
+    }
+
+    // Whether a stream is one of the peer's, and live. None of this end's own streams is counted as closed.
+    fn is_live_of_peer(&self, id: StreamId) -> bool
+        ensures { result ≡ (not (is_own self.now.side id.0) && is_live self.now id.0) }
+    {
+        !self.is_own(id) && self.is_live(id)
     }
 
     // This end opens the stream.

@@ -1,6 +1,6 @@
 -- A space once a call changed its streams.
 use Rattle.std.proofs.Common.{List}
-use Rattle.qh_conn.proofs.StreamsGo.{StreamsGo}
+use Rattle.qh_core.proofs.StreamsGo.{StreamsGo}
 use Rattle.qh_space.proofs.StreamsStepped.{stepped}
 use Rattle.qh_space.specs.Space.{IsSpace}
 use Rattle.qh_space.specs.declared.data_space.DataSpace.{DataSpace}

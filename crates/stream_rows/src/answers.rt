@@ -1,7 +1,7 @@
 //! How each answer is told: words, numbers and bytes with a blank between them.
 use crate::settings::name_of_dir;
 use qh_base::{ConnectionError, TransportErrorCode};
-use qh_conn::Event;
+use qh_core::Event;
 use qh_streams::{StreamEvent, StreamFault};
 use row_text::{RowFault, put_bytes, put_hex_number, put_number};
 

@@ -5,7 +5,7 @@ use crate::settings::{dir_of, stream_of, varint_of};
 use bytes::Bytes;
 use qh_base::{StreamId, VarInt};
 use qh_buffers::Chunk;
-use qh_conn::TakeFault;
+use qh_core::TakeFault;
 use qh_streams::{ClosedStream, FinishFault, ReadFault, ReadableFault, WriteFault, Written};
 use row_text::{RowFault, Words};
 use std::alloc::Global;

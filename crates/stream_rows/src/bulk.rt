@@ -5,7 +5,7 @@ use crate::pair::Pair;
 use crate::settings::{Settings, USUAL};
 use crate::streams::{StreamsEnd, StreamsPair, hand_over, write_acked};
 use qh_base::{Dir, Memory, StreamId};
-use qh_conn::TakeFault;
+use qh_core::TakeFault;
 use qh_streams::{ReadFault, WriteFault};
 use row_text::{RowFault, Words};
 use std::alloc::Global;

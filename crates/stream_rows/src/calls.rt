@@ -5,7 +5,7 @@ use qh_base::{
     Transmit, VarInt,
 };
 use qh_buffers::Chunk;
-use qh_conn::{
+use qh_core::{
     ConnConfig, Connection, ConnectionEvent, ConnectionStats, ControllerMetrics, EndpointEvent,
     Event, PlainSession, TakeFault,
 };

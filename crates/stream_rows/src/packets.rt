@@ -1,7 +1,7 @@
 //! Packets that are made by hand, and packets as they are told.
 use crate::answers::{Part, put};
 use qh_base::{ConnectionId, Side, Space};
-use qh_conn::{PlainSession, Session};
+use qh_core::{PlainSession, Session};
 use row_text::RowFault;
 use std::alloc::Global;
 

@@ -6,7 +6,7 @@ use crate::packets::{Packet, TAG_LEN, head_len, id_of, local_id, peer_of, put_pa
 use crate::settings::{Settings, varint_of};
 use bytes::Bytes;
 use qh_base::{ConnectionId, FourTuple, Memory, Moment, Reason, Side};
-use qh_conn::{ConnConfig, ConnectionEvent, EndpointEvent, PlainSession};
+use qh_core::{ConnectionEvent, EndpointEvent, PlainSession};
 use row_text::{RowFault, Words};
 use std::alloc::Global;
 use std::net::{IpAddr, Ipv4Addr, SocketAddr};
@@ -41,14 +41,14 @@ fn identity_of(side: Side) -> Result<Identity, RowFault> {
 }
 
 // One end, at the moment 0.
-fn end(alloc: Global, config: ConnConfig, identity: Identity) -> ConnectionEnd {
+fn end(alloc: Global, settings: &Settings, identity: Identity) -> ConnectionEnd {
     let addresses = FourTuple {
         remote: address(peer_of(identity.side)),
         local_ip: None,
     };
     ConnectionEnd::new(
         alloc,
-        config,
+        settings.config(),
         identity.side,
         identity.session,
         identity.local,
@@ -70,10 +70,9 @@ impl Pair {
     pub(crate) fn new(alloc: Global, settings: &Settings) -> Result<Pair, RowFault> {
         let client = identity_of(Side::Client)?;
         let server = identity_of(Side::Server)?;
-        let config = settings.config();
         Ok(Pair {
-            client: end(alloc, config, client),
-            server: end(alloc, config, server),
+            client: end(alloc, settings, client),
+            server: end(alloc, settings, server),
             link: Link::new(alloc),
         })
     }

@@ -1,7 +1,7 @@
 //! The server's part of an exchange at an end, with a service that echoes.
 use crate::calls::ConnectionEnd;
 use qh_base::{Memory, Side};
-use qh_conn::{Connection, PlainSession};
+use qh_core::{Connection, PlainSession};
 use qh_roles::Server;
 use qh_service::{Echo, Limits};
 use row_text::RowFault;

@@ -1,6 +1,6 @@
 //! What ends begin with, and the small words of rows: streams, directions, codes.
 use qh_base::{Dir, Span, StreamId, VarInt};
-use qh_conn::ConnConfig;
+use qh_core::{ConnConfig, first_limits};
 use qh_space::SpaceConfig;
 use qh_streams::{PeerLimits, StreamLimits};
 use row_text::{RowFault, Words};
@@ -110,6 +110,7 @@ impl Settings {
     pub(crate) fn config(&self) -> ConnConfig {
         ConnConfig {
             limits: self.limits,
+            peer: first_limits(self.limits),
             idle: match self.idle {
                 0 => None,
                 idle => Some(Span(idle)),

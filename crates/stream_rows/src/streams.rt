@@ -11,7 +11,7 @@ use crate::settings::{Settings, dir_of, stream_of};
 use bytes::Bytes;
 use qh_base::{Dir, Memory, Side, StreamId, VarInt};
 use qh_buffers::Chunk;
-use qh_conn::{Event, TakeFault};
+use qh_core::{Event, TakeFault};
 use qh_frame::get_frame;
 use qh_streams::{
     Chunks, ChunksState, ClosedStream, FinishFault, ItemLog, ReadFault, SentFrame, StreamFault,

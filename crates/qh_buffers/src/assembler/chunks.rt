@@ -92,10 +92,10 @@ impl Chunks {
     pub(super) fn run(&self, offset: u64, max_length: usize) -> usize
         ensures { result ≡ run_of offset max_length self.now }
     {
-        if self.queue.is_empty() {
-            return map::run(&self.map, offset, max_length);
+        if self.map.is_empty() {
+            return queue::run(&self.queue, offset, max_length);
         }
-        queue::run(&self.queue, offset, max_length)
+        map::run(&self.map, offset, max_length)
     }
 
     /// The first `length` bytes that wait: a part of the first one, or a copy of parts of several.

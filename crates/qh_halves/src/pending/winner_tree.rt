@@ -86,7 +86,11 @@ impl WinnerTree {
         self.nodes[node] = stream;
         while node > 1 {
             node /= 2;
-            self.nodes[node] = winner(self.nodes[2 * node], self.nodes[2 * node + 1]);
+            let first = winner(self.nodes[2 * node], self.nodes[2 * node + 1]);
+            if self.nodes[node] == first {
+                return;
+            }
+            self.nodes[node] = first;
         }
     }
 

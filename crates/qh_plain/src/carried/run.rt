@@ -4,6 +4,7 @@ ghost use Rattle.qh_spec.specs.FrameViews.{stream_of, stream_values};
 ghost use Rattle.qh_plain.specs.Carried.{run_from};
 
 use crate::packets::{FieldValue, Frame};
+use crate::types::{FIN_BIT, has_bit, is_stream_type};
 use bytes::Bytes;
 use qh_base::Memory;
 use std::alloc::Global;
@@ -35,14 +36,14 @@ impl Run {
         ensures { IfOk result (λ r. r ≡ stream_of frame.now) }
     {
         let kind = frame.kind();
-        if kind / 8 != 1 {
+        if !is_stream_type(kind) {
             return Ok(None);
         }
         let Some((id, offset, payload)) = fields(frame.values()) else {
             return Ok(None);
         };
         let payload = Bytes::copy_from_slice(alloc, payload)?;
-        let fin = kind % 2 == 1;
+        let fin = has_bit(kind, FIN_BIT);
         Ok(Some(Run {
             id,
             offset,

@@ -1,9 +1,17 @@
 ghost use Rattle.std.specs.Prelude.{◌≡◌, ℕ, ◌<◌, List, map, IfOk, IfSome, IfNone};
 ghost use Rattle.std.specs.Option.{option_map};
-ghost use Rattle.qh_spec.specs.QuicFrames.{Value as AValue, QuicFrame, shape_of as shape_by_type, AreValues, IsQuicFrame, AreQuicFrames};
+ghost use Rattle.qh_spec.specs.QuicFrame.{has_bit as has_bit_of_type};
+ghost use Rattle.qh_spec.specs.QuicFrames.{Value as AValue, QuicFrame, shape_of as shape_by_type, stream_shape as stream_shape_by_bits, AreValues, IsQuicFrame, AreQuicFrames};
 ghost use Rattle.qh_plain.specs.Packets.{part_of};
 
 use super::value::{FieldValue, Part, read_number};
+use crate::types::{
+    ACK, ACK_ECN, APPLICATION_CLOSE, CONNECTION_CLOSE, CRYPTO, DATA_BLOCKED, DATAGRAM,
+    DATAGRAM_WITH_LENGTH, HANDSHAKE_DONE, LENGTH_BIT, MAX_DATA, MAX_STREAM_DATA, MAX_STREAMS_BIDI,
+    MAX_STREAMS_UNI, NEW_CONNECTION_ID, NEW_TOKEN, OFFSET_BIT, PADDING, PATH_CHALLENGE,
+    PATH_RESPONSE, PING, RESET_STREAM, RETIRE_CONNECTION_ID, STOP_SENDING, STREAM,
+    STREAM_DATA_BLOCKED, STREAMS_BLOCKED_BIDI, STREAMS_BLOCKED_UNI, has_bit,
+};
 use qh_base::Memory;
 use std::alloc::Global;
 use std::marker::Model;
@@ -62,11 +70,9 @@ fn shape_of(kind: u64) -> Option<&'static [Part]>
     ensures { option_map (λ parts. map part_of parts.now) result ≡ shape_by_type kind }
 {
     match kind {
-        // PADDING, PING, HANDSHAKE_DONE
-        0 | 1 | 30 => Some(&[]),
-        // ACK
-        2 => Some(&[Part::Number, Part::Number, Part::Ranges]),
-        3 => Some(&[
+        PADDING | PING | HANDSHAKE_DONE => Some(&[]),
+        ACK => Some(&[Part::Number, Part::Number, Part::Ranges]),
+        ACK_ECN => Some(&[
             Part::Number,
             Part::Number,
             Part::Ranges,
@@ -74,35 +80,40 @@ fn shape_of(kind: u64) -> Option<&'static [Part]>
             Part::Number,
             Part::Number,
         ]),
-        // RESET_STREAM
-        4 => Some(&[Part::Number, Part::Number, Part::Number]),
-        // STOP_SENDING, MAX_STREAM_DATA, STREAM_DATA_BLOCKED
-        5 | 17 | 21 => Some(&[Part::Number, Part::Number]),
-        // CRYPTO, CONNECTION_CLOSE of the application
-        6 | 29 => Some(&[Part::Number, Part::Counted]),
-        // NEW_TOKEN, DATAGRAM with a length
-        7 | 49 => Some(&[Part::Counted]),
-        // STREAM
-        8 | 9 => Some(&[Part::Number, Part::Left]),
-        10 | 11 => Some(&[Part::Number, Part::Counted]),
-        12 | 13 => Some(&[Part::Number, Part::Number, Part::Left]),
-        14 | 15 => Some(&[Part::Number, Part::Number, Part::Counted]),
-        // MAX_DATA, MAX_STREAMS, DATA_BLOCKED, STREAMS_BLOCKED, RETIRE_CONNECTION_ID
-        16 | 18 | 19 | 20 | 22 | 23 | 25 => Some(&[Part::Number]),
-        // NEW_CONNECTION_ID
-        24 => Some(&[
+        RESET_STREAM => Some(&[Part::Number, Part::Number, Part::Number]),
+        STOP_SENDING | MAX_STREAM_DATA | STREAM_DATA_BLOCKED => Some(&[Part::Number, Part::Number]),
+        CRYPTO | APPLICATION_CLOSE => Some(&[Part::Number, Part::Counted]),
+        NEW_TOKEN | DATAGRAM_WITH_LENGTH => Some(&[Part::Counted]),
+        STREAM..MAX_DATA => Some(stream_shape(kind)),
+        MAX_DATA
+        | MAX_STREAMS_BIDI
+        | MAX_STREAMS_UNI
+        | DATA_BLOCKED
+        | STREAMS_BLOCKED_BIDI
+        | STREAMS_BLOCKED_UNI
+        | RETIRE_CONNECTION_ID => Some(&[Part::Number]),
+        NEW_CONNECTION_ID => Some(&[
             Part::Number,
             Part::Number,
             Part::ShortCounted,
             Part::Fixed(16),
         ]),
-        // PATH_CHALLENGE, PATH_RESPONSE
-        26 | 27 => Some(&[Part::Fixed(8)]),
-        // CONNECTION_CLOSE
-        28 => Some(&[Part::Number, Part::Number, Part::Counted]),
-        // DATAGRAM to the packet's end
-        48 => Some(&[Part::Left]),
+        PATH_CHALLENGE | PATH_RESPONSE => Some(&[Part::Fixed(8)]),
+        CONNECTION_CLOSE => Some(&[Part::Number, Part::Number, Part::Counted]),
+        DATAGRAM => Some(&[Part::Left]),
         _ => None,
+    }
+}
+
+/// The fields of a STREAM frame of this type (RFC 9000, section 19.8).
+fn stream_shape(kind: u64) -> &'static [Part]
+    ensures { map part_of result.now ≡ stream_shape_by_bits (has_bit_of_type 4 kind) (has_bit_of_type 2 kind) }
+{
+    match (has_bit(kind, OFFSET_BIT), has_bit(kind, LENGTH_BIT)) {
+        (false, false) => &[Part::Number, Part::Left],
+        (false, true) => &[Part::Number, Part::Counted],
+        (true, false) => &[Part::Number, Part::Number, Part::Left],
+        (true, true) => &[Part::Number, Part::Number, Part::Counted],
     }
 }
 

@@ -4,7 +4,7 @@ ghost use Rattle.qh_half.specs.declared.fault.ReadFault.TheVariants.{Memory as L
 ghost use Rattle.qh_half.specs.declared.fault.WriteFault.TheVariants.{Blocked, Memory as Wanting};
 ghost use Rattle.qh_half.specs.Send.{credit, chunks_after, whole_chunks};
 ghost use Rattle.qh_halves.specs.SendHalves.{send_at, write_limit, write_fault_at, finish_fault_at, is_reset_refused_at, half_priority, IsStep, IsAbsent, Takes, Finishes, IsResetWith, HasPriority};
-ghost use Rattle.qh_halves.specs.RecvHalves.{IsRecvStep, Reads, Begins, WaitsAt, WaitsInOrderAt, IsBegunRead, is_wanting, Stops, TakesReset, readable_fault_at, is_closed_at, is_credit_due};
+ghost use Rattle.qh_halves.specs.RecvHalves.{IsRecvStep, Reads, Begins, WaitsForMoreAt, WaitsForMoreInOrderAt, IsBegunRead, is_wanting, Stops, TakesReset, readable_fault_at, is_closed_at, is_credit_due};
 ghost use Rattle.qh_streams.specs.Streams.{counted_closed, is_live, with_blocked, IsWriteRefusal, KeepsOut};
 
 use crate::{ClosedStream, FinishFault, ReadFault, ReadableFault, Streams, WriteFault, Written};
@@ -135,7 +135,7 @@ impl Streams {
     pub fn next(&mut self, id: StreamId, max_length: usize) -> Result<Option<Chunk>, ReadFault>
         requires { is_closed_at self.old.recv id.0 ≡ false }
         ensures answer { IsRecvStep (Reads max_length result) self.old.recv self.new.recv id.0 0 }
-        ensures lacks { result ≡ Err Lacking → WaitsAt self.old.recv id.0 → ⊥ }
+        ensures lacks { result ≡ Err Lacking → WaitsForMoreAt self.old.recv id.0 → ⊥ }
         ensures value { self.new ≡ counted_closed (record self.old { recv = self.new.recv }) id.0 (is_live self.old id.0) }
         ensures keeps_out { KeepsOut self.old self.new }
     {
@@ -163,7 +163,7 @@ impl Streams {
         requires { readable_fault_at self.old.recv id.0 ordered ≡ None }
         ensures answer { IsBegunRead max_length (ordered || is_wanting result) result self.old.recv self.new.recv id.0 }
         ensures memory { result ≡ Err Lacking → self.new ≡ self.old }
-        ensures lacks { result ≡ Err Lacking → WaitsInOrderAt self.old.recv id.0 ordered → ⊥ }
+        ensures lacks { result ≡ Err Lacking → WaitsForMoreInOrderAt self.old.recv id.0 ordered → ⊥ }
         ensures value { self.new ≡ counted_closed (record self.old { recv = self.new.recv }) id.0 (is_live self.old id.0) }
         ensures keeps_out { KeepsOut self.old self.new }
     {

@@ -165,6 +165,18 @@ impl Streams {
             self.acked(frame);
             return;
         }
+        self.acked_and_confirmed(frame, log);
+    }
+
+    // The same, whether there is a log or not. It stands apart so that `acked_into` hands a frame on as it is if there is none.
+    fn acked_and_confirmed(&mut self, frame: SentFrame, log: &mut Option<Vec<Item>>)
+        requires out { IsOut self.old frame }
+        requires room { HasRoom log.old 1 }
+        ensures acked { IsAckedFrame self.old self.new frame }
+        ensures confirmed { Logs log.old log.new (confirmed_items self.old self.new frame) }
+        ensures room { (n : ℕ) → HasRoom log.old (n + 1) → HasRoom log.new n }
+        ensures keeps_out { KeepsOut self.old self.new }
+    {
         match frame {
             SentFrame::Stream { id, piece } => {
                 let taken = self.send.taken_to(id.0);

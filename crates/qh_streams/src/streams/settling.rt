@@ -88,7 +88,7 @@ impl Streams {
         ensures acked { IsAckedFrame self.old self.new (Stream id piece) }
         ensures keeps_out { KeepsOut self.old self.new }
     {
-        let was_live = self.is_live(id);
+        let was_live = self.is_live_of_peer(id);
         if self.send.ack(id.0, piece) {
             let _ = self.events.push_back(StreamEvent::Finished { id });
         }

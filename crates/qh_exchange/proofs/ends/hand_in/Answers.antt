@@ -4,7 +4,7 @@ use Rattle.std.proofs.lemmas.Result.{err_from_is_err_and}
 use Rattle.qh_base.specs.declared.connection_error.ConnectionError.TheVariants as lost
 use Rattle.qh_conduct.specs.Behaves.{Behaves}
 use Rattle.qh_conduct.specs.Restarting.{AreSealed}
-use Rattle.qh_conn.specs.declared.event.ConnectionEvent.TheVariants.{Datagram}
+use Rattle.qh_core.specs.declared.event.ConnectionEvent.TheVariants.{Datagram}
 use Rattle.qh_spec.specs.Tag.{tag_bytes}
 use Rattle.qh_spec.specs.Transcript.{HandedIn}
 use Rattle.qh_spec.specs.declared.link.Event.TheVariants.{Given}

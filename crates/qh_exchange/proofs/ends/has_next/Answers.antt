@@ -3,8 +3,8 @@ use Rattle.std.specs.Prelude.{IfSome, drop, is_some}
 use Rattle.qh_base.specs.declared.path.Transmit.{Transmit}
 use Rattle.qh_conduct.specs.Behaves.{Behaves}
 use Rattle.qh_conduct.specs.Calls.{ToldTheSame}
-use Rattle.qh_conn.specs.Follows.{Follows, transmit_acts}
-use Rattle.qh_conn.specs.Sending.{IsDatagramMade}
+use Rattle.qh_core.specs.Follows.{Follows, transmit_acts}
+use Rattle.qh_core.specs.Sending.{IsDatagramMade}
 use Rattle.qh_spec.specs.Tag.{tag_bytes}
 use Rattle.qh_spec.specs.Transcript.{Act, HandedOut}
 use Rattle.qh_exchange.specs.EndCalls.{polled_acts}

@@ -11,6 +11,7 @@ use Rattle.qh_exchange.proofs.ClockSteps.{counts_link_fault, is_link_error}
 use Rattle.qh_exchange.proofs.EndCounts.{sent_none, sent_more, sent_all, sent_full, counts_more, told_same, told_trans}
 use Rattle.qh_exchange.proofs.EndSounds.{sound_failed, sound_sent, sound_ungiven}
 use Rattle.qh_exchange.proofs.EndSteps.{end_trans, end_fails, end_kind, end_still, end_sent, end_unsent, end_refl, end_step}
+use Rattle.qh_exchange.proofs.Faults.{fault_again, fault_behind, fault_here}
 use Rattle.qh_exchange.proofs.ends.send_datagrams.Goals as goal
 
 pub loop-datagram-init : goal.loop-datagram-init
@@ -49,6 +50,13 @@ pub returns-in_err-send-clause-cause : goal.returns-in_err-send-clause-cause
 returns-in_err-send-clause-cause g c =
     let p = err_from_is_err_and c.from_residual-in_err-send.result c.from_residual-in_err-send.ensures.1 in
     rw (p.1, p.2) (counts_more _ _ _ _ c.loop-datagram.invariant.faults (counts_link_fault _ _ c.in_err-send.field-0.0 c.in_err-send.ensures.cause))
+
+pub returns-in_err-send-clause-fault : goal.returns-in_err-send-clause-fault
+returns-in_err-send-clause-fault g c =
+    let p = err_from_is_err_and c.from_residual-in_err-send.result c.from_residual-in_err-send.ensures.1 in
+    rw (p.1, p.2)
+    (fault_again (Unit {0}) (Unit {0}) _ _ _ (fault_behind _ _ _ c.loop-datagram.invariant.step.more c.loop-datagram.invariant.step.told_is)
+    (fault_here (Unit {0}) c.in_err-send.field-0.0 _ _ c.in_err-send.ensures.events))
 
 pub returns-in_err-send-clause-errors : goal.returns-in_err-send-clause-errors
 returns-in_err-send-clause-errors g c =

@@ -1,6 +1,6 @@
 use Rattle.std.proofs.Common.{◌≡◌, true}
 use Rattle.qh_conduct.specs.Calls.{ToldTheSame}
-use Rattle.qh_conn.specs.Inner.{is_open}
+use Rattle.qh_core.specs.Inner.{is_open}
 use Rattle.qh_exchange.specs.EndCalls.{AreSent}
 use Rattle.qh_exchange.proofs.EndSteps.{EndWent}
 use Rattle.qh_exchange.proofs.ends.send_datagrams.Given as goal

@@ -8,6 +8,7 @@ use Rattle.qh_exchange.specs.EndCalls.{AreGiven}
 use Rattle.qh_exchange.proofs.ClockSteps.{counts_link_fault, is_link_error}
 use Rattle.qh_exchange.proofs.EndCounts.{given_none, given_more, given_dry, given_full, counts_more}
 use Rattle.qh_exchange.proofs.EndSteps.{end_trans, end_fails, end_kind, end_idle, end_given, end_ungiven, end_refl, end_step}
+use Rattle.qh_exchange.proofs.Faults.{fault_again, fault_behind, fault_here}
 use Rattle.qh_exchange.proofs.Wire.{silent_fault}
 use Rattle.qh_exchange.proofs.ends.take_datagrams.Goals as goal
 
@@ -27,6 +28,12 @@ pub returns-in_err-len-clause-cause : goal.returns-in_err-len-clause-cause
 returns-in_err-len-clause-cause g c =
     let p = err_from_is_err_and c.from_residual.result c.from_residual.ensures.1 in
     rw (p.1, p.2) (counts_more _ _ _ _ c.loop-datagram.invariant.faults (counts_link_fault _ _ c.in_err-len.field-0.0 c.in_err-len.ensures.cause))
+
+pub returns-in_err-len-clause-fault : goal.returns-in_err-len-clause-fault
+returns-in_err-len-clause-fault g c =
+    let p = err_from_is_err_and c.from_residual.result c.from_residual.ensures.1 in
+    let e = c.in_err-len.field-0.0 in
+    rw (p.1, p.2) (fault_again (Unit {0}) (Unit {0}) _ _ _ (fault_behind _ _ _ c.loop-datagram.invariant.step.more c.loop-datagram.invariant.step.told_is) (fault_here (Unit {0}) e _ _ c.in_err-len.ensures.events))
 
 pub returns-in_err-len-clause-errors : goal.returns-in_err-len-clause-errors
 returns-in_err-len-clause-errors g c =

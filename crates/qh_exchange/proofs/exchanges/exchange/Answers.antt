@@ -8,7 +8,8 @@ use Rattle.qh_exchange.proofs.RoundsFair.{fair_by, list_fairly}
 use Rattle.qh_exchange.proofs.AskedLists.{invalid_still, is_invalid, is_nothing, is_something, list_no_link, list_not_idle, list_not_lost, list_not_out, nothing_valid}
 use Rattle.qh_spec.specs.Fault.{CountsFaults}
 use Rattle.qh_exchange.specs.Turn.{has_link_failed}
-use Rattle.qh_exchange.proofs.ExchangeEnds.{answered_by, count_by, ends_by, held_by, idle_by, invalid_by, lost_by, nothing_asked, out_by, served_once, tells, within_all, within_none}
+use Rattle.qh_exchange.proofs.ExchangeEnds.{answered_by, count_by, ends_by, fault_by, held_by, idle_by, invalid_by, lost_by, nothing_asked, out_by, served_once, tells, within_all, within_none}
+use Rattle.qh_exchange.proofs.Faults.{no_fault}
 use Rattle.qh_exchange.proofs.exchanges.exchange.Goals as goal
 
 -- ---- an empty list
@@ -54,6 +55,11 @@ pub returns-in_err-pair-clause-cause : goal.returns-in_err-pair-clause-cause
 returns-in_err-pair-clause-cause g c =
     let p = err_from_is_err_and c.from_residual.result c.from_residual.ensures.1 in
     rw (p.1, p.2) (never_failed _ _ _ (list_no_link _ c.in_err-pair.ensures.errors) refl)
+
+pub returns-in_err-pair-clause-fault : goal.returns-in_err-pair-clause-fault
+returns-in_err-pair-clause-fault g c =
+    let p = err_from_is_err_and c.from_residual.result c.from_residual.ensures.1 in
+    rw (p.1, p.2) (no_fault (held_by _ _ c.from_residual.result) _ _ (list_no_link _ c.in_err-pair.ensures.errors))
 
 pub returns-in_err-pair-clause-timed_out : goal.returns-in_err-pair-clause-timed_out
 returns-in_err-pair-clause-timed_out g c =
@@ -104,6 +110,9 @@ returns-clause-cause g c =
     (λ e is. subst (λ z. CountsFaults (g.L.Link.faults c.args.link.now) (g.L.Link.faults c.make_rounds-made.new.link) (has_link_failed z)) is c.make_rounds-made.ensures.cause)
     (λ u is. subst (λ z. CountsFaults (g.L.Link.faults c.args.link.now) (g.L.Link.faults c.make_rounds-made.new.link) (has_link_failed z)) is c.make_rounds-made.ensures.cause)
     (λ x u is ok. subst (λ z. CountsFaults (g.L.Link.faults c.args.link.now) (g.L.Link.faults c.make_rounds-made.new.link) (has_link_failed z)) is c.make_rounds-made.ensures.cause)
+
+pub returns-clause-fault : goal.returns-clause-fault
+returns-clause-fault g c = fault_by c.make_rounds-made.result c.answers_of.result _ c.answers_of.ensures.ends c.make_rounds-made.ensures.fault
 
 pub returns-clause-timed_out : goal.returns-clause-timed_out
 returns-clause-timed_out g c =

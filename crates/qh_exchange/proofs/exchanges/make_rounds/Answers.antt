@@ -1,6 +1,7 @@
-use Rattle.std.proofs.Common.{◌≡◌, ◌∙◌, refl, true, false, arith}
+use Rattle.std.proofs.Common.{◌≡◌, ◌∙◌, refl, Bool, true, false, arith}
 use Rattle.std.proofs.lemmas.Result.{err_from_is_err_and}
 use Rattle.qh_exchange.proofs.EndCounts.{counts_more as counts_after}
+use Rattle.qh_exchange.proofs.Faults.{fault_after, fault_again}
 use Rattle.qh_exchange.proofs.Turns.{never_failed, grew_none}
 use Rattle.qh_exchange.proofs.RoundsFair.{rounds_fair}
 use Rattle.qh_exchange.proofs.Rounds.{grew_within, none_made, one_more, rounds_lost, rounds_done, rounds_out}
@@ -35,6 +36,11 @@ pub returns-in_err-turn-clause-cause : goal.returns-in_err-turn-clause-cause
 returns-in_err-turn-clause-cause g c =
     let p = err_from_is_err_and c.from_residual.result c.from_residual.ensures.1 in
     rw (p.1, p.2) (counts_after _ _ _ _ c.loop-round.invariant.made.still c.in_err-turn.ensures.cause)
+
+pub returns-in_err-turn-clause-fault : goal.returns-in_err-turn-clause-fault
+returns-in_err-turn-clause-fault g c =
+    let p = err_from_is_err_and c.from_residual.result c.from_residual.ensures.1 in
+    rw (p.1, p.2) (fault_again Bool (Unit {0}) c.in_err-turn.field-0.0 _ _ (fault_after _ _ _ _ c.loop-round.invariant.made.turns) c.in_err-turn.ensures.fault)
 
 pub returns-in_err-turn-clause-answered : goal.returns-in_err-turn-clause-answered
 returns-in_err-turn-clause-answered g c =

@@ -16,6 +16,7 @@ returns c = λ s as_.
       not_valid = x.not_valid;
       answers = x.answers;
       cause = x.cause;
+      fault = x.fault;
       timed_out = x.timed_out;
       fair = x.fair;
       lost = x.lost;

@@ -1,11 +1,14 @@
 use Rattle.qh_owing.proofs.OwingCalls.{accept_owes, chunks_owe, concurrent_owes, endpoint_owes, finish_owes, open_owes, poll_owes, priority_owes, read_owes, receive_window_owes, received_reset_owes, reset_owes, send_window_owes, stop_owes, write_owes}
 use Rattle.qh_owing.proofs.OwingConnections.{close_owes, event_owes, timed_out, transmit_owes}
-use Rattle.qh_owing.proofs.WhatIsOwed.{fresh, still_owed}
+use Rattle.qh_owing.proofs.WhatIsOwed.{confirmed, fresh, still_owed}
 use Rattle.qh_streams.specs.Streams.{is_two_way}
 use Rattle.qh_owing.proofs.laws.owing.Goals as goal
 
 pub returns-clause-owed : goal.returns-clause-owed
 returns-clause-owed g c = still_owed
+
+pub returns-clause-confirmed : goal.returns-clause-confirmed
+returns-clause-confirmed g c = confirmed
 
 pub returns-clause-fresh : goal.returns-clause-fresh
 returns-clause-fresh g c = fresh

@@ -1,5 +1,5 @@
 use Rattle.std.proofs.Common.{◌≡◌}
-use Rattle.qh_conn.specs.Inner.{with_streams}
+use Rattle.qh_core.specs.Inner.{with_streams}
 use Rattle.qh_roles.specs.Handling.{AcceptStep, Accepts}
 use Rattle.qh_roles.proofs.server.accept_all.Given as goal
 

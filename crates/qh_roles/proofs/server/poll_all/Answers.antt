@@ -1,8 +1,8 @@
 use Rattle.std.proofs.Common.{ap, arith, set, length-set}
 use Rattle.qh_base.specs.declared.stream_id.StreamId.{StreamId}
-use Rattle.qh_roles.proofs.ServerCares.{polled_twice}
+use Rattle.qh_roles.proofs.ServerCares.{polled_twice, polls_same}
 use Rattle.qh_roles.proofs.ServerEntries.{none_answered}
-use Rattle.qh_roles.proofs.ServerSteps.{handlers_more}
+use Rattle.qh_roles.proofs.ServerSteps.{handlers_more, no_handlers}
 use Rattle.qh_roles.proofs.server.poll_all.Goals as goal
 
 pub returns-in_err-read_on-clause-step : goal.returns-in_err-read_on-clause-step
@@ -38,4 +38,10 @@ loop-at-preserved g c = record {
       c.in_ok-read_on.ensures.stirred c.in_ok-read_on.ensures.step c.in_ok-read_on.ensures.answered)
       (let size = length-set c.loop-at.handlers c.loop-at.at c.read_on.new.handler in omega (arith, size)) (ap (λ (s : StreamId). s.0) c.in_ok-respond_on.ensures.same)
       c.in_ok-respond_on.ensures.stirred (c.in_ok-respond_on.ensures.step (g.V.Service.served c.read_on.new.service)) (none_answered (g.V.Service.may_answer c.args.limits.now) (g.V.Service.served c.read_on.new.service));
+}
+
+pub loop-at-init : goal.loop-at-init
+loop-at-init g c = record {
+  polls = polls_same c.args.handlers.now c.args.connection.now.space.streams;
+  step = λ accepted. no_handlers (g.V.Service.may_answer c.args.limits.now) c.args.limits.now accepted c.args.handlers.now c.args.connection.now (g.V.Service.served c.args.service.now);
 }

@@ -1,4 +1,4 @@
-use Rattle.qh_conn.proofs.OpenCall.{open_go}
+use Rattle.qh_core.proofs.OpenCall.{open_go}
 use Rattle.stream_rows.proofs.SpaceSteps.{called}
 use Rattle.stream_rows.proofs.space.open.Goals as goal
 

@@ -1,4 +1,4 @@
-use Rattle.qh_conn.proofs.WriterCalls.{reset_call}
+use Rattle.qh_core.proofs.WriterCalls.{reset_call}
 use Rattle.stream_rows.proofs.SpaceSteps.{called}
 use Rattle.stream_rows.proofs.space.reset.Goals as goal
 

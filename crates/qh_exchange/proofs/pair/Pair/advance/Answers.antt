@@ -1,11 +1,13 @@
 use Rattle.std.proofs.Common.{◌≡◌, refl, ◌∙◌, ap, ◌++◌, ◌∷◌, [], List, Err, Some}
 use Rattle.std.proofs.lemmas.Result.{err_from_is_err_and, IfErr-weaker}
+use Rattle.qh_base.specs.declared.time.Moment.{Moment}
 use Rattle.qh_spec.specs.declared.link.Event.{Event}
 use Rattle.qh_spec.specs.declared.link.Event.TheVariants.{Round}
 use Rattle.qh_exchange.specs.Steps.{AreIntakes, IsLinkError}
 use Rattle.qh_exchange.specs.Turn.{IsTurnError}
 use Rattle.qh_exchange.proofs.ClockSteps.{is_turn_error, link_no_protocol}
 use Rattle.qh_exchange.proofs.Fairness.{fair_last, fair_link, fair_tick, in_order}
+use Rattle.qh_exchange.proofs.Faults.{fault_again, fault_behind, fault_last, no_fault}
 use Rattle.qh_exchange.proofs.FullTurns.{turned_full}
 use Rattle.qh_exchange.proofs.PairSteps.{step_fails, step_kind, step_trans}
 use Rattle.qh_exchange.proofs.EndCounts.{counts_more as counts_after}
@@ -81,6 +83,11 @@ pub returns-in_err-now-clause-cause : goal.returns-in_err-now-clause-cause
 returns-in_err-now-clause-cause g c =
     let p = err_from_is_err_and c.from_residual.result c.from_residual.ensures.1 in rw (p.1, p.2) c.in_err-now.ensures.cause
 
+pub returns-in_err-now-clause-fault : goal.returns-in_err-now-clause-fault
+returns-in_err-now-clause-fault g c =
+    let p = err_from_is_err_and c.from_residual.result c.from_residual.ensures.1 in
+    rw (p.1, p.2) (fault_again Moment (Unit {0}) c.in_err-now.field-0.0 _ _ (λ z. z) c.in_err-now.ensures.fault)
+
 pub returns-in_err-now-clause-fair : goal.returns-in_err-now-clause-fair
 returns-in_err-now-clause-fair g c =
     let p = err_from_is_err_and c.from_residual.result c.from_residual.ensures.1 in
@@ -118,6 +125,12 @@ pub returns-in_err-receive-clause-cause : goal.returns-in_err-receive-clause-cau
 returns-in_err-receive-clause-cause g c =
     let p = err_from_is_err_and c.from_residual-in_err-receive.result c.from_residual-in_err-receive.ensures.1 in
     rw (p.1, p.2) (counts_after _ _ _ _ (c.in_ok-now.ensures.cause.still refl) c.in_err-receive.ensures.cause)
+
+pub returns-in_err-receive-clause-fault : goal.returns-in_err-receive-clause-fault
+returns-in_err-receive-clause-fault g c =
+    let p = err_from_is_err_and c.from_residual-in_err-receive.result c.from_residual-in_err-receive.ensures.1 in
+    let begun = c.in_ok-now.ensures.step [] in
+    rw (p.1, p.2) (fault_again (Unit {0}) (Unit {0}) c.in_err-receive.field-0.0 _ _ (fault_behind _ _ _ begun.more begun.told_is) c.in_err-receive.ensures.fault)
 
 pub returns-in_err-receive-clause-fair : goal.returns-in_err-receive-clause-fair
 returns-in_err-receive-clause-fair g c =
@@ -174,6 +187,11 @@ returns-in_err-tick-clause-cause g c =
     let p = err_from_is_err_and c.from_residual-in_err-tick.result c.from_residual-in_err-tick.ensures.1 in
     rw (p.1, p.2) (counts_after _ _ _ _ (c.in_ok-now.ensures.cause.still refl) (never_failed _ _ _ c.in_err-tick.ensures.cause (c.in_ok-receive.ensures.cause.still refl)))
 
+pub returns-in_err-tick-clause-fault : goal.returns-in_err-tick-clause-fault
+returns-in_err-tick-clause-fault g c =
+    let p = err_from_is_err_and c.from_residual-in_err-tick.result c.from_residual-in_err-tick.ensures.1 in
+    rw (p.1, p.2) (no_fault (Unit {0}) _ _ c.in_err-tick.ensures.cause)
+
 pub returns-in_err-tick-clause-lost : goal.returns-in_err-tick-clause-lost
 returns-in_err-tick-clause-lost g c =
     let p = err_from_is_err_and c.from_residual-in_err-tick.result c.from_residual-in_err-tick.ensures.1 in rw (p.1, p.2) c.in_err-tick.ensures.lost
@@ -209,6 +227,10 @@ returns-in_err-converse-clause-cause g c =
     let p = err_from_is_err_and c.from_residual-in_err-converse.result c.from_residual-in_err-converse.ensures.1 in
     rw (p.1, p.2) (counts_after _ _ _ _ (c.in_ok-now.ensures.cause.still refl) (never_failed _ _ _ refl (c.in_ok-receive.ensures.cause.still refl)))
 
+pub returns-in_err-converse-clause-fault : goal.returns-in_err-converse-clause-fault
+returns-in_err-converse-clause-fault g c =
+    let p = err_from_is_err_and c.from_residual-in_err-converse.result c.from_residual-in_err-converse.ensures.1 in rw (p.1, p.2) tt
+
 pub returns-in_err-converse-clause-fair : goal.returns-in_err-converse-clause-fair
 returns-in_err-converse-clause-fair g c =
     let p = err_from_is_err_and c.from_residual-in_err-converse.result c.from_residual-in_err-converse.ensures.1 in
@@ -243,6 +265,12 @@ returns-clause-step g c =
     (c.transmit.ensures.step _)
     (λ x y k m. turned_full c.transmit.result c.converse.new.self c.transmit.new.self c.in_ok-now.now.0 k.0 k.1 y x k.2 k.3 k.4 m c.transmit.ensures.told c.transmit.ensures.roles
     ((c.converse.ensures.step 0 (Some [])).counted refl) (c.transmit.ensures.step []).counted c.is_up.ensures c.in_ok-converse.ensures.asks c.in_ok-converse.ensures.accepts))
+
+pub returns-clause-fault : goal.returns-clause-fault
+returns-clause-fault g c =
+    let begun = c.in_ok-now.ensures.step [] in
+    let taken = c.in_ok-receive.ensures.step [] in
+    fault_last c.transmit.result _ _ (λ z. fault_behind _ _ _ begun.more begun.told_is (fault_behind _ _ _ taken.more taken.told_is z)) c.transmit.ensures.fault
 
 pub returns-clause-order : goal.returns-clause-order
 returns-clause-order g c =

@@ -1,9 +1,11 @@
 use Rattle.std.proofs.Common.{◌≡◌, refl, ◌∷◌, []}
 use Rattle.std.proofs.lemmas.Result.{err_from_is_err_and}
+use Rattle.qh_base.specs.declared.time.Moment.{Moment}
 use Rattle.qh_spec.specs.declared.link.Event.TheVariants.{Round}
 use Rattle.qh_spec.specs.declared.sides.Side.TheVariants.{Client, Server}
 use Rattle.qh_link.specs.Link.{fault_events}
 use Rattle.qh_exchange.proofs.ClockSteps.{fault_tells_nothing, counts_link_fault, is_link_error}
+use Rattle.qh_exchange.proofs.Faults.{fault_here}
 use Rattle.qh_exchange.proofs.PairSteps.{step_waits, step_rests, step_fails, still_trans}
 use Rattle.qh_exchange.proofs.Turns.{begins_err, begins_ok}
 use Rattle.qh_exchange.proofs.pair.Pair.begin.Goals as goal
@@ -24,6 +26,11 @@ pub returns-in_err-now-clause-cause : goal.returns-in_err-now-clause-cause
 returns-in_err-now-clause-cause g c =
     let p = err_from_is_err_and c.from_residual.result c.from_residual.ensures.1 in
     rw (p.1, p.2) (counts_link_fault _ _ c.in_err-now.field-0.0 c.in_err-now.ensures.cause)
+
+pub returns-in_err-now-clause-fault : goal.returns-in_err-now-clause-fault
+returns-in_err-now-clause-fault g c =
+    let p = err_from_is_err_and c.from_residual.result c.from_residual.ensures.1 in
+    rw (p.1, p.2) (fault_here Moment c.in_err-now.field-0.0 _ _ c.in_err-now.ensures.events)
 
 pub returns-in_err-now-clause-errors : goal.returns-in_err-now-clause-errors
 returns-in_err-now-clause-errors g c =

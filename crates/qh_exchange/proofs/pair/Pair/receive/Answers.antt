@@ -6,6 +6,7 @@ use Rattle.qh_spec.specs.declared.sides.Side.TheVariants.{Server}
 use Rattle.qh_exchange.specs.Pair.{PairState}
 use Rattle.qh_exchange.specs.Steps.{AreIntakes}
 use Rattle.qh_exchange.proofs.ClockSteps.{both_keep}
+use Rattle.qh_exchange.proofs.Faults.{fault_behind, fault_last}
 use Rattle.qh_exchange.proofs.PairEnds.{step_client, step_server}
 use Rattle.qh_exchange.proofs.PairSteps.{run_by_step, step_kind, step_trans}
 use Rattle.qh_exchange.proofs.pair.Pair.receive.Goals as goal
@@ -39,6 +40,10 @@ returns-clause-step g c =
     (λ served. step_trans _ _ _ _ _ _ _ _ _ _ _ _ _ _ (step_client _ _ _ _ _ _ served _ (rw c.self.view_is c.requires.counted) (ap (λ (z : PairState). is_some z.server_end) c.self.view_is ∙ c.requires.open.server) c.in_ok-receive_at.ensures.step)
     (step_server _ _ _ _ _ _ served _ (first.counted refl) c.in_ok-receive_at.ensures.open c.receive_at-2.ensures.step)
     (λ x y k m. IfOk-weaker c.receive_at-2.result (λ z. IsIntake Server y) (λ z. AreIntakes (x ++ y)) (λ z i. record { to_client = x; to_server = y; are = refl; client_takes = k; server_takes = i }) m))
+
+pub returns-clause-fault : goal.returns-clause-fault
+returns-clause-fault g c =
+    fault_last c.receive_at-2.result _ _ (fault_behind _ _ _ c.in_ok-receive_at.ensures.step.more c.in_ok-receive_at.ensures.step.told_is) c.receive_at-2.ensures.fault
 
 pub returns-clause-ticking : goal.returns-clause-ticking
 returns-clause-ticking g c = rw (← c.self.view_is) (both_keep _ _ _ _ _ c.in_ok-receive_at.ensures.step.undisturbed c.receive_at-2.ensures.step.undisturbed)

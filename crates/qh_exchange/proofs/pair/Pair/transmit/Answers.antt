@@ -8,6 +8,7 @@ use Rattle.qh_exchange.specs.Pair.{PairState}
 use Rattle.qh_exchange.specs.Steps.{AreOutputs}
 use Rattle.qh_exchange.specs.Turn.{IsNotLost}
 use Rattle.qh_exchange.proofs.ClockSteps.{both_keep}
+use Rattle.qh_exchange.proofs.Faults.{fault_behind, fault_last}
 use Rattle.qh_exchange.proofs.PairEnds.{step_client, step_server}
 use Rattle.qh_exchange.proofs.PairSteps.{run_by_step, step_kind, step_trans}
 use Rattle.qh_exchange.proofs.pair.Pair.transmit.Goals as goal
@@ -51,6 +52,10 @@ returns-clause-step g c =
     (step_server _ _ _ _ _ _ served _ (first.counted refl) c.in_ok-transmit_at.ensures.open c.transmit_at-2.ensures.step)
     (λ x y k m. IfOk-weaker c.transmit_at-2.result (λ z. IsOutput Server y × IsSentOut Server c.transmit_at-2.new.slot y × ToldAsBefore _ _) (λ z. AreOutputs _ (x ++ y))
     (λ z i. record { by_client = x; by_server = y; are = refl; client_sends = k.0; server_sends = i.0; client_is_done = k.1; server_is_done = i.1 }) m))
+
+pub returns-clause-fault : goal.returns-clause-fault
+returns-clause-fault g c =
+    fault_last c.transmit_at-2.result _ _ (fault_behind _ _ _ c.in_ok-transmit_at.ensures.step.more c.in_ok-transmit_at.ensures.step.told_is) c.transmit_at-2.ensures.fault
 
 pub returns-clause-ticking : goal.returns-clause-ticking
 returns-clause-ticking g c = rw (← c.self.view_is) (both_keep _ _ _ _ _ c.in_ok-transmit_at.ensures.step.undisturbed c.transmit_at-2.ensures.step.undisturbed)

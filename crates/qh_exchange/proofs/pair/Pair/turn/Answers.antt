@@ -6,6 +6,7 @@ use Rattle.qh_exchange.specs.Pair.{PairState}
 use Rattle.qh_exchange.specs.Turn.{IsProtocolLoss}
 use Rattle.qh_exchange.proofs.ClockSteps.{both_ticking}
 use Rattle.qh_exchange.proofs.Fairness.{fair_turn, told_by}
+use Rattle.qh_exchange.proofs.Faults.{fault_again}
 use Rattle.qh_exchange.proofs.FullTurns.{full_as}
 use Rattle.qh_exchange.proofs.Turns.{goes_well_as, goes_ill, clocked_well_as, clocked_ill, adds, protocol_again}
 use Rattle.qh_exchange.proofs.pair.Pair.turn.Goals as goal
@@ -16,6 +17,10 @@ returns-in_err-advance-clause-goes_on g c = rw (← c.self.view_is) (goes_ill _ 
 pub returns-in_err-advance-clause-cause : goal.returns-in_err-advance-clause-cause
 returns-in_err-advance-clause-cause g c =
     let p = err_from_is_err_and c.from_residual.result c.from_residual.ensures.1 in rw (p.1, p.2) c.in_err-advance.ensures.cause
+
+pub returns-in_err-advance-clause-fault : goal.returns-in_err-advance-clause-fault
+returns-in_err-advance-clause-fault g c =
+    let p = err_from_is_err_and c.from_residual.result c.from_residual.ensures.1 in rw (p.1, p.2) (fault_again (Unit {0}) Bool c.in_err-advance.field-0.0 _ _ (λ z. z) c.in_err-advance.ensures.fault)
 
 pub returns-in_err-advance-clause-errors : goal.returns-in_err-advance-clause-errors
 returns-in_err-advance-clause-errors g c =

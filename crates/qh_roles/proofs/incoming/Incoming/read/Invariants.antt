@@ -1,5 +1,6 @@
-use Rattle.std.proofs.Common.{◌≡◌, List, Ok}
-use Rattle.qh_conduct.specs.Behaves.{Behaves}
+use Rattle.std.proofs.Common.{◌≡◌, ◌<◌, List, Ok}
+use Rattle.qh_core.specs.declared.inner.Inner.{Inner}
+use Rattle.qh_roles.specs.Going.{WentFrom}
 use Rattle.qh_roles.specs.Streams.{GivesNoMore, IsReading, IsStirred, NoneArrived, ReadsOn}
 use Rattle.qh_roles.specs.declared.incoming.ReadState.TheVariants as reading
 use Rattle.qh_spec.specs.Transcript.{Act}
@@ -13,5 +14,7 @@ invariant-loop-piece g l = record {
   none_arrived : NoneArrived l.fn.connection.space.streams l.connection.space.streams;
   unwritten : l.connection.space.streams.send ≡ l.fn.connection.space.streams.send;
   more : GivesNoMore l.connection.space.streams.recv l.fn.self.stream → GivesNoMore l.fn.connection.space.streams.recv l.fn.self.stream;
-  reads : (t : List Act) → Behaves l.fn.connection t → IsReading t l.fn.self → ReadsOn (Ok reading.Blocked) l.self l.connection t;
+  still : GivesNoMore l.fn.connection.space.streams.recv l.fn.self.stream → GivesNoMore l.connection.space.streams.recv l.fn.self.stream;
+  given : 0 < l._piece → GivesNoMore l.fn.connection.space.streams.recv l.fn.self.stream → ⊥;
+  reads : (start : Inner _) (before t : List Act) → WentFrom start before l.fn.connection t → IsReading t l.fn.self → ReadsOn start before (Ok reading.Blocked) l.self l.connection t;
 }

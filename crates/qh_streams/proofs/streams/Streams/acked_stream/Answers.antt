@@ -1,8 +1,8 @@
 use Rattle.std.proofs.Common.{◌≡◌, ◌<◌, ◌++◌, refl, sym, ap, ◌∙◌, arith, deque_len, deque_capacity}
 use Rattle.std.proofs.lemmas.List.{append-nil}
-use Rattle.qh_streams.specs.Streams.{finished_events}
+use Rattle.qh_streams.specs.Streams.{finished_events, is_live}
 use Rattle.qh_streams.proofs.StreamsKept.{send_kept, halves_kept, send_settled, recv_same, out_kept, later_same}
-use Rattle.qh_streams.proofs.StreamsSettled.{seen, room_for_finished, pushed, pushed_length, is_piece_acked}
+use Rattle.qh_streams.proofs.StreamsSettled.{seen, room_for_finished, pushed, pushed_length, is_piece_acked, counted_of_peer}
 use Rattle.qh_streams.proofs.streams.Streams.acked_stream.Goals as goal
 use Rattle.qh_streams.proofs.streams.Streams.acked_stream.Goals.{then-ack, else-ack}
 
@@ -34,9 +34,11 @@ mid_is c = elim c.if-ack.branch [
 
 pub returns-clause-acked : goal.returns-clause-acked
 returns-clause-acked c =
+    let s = seen c.self.inside in
+    let mid = record s { send = c.ack.new.self; events = s.events ++ finished_events c.ack.result c.args.id } in
     rw (← c.self.view_is)
-    (is_piece_acked (seen c.self.inside) c.count_closed.new.self c.ack.new.self c.args.id c.args.piece c.ack.result c.ack.ensures.settled
-    (c.count_closed.ensures.value ∙ rw (c.is_live-was_live.ensures, ← c.self.view_is, mid_is c) refl))
+    (is_piece_acked s c.count_closed.new.self c.ack.new.self c.args.id c.args.piece c.ack.result c.ack.ensures.settled
+    (c.count_closed.ensures.value ∙ rw (c.is_live_of_peer-was_live.ensures, ← c.self.view_is, mid_is c) (counted_of_peer mid c.args.id.0 (is_live s c.args.id.0))))
 
 pub returns-clause-keeps_out : goal.returns-clause-keeps_out
 returns-clause-keeps_out c f out =

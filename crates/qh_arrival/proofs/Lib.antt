@@ -1,0 +1,10 @@
+pub mod AccordsOn
+pub mod AskedCalls
+pub mod AskedFrames
+pub mod AsksHalves
+pub mod AsksNoMore
+pub mod PacketsRead
+pub mod PacketsTaken
+pub mod SaidCalls
+pub mod SaidFrames
+pub mod SaidStreams

@@ -1,0 +1,4 @@
+pub mod Accord
+pub mod Asked
+pub mod Said
+pub mod Taking

@@ -1,5 +1,0 @@
-use Rattle.qh_conn.proofs.Following.{first_follows}
-use Rattle.qh_conn.proofs.connection.Connection.new.Goals as goal
-
-pub returns-clause-follows : goal.returns-clause-follows
-returns-clause-follows g c = first_follows c.new.result _ c.new.ensures.space.no_half c.new.ensures.unused c.new.ensures.received c.new.ensures.connection

@@ -1,9 +1,0 @@
-pub mod Config
-pub mod Event
-pub mod Follows
-pub mod Inner
-pub mod Progress
-pub mod Receiving
-pub mod Sending
-pub mod Streams
-pub mod Timers

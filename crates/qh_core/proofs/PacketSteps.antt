@@ -1,0 +1,81 @@
+-- What a packet does whose tag was accepted, and what holds of the connection behind its frames.
+use Rattle.std.proofs.Common.{◌≡◌, ℕ, Bool, true, false, List, [], ◌∷◌, Option, Some, None, refl, sym, ap, subst, ◌∙◌}
+use Rattle.std.specs.Option.{option_map}
+use Rattle.std.specs.Prelude.{◌||◌, OnErr, OnOk, Result, Ok, Err, is_err}
+use Rattle.qh_base.specs.declared.connection_error.ConnectionError.{ConnectionError}
+use Rattle.qh_base.specs.declared.connection_error.ConnectionError.TheVariants.{Memory, TransportError as Fault}
+use Rattle.qh_base.specs.declared.memory.Memory.{Memory as OutOfMemory}
+use Rattle.qh_base.specs.declared.time.Moment.{Moment}
+use Rattle.qh_base.specs.declared.transport_error.TransportError.{TransportError}
+use Rattle.qh_core.specs.Inner.{IsConnection, is_open}
+use Rattle.qh_core.specs.Receiving.{AreFramesTaken, GoesOnWith, IsAccepted, IsFault, IsFaulted, IsNewTo, IsPacketHandled, IsPacketUnread, StopsUnrefused}
+use Rattle.qh_core.specs.Receiving.IsPacketHandled.{empty, faulty, taken, unnoted}
+use Rattle.qh_core.specs.Timers.{restarted}
+use Rattle.qh_core.specs.declared.idle.IdleTimer.{IdleTimer}
+use Rattle.qh_core.specs.declared.inner.Inner.{Inner}
+use Rattle.qh_core.proofs.Ends.{same_of}
+use Rattle.qh_core.proofs.FrameSteps.{HasTaken}
+use Rattle.qh_frame.specs.TypeOf.{named}
+use Rattle.qh_frame.specs.declared.frame.FrameFault.{FrameFault}
+use Rattle.qh_history.specs.Standing.{SameEnd}
+use Rattle.qh_packet.specs.Frames.{AreValidFrames, IsFaultyFrame}
+use Rattle.qh_packet.specs.declared.frames.PacketFault.{PacketFault}
+use Rattle.qh_packet.specs.declared.frames.PacketFault.TheVariants as packet_fault
+use Rattle.qh_recovery.specs.Accepted.{Remembers}
+use Rattle.qh_recovery.specs.PendingAcks.{IsJoined}
+use Rattle.qh_space.specs.Space.{IsSpace}
+use Rattle.qh_space.specs.declared.data_space.DataSpace.{DataSpace}
+use Rattle.qh_spec.specs.Codes as codes
+
+-- its number is noted where memory wasn't wanting for that
+pub noted_by : {E : Type 0} (number : ℕ) (is_eliciting : Bool) (old mid : DataSpace) (answer : Result Unit E) → false ≡ is_err answer
+    → OnOk answer ((accepted : List ℕ) → Remembers accepted old.dedup → Remembers (number ∷ accepted) mid.dedup) → OnOk answer ((bound : ℕ) × IsJoined old.acks.ranges mid.acks.ranges number bound)
+    → OnOk answer (mid.acks.is_due ≡ (old.acks.is_due || is_eliciting)) → mid ≡ record old { dedup = mid.dedup; acks = mid.acks } → IsAccepted number is_eliciting old mid
+noted_by number is_eliciting old mid (Ok done) fine remembers acks due rest = record { remembers = remembers; bound = acks.0; joined = acks.1; due = due; rest_is = rest }
+noted_by number is_eliciting old mid (Err e) fine remembers acks due rest = absurd (cc)
+
+module _ {S : Type 0} where
+  -- no frame of it is taken
+  pub handled_faulty : (now : Moment) (number : ℕ) (frames : List ℕ) (old new : Inner S) (fault : PacketFault) (e : TransportError) → IsNewTo old.space number
+      → (fault ≡ packet_fault.Empty → frames ≡ []) → ((f : FrameFault) → fault ≡ packet_fault.Frame f → IsFaultyFrame frames f.frame)
+      → (fault ≡ packet_fault.Empty → IsFault codes.protocol_violation None e) → ((f : FrameFault) → fault ≡ packet_fault.Frame f → IsFault codes.frame_encoding_error (option_map named f.frame) e)
+      → IsFaulted now e old new → IsPacketHandled now number frames old new
+  handled_faulty now number frames old new packet_fault.Empty e fresh none frame says_none says_frame faulted = empty e fresh (none refl) (says_none refl) faulted
+  handled_faulty now number frames old new (packet_fault.Frame f) e fresh none frame says_none says_frame faulted = faulty e f.frame fresh (frame f refl) (says_frame f refl) faulted
+
+  -- an open connection stays whole with another space of its end
+  pub spaced_whole : (old : Inner S) (mid new : DataSpace) (idle : IdleTimer) → IsConnection old → is_open old.state ≡ true → mid.streams ≡ old.space.streams → SameEnd mid new → IsSpace new
+      → IsConnection (record old { space = new; idle = idle })
+  spaced_whole old mid new idle h opened kept same space =
+      let not_lost = h.not_lost opened in
+      let end : SameEnd old.space new = (same.0 ∙ ap (λ s. s.side) kept, same.1 ∙ ap (λ s. s.peer) kept) in
+      record {
+        space = space;
+        of = same_of old.side old.config.peer old.space new end h.of;
+        not_lost = h.not_lost;
+        lost = h.lost;
+        drained = h.drained;
+        no_half = λ memory. absurd (let both : ◌≡◌ {A = Option ConnectionError} None (Some Memory) = sym not_lost ∙ memory in cc);
+      }
+
+  -- a packet whose number was noted is taken
+  pub noted_taken : (now : Moment) (number : ℕ) (frames : List ℕ) (old new : Inner S) (is_eliciting : Bool) (mid space : DataSpace) (end : Option ConnectionError) → IsNewTo old.space number
+      → AreValidFrames frames is_eliciting → IsAccepted number is_eliciting old.space mid → HasTaken now.0 frames mid space end → GoesOnWith now end (record old { space = space; idle = restarted now old.idle }) new
+      → IsPacketHandled now number frames old new
+  noted_taken now number frames old new is_eliciting mid space end fresh valid accepted t on =
+      taken fresh (record { is_eliciting = is_eliciting; surveyed = valid; mid = mid; accepted = accepted; space = space; taken = t.0; end = end; are_taken = t.1; goes_on = on })
+
+  -- one whose number couldn't be noted is read no farther than its first frame, if that is refused
+  pub unnoted_refused : (now : Moment) (number : ℕ) (frames : List ℕ) (old new : Inner S) (is_eliciting : Bool) (mid : DataSpace) (answer : Result Unit OutOfMemory) → IsNewTo old.space number
+      → AreValidFrames frames is_eliciting → mid ≡ old.space
+      → OnOk answer ((e : TransportError) × AreFramesTaken now.0 frames mid mid [] (Some (Fault e)) × IsFaulted now e (record old { space = mid }) new) → OnOk answer (IsPacketHandled now number frames old new)
+  unnoted_refused now number frames old new is_eliciting mid (Ok done) fresh valid same r =
+      let refused = subst (λ (s : DataSpace). (e : TransportError) × AreFramesTaken now.0 frames s s [] (Some (Fault e)) × IsFaulted now e (record old { space = s }) new) same r in
+      unnoted refused.0 is_eliciting fresh valid refused.1 refused.2
+  unnoted_refused now number frames old new is_eliciting mid (Err e) fresh valid same r = tt
+
+  -- memory was wanting for a packet
+  pub unread_at : (now : Moment) (number : ℕ) (frames : List ℕ) (old : Inner S) (is_eliciting : Bool) (mid : DataSpace) (answer : Result Unit OutOfMemory) → IsNewTo old.space number → AreValidFrames frames is_eliciting
+      → mid ≡ record old.space { dedup = mid.dedup; acks = mid.acks } → OnErr answer (StopsUnrefused now.0 frames mid) → OnErr answer (IsPacketUnread now number frames old)
+  unread_at now number frames old is_eliciting mid (Ok done) fresh valid is r = tt
+  unread_at now number frames old is_eliciting mid (Err e) fresh valid is r = record { is_new = fresh; is_eliciting = is_eliciting; surveyed = valid; mid = mid; mid_is = is; stops = r }

@@ -1,0 +1,10 @@
+pub mod Config
+pub mod Event
+pub mod Follows
+pub mod Inner
+pub mod Made
+pub mod Progress
+pub mod Receiving
+pub mod Sending
+pub mod Streams
+pub mod Timers
