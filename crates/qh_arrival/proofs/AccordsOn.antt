@@ -1,9 +1,10 @@
 -- An end accords with all that was done with it, whatever calls are made.
 use Rattle.std.proofs.Common.{◌≡◌, ℕ, true, List, [], ◌++◌, None, refl, sym, subst}
 use Rattle.qh_arrival.proofs.AskedCalls.{fresh_asked, made_asked}
+use Rattle.qh_arrival.proofs.HeardCalls.{fresh_heard, made_heard, packets_heard}
 use Rattle.qh_arrival.proofs.SaidCalls.{fresh_said, made_said}
 use Rattle.qh_arrival.specs.Accord.{Accords, AreTags, IsInAccord}
-use Rattle.qh_conduct.proofs.BehavingEnds.{fresh_behaves}
+use Rattle.qh_conduct.proofs.BehavingEnds.{event_out, fresh_behaves}
 use Rattle.qh_conduct.proofs.BehavingMade.{made_on}
 use Rattle.qh_conduct.proofs.IdleRestarts.{fresh_sealed, made_sealed, quiet_sealed}
 use Rattle.qh_conduct.specs.Restarting.{AreSealed}
@@ -13,8 +14,6 @@ use Rattle.qh_core.specs.Inner.{IsNewSpace, IsSameEnd, is_open}
 use Rattle.qh_core.specs.Made.{AcceptsTags, AreMade, IsAnyCall, IsLocalCall, MakesTagsOf}
 use Rattle.qh_core.specs.Made.IsAnyCall.{handed_in, lost, handed_out as datagram_out, nothing_sent, unsent, local}
 use Rattle.qh_core.specs.Made.IsLocalCall.{timeout, closed, polled, endpoint_polled, on_streams}
-use Rattle.qh_core.specs.declared.event.ConnectionEvent.{ConnectionEvent}
-use Rattle.qh_core.specs.declared.event.ConnectionEvent.TheVariants.{Close, Datagram}
 use Rattle.qh_core.specs.declared.inner.Inner.{Inner}
 use Rattle.qh_owing.proofs.LedgerCalls.{ledger_fresh, ledger_made, ledger_open}
 use Rattle.qh_owing.proofs.LedgerStreams.{hands_none}
@@ -27,10 +26,6 @@ use Rattle.qh_spec.specs.declared.sides.Space.{Space}
 use Rattle.qh_spec.specs.declared.sides.Space.TheVariants.{Data}
 
 -- ---- what hands out no datagram
-
-event_out : (event : ConnectionEvent) → handed_out (event_acts event) ≡ []
-event_out (Datagram now remote payload) = refl
-event_out (Close now code reason) = refl
 
 module _ {S : Type 0} where
   local_out : (b c : Inner S) (u : List Act) → IsLocalCall b c u → handed_out u ≡ []
@@ -67,6 +62,7 @@ module _ {S : Type 0} where
     ledger = ledger_fresh accepts sealed c new;
     asked = fresh_asked c new;
     said = fresh_said c new;
+    heard = fresh_heard accepts c new;
     tagged = fresh_sealed sealed c;
   }
 
@@ -78,10 +74,19 @@ module _ {S : Type 0} where
     ledger = ledger_made accepts sealed old new acts t made p.ledger;
     asked = made_asked accepts sealed old new acts t (λ from number below. tags.makes from Data number below) made p.asked;
     said = made_said accepts sealed old new acts t (λ from number below. tags.makes from Data number below) made p.said;
+    heard = made_heard accepts sealed old new acts t made p.heard;
     tagged = made_tagged accepts sealed old new acts t made p.tagged;
   }
 
   pub open_accords : (accepts : AcceptsTag) (sealed : Side → Space → ℕ → List ℕ) (c : Inner S) (t : List Act) → is_open c.state ≡ true → Accords accepts sealed c t → IsInAccord accepts sealed c t
   open_accords accepts sealed c t up p =
       let l = ledger_open accepts sealed c t up p.ledger in
-      record { owed = still_owed accepts c t up p.owes; sent = l.0; sent_are = l.1; accepted = l.2.0; ledger = l.2.1 }
+      let came = l.2.1.accepted_are in
+      record {
+        owed = still_owed accepts c t up p.owes;
+        sent = l.0;
+        sent_are = l.1;
+        accepted = l.2.0;
+        ledger = l.2.1;
+        heard = packets_heard accepts c t came.packets up p.heard came.are;
+      }

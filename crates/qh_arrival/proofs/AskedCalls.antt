@@ -1,20 +1,22 @@
 -- A reset or a stop that an end hands out was asked for, whatever is done with the end.
-use Rattle.std.proofs.Common.{◌≡◌, ℕ, ◌<◌, ◌-◌, ◌^◌, Bool, true, false, List, [], ◌∷◌, ◌++◌, length, Option, Some, None, refl, sym, ap, subst, ◌∙◌, inl, inr}
+use Rattle.std.proofs.Common.{◌≡◌, ℕ, ◌+◌, ◌<◌, ◌-◌, ◌^◌, Bool, true, false, List, [], ◌∷◌, ◌++◌, length, Option, Some, None, refl, sym, ap, subst, ◌∙◌, inl, inr}
 use Rattle.std.specs.Prelude.{MatchBool, Ok, drop}
 use Rattle.std.proofs.Math.Seq.{drop-append_seam}
 use Rattle.std.proofs.lemmas.Bool.{both_ways, cases_Bool}
 use Rattle.std.proofs.lemmas.List.{append-nil, append_cancel_left}
-use Rattle.qh_arrival.proofs.AskedFrames.{AreSaid, IsSaid, asked_after, close_said, packet_said}
+use Rattle.qh_arrival.proofs.AskedFrames.{AreSaid, IsSaid, asked_after, close_said, controls_said, packet_said}
 use Rattle.qh_arrival.proofs.AsksNoMore.{AsksNoMore, aged_asks, asks_on, asks_same, called_asked, frames_ask, made_asks, polled_asks, probed_asks}
 use Rattle.qh_arrival.specs.Asked.{AreAsked, Asks, HasAsked, WereAsked, stop_frame}
 use Rattle.qh_base.specs.declared.connection_error.ConnectionError.{ConnectionError}
 use Rattle.qh_base.specs.declared.connection_error.ConnectionError.TheVariants.{LocallyClosed}
 use Rattle.qh_base.specs.declared.path.Transmit.{Transmit}
 use Rattle.qh_base.specs.declared.time.Moment.{Moment}
+use Rattle.qh_conduct.proofs.BehavingEnds.{event_out}
 use Rattle.qh_conduct.proofs.PacketsKept.{only_packet}
 use Rattle.qh_conduct.specs.Announced.{MakesTags}
 use Rattle.qh_conduct.specs.Sized.{reset_frame}
 use Rattle.qh_core.proofs.Acts.{last_or_before, one_datagram}
+use Rattle.qh_core.proofs.ControlFrames.{bare_rest}
 use Rattle.qh_core.proofs.Ends.{goes_on_space}
 use Rattle.qh_core.proofs.Handed.{before_those, never_empty}
 use Rattle.qh_core.proofs.MadeTogether.{carried_on}
@@ -30,7 +32,7 @@ use Rattle.qh_core.specs.Receiving.{IsClosedWith, IsDatagramTaken, IsEventTaken,
 use Rattle.qh_core.specs.Receiving.IsDatagramTaken.{dropped, handled, told_again, closed_too, draining, drained}
 use Rattle.qh_core.specs.Receiving.IsPacketHandled.{repeated, empty, faulty, unnoted, taken}
 use Rattle.qh_core.specs.Sending.{AreFramesMade, ClosesReadBack, IsDatagramMade, close_frame, datagram_of, overhead}
-use Rattle.qh_core.specs.Sending.AreFramesMade.{packet as packet_made, close as close_made}
+use Rattle.qh_core.specs.Sending.AreFramesMade.{packet as packet_made, control as control_made, close as close_made}
 use Rattle.qh_core.specs.Timers.{IsTimedOut, restarted}
 use Rattle.qh_core.specs.Timers.IsTimedOut.{idle, recovery, closed as closed_out, draining as draining_over, waits, drained as drained_still}
 use Rattle.qh_core.specs.declared.event.ConnectionEvent.{ConnectionEvent}
@@ -64,11 +66,6 @@ asked_more s t u p = record {
   resets = λ stream code is. in_left (Reset stream code) t u (p.resets stream code is);
   stops = λ stream code is. in_left (Stopped stream code) t u (p.stops stream code is);
 }
-
--- what comes hands nothing out
-event_out : (event : ConnectionEvent) → handed_out (event_acts event) ≡ []
-event_out (Datagram now remote payload) = refl
-event_out (Close now code reason) = refl
 
 -- the one datagram is the frame's
 it_is : (d x : List ℕ) (datagram : List ℕ) → HandedOut d ≡ HandedOut x → In datagram (x ∷ []) → d ≡ datagram
@@ -227,6 +224,15 @@ module _ {S : Type 0} where
       record {
         were = one_more old new t frames (sealed old.side Data old.space.next_number) (ap (λ (c : Inner S). c.side) e) (ap (λ (c : Inner S). c.remote_id) e) (tags old.side old.space.next_number below)
             (subst (λ (z : List ℕ). AreSaid t z) same b.said) p.were;
+        streams = λ up. asked_more new.space.streams t (HandedOut d ∷ []) (asked_after old.space.streams new.space.streams t less (p.streams was));
+      }
+  frames_asked sealed tags now old new frames t (control_made was m e) below back p =
+      let d = datagram_of sealed old frames in
+      let rest = bare_rest now.0 (overhead old + length frames) old.space new.space m.sent in
+      let less : AsksNoMore old.space.streams new.space.streams = subst (λ (s : PlainStreams). AsksNoMore old.space.streams s) (sym rest.streams) (asks_same old.space.streams) in
+      record {
+        were = one_more old new t frames (sealed old.side Data old.space.next_number) (ap (λ (c : Inner S). c.side) e) (ap (λ (c : Inner S). c.remote_id) e) (tags old.side old.space.next_number below)
+            (controls_said t old.side frames m.control) p.were;
         streams = λ up. asked_more new.space.streams t (HandedOut d ∷ []) (asked_after old.space.streams new.space.streams t less (p.streams was));
       }
   frames_asked sealed tags now old new frames t (close_made reason until is bytes_are e) below back p =

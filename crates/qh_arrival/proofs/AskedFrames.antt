@@ -8,7 +8,11 @@ use Rattle.qh_buffers.specs.Ranges.{PlainRange}
 use Rattle.qh_buffers.specs.declared.send_buffer.Mark.TheVariants.{Queued}
 use Rattle.qh_conduct.proofs.FramesSay.{Between, ack_kind, close_kind, count_kind, exact_kind, form_kind, front_number, number_of, rest_of}
 use Rattle.qh_conduct.specs.Sized.{reset_frame}
+use Rattle.qh_core.proofs.ControlFrames.{control_frames, of_each}
+use Rattle.qh_core.specs.Control.{AreControl, control_frame}
 use Rattle.qh_core.specs.Sending.{close_frame}
+use Rattle.qh_core.specs.declared.control.ControlFrame.{ControlFrame}
+use Rattle.qh_core.specs.declared.control.ControlFrame.TheVariants.{NewToken, NewConnectionId, RetireConnectionId}
 use Rattle.qh_core.specs.declared.state.Close.{Close}
 use Rattle.qh_frame.proofs.FramesWritten.{ping_put}
 use Rattle.qh_frame.specs.AckWritten.{ack_frame}
@@ -21,6 +25,7 @@ use Rattle.qh_space.specs.declared.data_space.DataSpace.{DataSpace}
 use Rattle.qh_spec.specs.Lists.{In}
 use Rattle.qh_spec.specs.QuicFrames.{QuicFrame, Value, AreQuicFrames, Num, Text}
 use Rattle.qh_spec.specs.Transcript.{Act, Reset, Stopped}
+use Rattle.qh_spec.specs.declared.sides.Side.{Side}
 use Rattle.qh_streams.specs.Streams.{PlainStreams, AreWritten, IsHandedOver, IsReadBack, half_bytes, written_frame}
 use Rattle.qh_streams.specs.Streams.AreWritten.{none as none_written, more as more_written}
 use Rattle.qh_streams.specs.Streams.IsHandedOver.{stream as stream_handed, reset as reset_handed, stop as stop_handed, max_stream_data as max_stream_data_handed, max_data as max_data_handed, max_streams as max_streams_handed}
@@ -102,6 +107,17 @@ module _ (t : List Act) where
 
   pub close_said : (reason : Close) → IsSaid (close_frame reason)
   close_said reason = later_kind (close_frame reason) 28 29 (close_kind (close_frame reason) reason refl) (omega arith)
+
+  control_said : (g : ControlFrame) → IsSaid (control_frame g)
+  control_said (NewToken token) = later_frame 7 _ (omega arith)
+  control_said (NewConnectionId sequence prior id reset_token) = later_frame 24 _ (omega arith)
+  control_said (RetireConnectionId sequence) = later_frame 25 _ (omega arith)
+
+  -- frames of the connection's own neither reset nor stop
+  pub controls_said : (side : Side) (bytes : List ℕ) → AreControl side bytes → AreSaid bytes
+  controls_said side bytes control =
+      let c = control_frames side bytes control in
+      record { frames = c.frames; are = c.are; said = of_each IsSaid side bytes c control_said }
 
   none_said : AreSaid []
   none_said = record { frames = []; are = refl; said = λ f among. absurd among }

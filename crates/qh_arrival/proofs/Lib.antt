@@ -1,8 +1,11 @@
+pub mod AcceptedOnce
 pub mod AccordsOn
 pub mod AskedCalls
 pub mod AskedFrames
 pub mod AsksHalves
 pub mod AsksNoMore
+pub mod HeardCalls
+pub mod HeardStreams
 pub mod PacketsRead
 pub mod PacketsTaken
 pub mod SaidCalls

@@ -1,5 +1,5 @@
 -- A packet whose number is told by its low four bytes opens, with its number and its frames.
-use Rattle.std.proofs.Common.{◌≡◌, ℕ, ◌+◌, ◌-◌, ◌/◌, ◌%◌, ◌^◌, ◌<◌, ◌≤◌, Bool, true, List, ◌∷◌, ◌++◌, length, append_assoc, refl, sym, ap, subst, ◌∙◌, inl, inr, arith}
+use Rattle.std.proofs.Common.{◌≡◌, ℕ, ◌+◌, ◌/◌, ◌%◌, ◌^◌, ◌<◌, ◌≤◌, Bool, List, ◌∷◌, ◌++◌, length, append_assoc, refl, ap, subst, ◌∙◌, inl, inr, arith}
 use Rattle.std.proofs.lemmas.Bool.{cases_lt}
 use Rattle.qh_arrival.specs.Taking.{IsTold}
 use Rattle.qh_conduct.proofs.PacketsKept.{only_packet}
@@ -9,7 +9,7 @@ use Rattle.qh_core.specs.Progress.{NumberedPacket}
 use Rattle.qh_owing.proofs.OwingPackets.{low_value}
 use Rattle.qh_owing.specs.Ledger.{IsSentIn}
 use Rattle.qh_packet.proofs.Packets.{only_content, parts_of}
-use Rattle.qh_packet.specs.Packet.{IsOpened, header_bytes, low_bytes, short_of}
+use Rattle.qh_packet.specs.Packet.{IsOpened, low_bytes, short_of}
 use Rattle.qh_recovery.proofs.PacketNumbers.{expanded, found}
 use Rattle.qh_recovery.specs.PacketNumber.{IsCandidate, IsExpanded}
 use Rattle.qh_spec.proofs.PacketLaws.{tag_length}

@@ -1,5 +1,5 @@
 -- A packet of the peer's that is new is taken, and one that isn't came before.
-use Rattle.std.proofs.Common.{◌≡◌, ℕ, suc, ◌+◌, ◌≤◌, Bool, true, false, List, [], ◌∷◌, length, Some, refl, sym, ap, subst, ◌∙◌, inl, inr, arith}
+use Rattle.std.proofs.Common.{◌≡◌, ℕ, suc, Bool, true, false, List, [], ◌∷◌, Some, refl, sym, ap, subst, ◌∙◌, inl, inr, arith}
 use Rattle.std.proofs.lemmas.Bool.{both_ways, cases_Bool}
 use Rattle.std.proofs.lemmas.Option.{same_Some}
 use Rattle.std.specs.Prelude.{slice_get}
@@ -14,10 +14,10 @@ use Rattle.qh_conduct.specs.Announced.{MakesTags}
 use Rattle.qh_conduct.specs.Peers.{AreLinked, ArePeers}
 use Rattle.qh_conduct.specs.Restarting.{AcceptsWhatIsMade}
 use Rattle.qh_core.proofs.ExpectedNumbers.{expected_of}
-use Rattle.qh_core.specs.Follows.{Follows, HasNumber}
+use Rattle.qh_core.specs.Follows.{Follows}
 use Rattle.qh_core.specs.Inner.{is_open}
 use Rattle.qh_core.specs.Progress.{NumberedPacket}
-use Rattle.qh_core.specs.Receiving.{IsDatagramTaken, IsEventTaken, IsExpectedOf, IsFaulted, IsNewTo, IsOldTo, IsOpenedBy, IsPacketHandled, IsPacketTaken, received}
+use Rattle.qh_core.specs.Receiving.{IsDatagramTaken, IsEventTaken, IsFaulted, IsNewTo, IsOldTo, IsOpenedBy, IsPacketHandled, IsPacketTaken, received}
 use Rattle.qh_core.specs.Receiving.IsDatagramTaken.{dropped, handled as handled_one, told_again, closed_too, draining, drained}
 use Rattle.qh_core.specs.Receiving.IsPacketHandled.{repeated, empty, faulty, unnoted, taken as taken_one}
 use Rattle.qh_core.specs.declared.event.ConnectionEvent.TheVariants.{Datagram}
@@ -25,8 +25,7 @@ use Rattle.qh_core.specs.declared.inner.Inner.{Inner}
 use Rattle.qh_core.specs.declared.state.State.{State}
 use Rattle.qh_owing.proofs.LedgerNumbers.{sent_numbers}
 use Rattle.qh_owing.specs.Ledger.{AreSent, IsSentIn}
-use Rattle.qh_recovery.specs.Accepted.{IsNear, IsNew, Remembers}
-use Rattle.qh_spec.specs.Datagram.{HasPacket}
+use Rattle.qh_recovery.specs.Accepted.{IsNear, Remembers}
 use Rattle.qh_spec.specs.Link.{other}
 use Rattle.qh_spec.specs.Lists.{In}
 use Rattle.qh_spec.specs.QuicFrames.{AreQuicFrames}

@@ -1,5 +1,5 @@
 -- A limit that counts as announced was said, whatever is done with the end.
-use Rattle.std.proofs.Common.{◌≡◌, ℕ, ◌<◌, ◌-◌, ◌^◌, Bool, true, false, List, [], ◌∷◌, ◌++◌, length, Option, Some, None, refl, sym, ap, subst, ◌∙◌, inl, inr}
+use Rattle.std.proofs.Common.{◌≡◌, ℕ, ◌+◌, ◌<◌, ◌-◌, ◌^◌, Bool, true, false, List, [], ◌∷◌, ◌++◌, length, Option, Some, None, refl, sym, ap, subst, ◌∙◌, inl, inr}
 use Rattle.std.specs.Prelude.{MatchBool, Ok, drop}
 use Rattle.std.proofs.Math.Seq.{drop-append_seam}
 use Rattle.std.proofs.lemmas.Bool.{both_ways, cases_Bool}
@@ -13,6 +13,7 @@ use Rattle.qh_base.specs.declared.path.Transmit.{Transmit}
 use Rattle.qh_base.specs.declared.time.Moment.{Moment}
 use Rattle.qh_conduct.proofs.PacketsKept.{packet_there}
 use Rattle.qh_conduct.specs.Announced.{HasSent, MakesTags}
+use Rattle.qh_core.proofs.ControlFrames.{bare_rest}
 use Rattle.qh_core.proofs.Ends.{goes_on_space}
 use Rattle.qh_core.proofs.MadeTogether.{carried_on}
 use Rattle.qh_core.specs.Config.{bounded}
@@ -28,7 +29,7 @@ use Rattle.qh_core.specs.Receiving.{IsClosedWith, IsDatagramTaken, IsEventTaken,
 use Rattle.qh_core.specs.Receiving.IsDatagramTaken.{dropped, handled, told_again, closed_too, draining, drained}
 use Rattle.qh_core.specs.Receiving.IsPacketHandled.{repeated, empty, faulty, unnoted, taken}
 use Rattle.qh_core.specs.Sending.{AreFramesMade, IsDatagramMade, datagram_of, overhead}
-use Rattle.qh_core.specs.Sending.AreFramesMade.{packet as packet_made, close as close_made}
+use Rattle.qh_core.specs.Sending.AreFramesMade.{packet as packet_made, control as control_made, close as close_made}
 use Rattle.qh_core.specs.Timers.{IsTimedOut, restarted}
 use Rattle.qh_core.specs.Timers.IsTimedOut.{idle, recovery, closed as closed_out, draining as draining_over, waits, drained as drained_still}
 use Rattle.qh_core.specs.declared.config.ConnConfig.{ConnConfig}
@@ -56,7 +57,7 @@ use Rattle.qh_spec.specs.declared.sides.Space.TheVariants.{Data}
 use Rattle.qh_streams.specs.Streams.{PlainStreams, counts_of, is_two_way}
 
 -- no frame says anything
-abbrev Nothing : QuicFrame → Type 0
+abbrev pub Nothing : QuicFrame → Type 0
 Nothing f = ⊥
 
 -- each limit is as before
@@ -232,6 +233,10 @@ module _ {S : Type 0} where
       said_on old new t u same
       (limits_more (λ f. In f k.frames) (HasSent new (t ++ u)) old.space.streams new.space.streams
       (frame_sent old new t frames (sealed old.side Data old.space.next_number) same (tags old.side old.space.next_number below) k) k.limits) (p was)
+  frames_said sealed tags now old new frames t same (control_made was m e) below p up =
+      let rest = bare_rest now.0 (overhead old + length frames) old.space new.space m.sent in
+      says_by old new t (HandedOut (datagram_of sealed old frames) ∷ []) same
+      (λ still. (was, subst (λ (s : PlainStreams). LimitsStay old.space.streams s) (sym rest.streams) (limits_same Nothing old.space.streams))) p up
   frames_said sealed tags now old new frames t same (close_made reason until is bytes_are e) below p up =
       absurd (both_ways (is_open new.state) (ap (λ (c : Inner S). is_open c.state) e) up)
 

@@ -10,8 +10,9 @@ ghost use Rattle.qh_spec.specs.declared.sides.Side.{Side as ASide};
 ghost use Rattle.qh_spec.specs.declared.sides.Space.{Space as ASpace};
 
 /// The one relation of an end to all that was done with it: what it is to its peer, what it owes, its packets as the datagrams tell
-/// them, what it was asked to reset and to stop, the limits that it said, and the tags of what it handed out. An end that begins has it; whatever calls are made of it carry it on, where the tags of
-/// its session are tags; and of an open end it says that nothing which is owed or which came is forgotten.
+/// them, what it was asked to reset and to stop, the limits that it said, those that it was given, and the tags of what it handed out.
+/// An end that begins has it; whatever calls are made of it carry it on, where the tags of its session are tags; and of an open end it
+/// says that nothing which is owed or which came is forgotten, and that the limits which it knows are the first ones or came.
 pub fn accords<S>()
     ensures fresh { (accepts : AcceptsTag) (sealed : ASide → ASpace → ℕ → List ℕ) (c : AnInner S) → IsNewSpace c.config c.side c.space → c.error ≡ None → Follows c [] → Accords accepts sealed c [] }
     ensures made { (accepts : AcceptsTags S) (sealed : MakesTagsOf S) (old new : AnInner S) (acts t : List Act) → AreTags (accepts old.session) (sealed old.session)

@@ -4,10 +4,12 @@
 
 mod according;
 mod asking;
+mod hearing;
 mod saying;
 mod taking;
 
 pub use according::accords;
 pub use asking::asked;
+pub use hearing::heard;
 pub use saying::said;
 pub use taking::taken;

@@ -1,11 +1,12 @@
 -- A range that comes in among ranges that a map keeps.
-use Rattle.std.proofs.Common.{◌≡◌, ℕ, ◌+◌, ◌<◌, ◌≤◌, Bool, true, false, ◌||◌, List, [], ◌∷◌, ◌++◌, max, nat_cmp, Ordering, refl, sym, ap, ◌∙◌, subst, arith, inl, inr}
+use Rattle.std.proofs.Common.{◌≡◌, ℕ, ◌+◌, ◌-◌, ◌<◌, ◌≤◌, Bool, true, false, ◌||◌, List, [], ◌∷◌, ◌++◌, suc, length, max, Some, nat_cmp, Ordering, refl, sym, ap, ◌∙◌, subst, arith, inl, inr, slice_get}
 use Rattle.std.specs.BTreeMap.{insert_entry}
+use Rattle.std.specs.Map.{keys_of}
 use Rattle.std.specs.Ordering.{match_ordering}
 use Rattle.std.proofs.lemmas.Bool.{cases_lt, lt-ltb, le-ltb, or_left, or_right, or_from}
 use Rattle.qh_buffers.specs.Ranges.{PlainRange, is_in, has, AreApart, IsAdded, start_behind, paired, up_to, before, above, joined}
 use Rattle.qh_buffers.proofs.RangeLaws.{inside, before as in_before, behind, has-append, apart_join, apart_lower, behind_le}
-use Rattle.qh_buffers.proofs.PairedLists.{Pair, range_of, paired-append, less_is, greater_is, Rises, apart_rises, up_to_yes, before_yes, before_no, above_no, none_up_to, none_before, before_middle, above_middle}
+use Rattle.qh_buffers.proofs.PairedLists.{Pair, range_of, paired-append, less_is, greater_is, equal_is, Rises, apart_rises, up_to_yes, before_yes, before_no, above_no, none_up_to, none_before, middle_low, before_middle, above_middle}
 use Rattle.qh_buffers.proofs.PairedRanges.{has_parted, rises_here, above_apart, up_to_apart, last_low, around, front_apart, rest_apart, has_middle}
 
 -- ---- a range that comes in
@@ -101,6 +102,57 @@ grown_added es front f s e apart is touch some =
           ∙ or_turn (has (paired front) k) (is_in (range_of (s, e)) k) (is_in (range_of f) k || has (paired back) k)
           ∙ ap (λ (t : Bool). is_in (range_of (s, e)) k || t) (sym (ap (λ (l : List Pair). has (paired l) k) list ∙ has_middle front back f a k));
     })
+
+-- the last range of all grows
+reached_by_all : (front : List Pair) (f : Pair) (low n : ℕ) → Rises low (front ++ f ∷ []) → f.0 ≤ n → up_to n (front ++ f ∷ []) ≡ front ++ f ∷ []
+unfolding Rises
+reached_by_all [] f low n rises h = up_to_yes n f [] h
+reached_by_all (e ∷ front) f low n rises h =
+    up_to_yes n e (front ++ f ∷ []) (omega (arith, middle_low front [] f (e.0 + 1) rises.1))
+    ∙ ap (λ (l : List Pair). e ∷ l) (reached_by_all front f (e.0 + 1) n rises.1 h)
+
+module _ (es front : List Pair) (f : Pair) (s : ℕ) (apart : AreApart 0 (paired es)) (is : es ≡ front ++ f ∷ []) (low : f.0 ≤ s) where
+  last_rises : Rises 0 (front ++ f ∷ [])
+  last_rises = subst (λ (l : List Pair). Rises 0 l) is (apart_rises es 0 0 (omega arith) apart)
+
+  last_up_to : up_to s es ≡ front ++ f ∷ []
+  last_up_to = ap (up_to s) is ∙ reached_by_all front f 0 s last_rises low
+
+  pub last_added : (e : ℕ) → s ≤ f.1 → s < e → IsAdded (paired es) (paired (front ++ (f.0, max f.1 e) ∷ [])) (range_of (s, e))
+  last_added e touch some =
+      let end : ℕ = max f.1 e in
+      let parts : before f.0 es ++ joined f.0 end (above f.0 es) ≡ front ++ (f.0, end) ∷ [] =
+      ap (λ (l : List Pair). before f.0 l ++ joined f.0 end (above f.0 l)) is
+      ∙ ap (λ (l : List Pair). l ++ joined f.0 end (above f.0 (front ++ f ∷ []))) (before_middle front [] f 0 last_rises)
+      ∙ ap (λ (l : List Pair). front ++ joined f.0 end l) (above_middle front [] f 0 last_rises) in
+      subst (λ (l : List Pair). IsAdded (paired es) (paired l) (range_of (s, e))) parts (grown_added es front f s e apart last_up_to touch some)
+
+-- the last entry of a map is written
+last_key : (front : List Pair) (f : Pair) (k : ℕ) → slice_get (keys_of (front ++ f ∷ [])) (length (front ++ f ∷ []) - 1) ≡ Some k → k ≡ f.0
+last_key [] f k h = cc
+last_key (e ∷ []) f k h = cc
+last_key (e ∷ g ∷ front) f k h =
+    let n : length (e ∷ g ∷ front ++ f ∷ []) - 1 ≡ suc (length (g ∷ front ++ f ∷ []) - 1) = omega arith in
+    last_key (g ∷ front) f k (sym (ap (slice_get (keys_of (e ∷ g ∷ front ++ f ∷ []))) n) ∙ h)
+
+put_last : (front : List Pair) (f : Pair) (w low : ℕ) → Rises low (front ++ f ∷ []) → insert_entry nat_cmp (front ++ f ∷ []) f.0 w ≡ front ++ (f.0, w) ∷ []
+unfolding Rises
+put_last [] f w low rises = ap (λ (o : Ordering). match_ordering o ((f.0, w) ∷ f ∷ []) ((f.0, w) ∷ []) (f ∷ (f.0, w) ∷ [])) (equal_is f.0 f.0 refl)
+put_last (e ∷ front) f w low rises =
+    let rest = front ++ f ∷ [] in
+    let more = insert_entry nat_cmp rest f.0 w in
+    ap (λ (o : Ordering). match_ordering o ((f.0, w) ∷ e ∷ rest) ((e.0, w) ∷ rest) (e ∷ more)) (greater_is f.0 e.0 (omega (arith, middle_low front [] f (e.0 + 1) rises.1)))
+    ∙ ap (λ (l : List Pair). e ∷ l) (put_last front f w (e.0 + 1) rises.1)
+
+pub last_written : (es front : List Pair) (f : Pair) (k w : ℕ) → AreApart 0 (paired es) → es ≡ front ++ f ∷ [] → slice_get (keys_of es) (length es - 1) ≡ Some k → insert_entry nat_cmp es k w ≡ front ++ (f.0, w) ∷ []
+last_written es front f k w apart is there =
+    let rises : Rises 0 (front ++ f ∷ []) = subst (λ (l : List Pair). Rises 0 l) is (apart_rises es 0 0 (omega arith) apart) in
+    let same : k ≡ f.0 = last_key front f k (subst (λ (l : List Pair). slice_get (keys_of l) (length l - 1) ≡ Some k) is there) in
+    ap (λ (l : List Pair). insert_entry nat_cmp l k w) is ∙ ap (λ (n : ℕ). insert_entry nat_cmp (front ++ f ∷ []) n w) same ∙ put_last front f w 0 rises
+
+pub some_last : (es front : List Pair) (f : Pair) → es ≡ front ++ f ∷ [] → 0 < length es
+some_last es [] f is = omega (arith, ap length is)
+some_last es (e ∷ front) f is = omega (arith, ap length is)
 
 -- a range that is put in, behind those before it and without a touch
 pub record IsPutIn (es new : List Pair) (s : ℕ) : Type 0 where

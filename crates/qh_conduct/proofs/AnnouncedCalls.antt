@@ -20,7 +20,7 @@ use Rattle.qh_core.specs.Event.{IsDrainedTold, IsPolledEvent}
 use Rattle.qh_core.specs.Event.IsDrainedTold.{drained as drain_told, none as no_drain_told}
 use Rattle.qh_core.specs.Event.IsPolledEvent.{stream, lost, none as nothing}
 use Rattle.qh_core.specs.Follows.{event_acts}
-use Rattle.qh_core.specs.Inner.{is_open, with_space, with_streams}
+use Rattle.qh_core.specs.Inner.{is_open, with_streams}
 use Rattle.qh_core.specs.Receiving.{GoesOnWith, IsClosedWith, IsDatagramTaken, IsEventTaken, IsOpenedBy, IsPacketHandled, IsPacketTaken, received}
 use Rattle.qh_core.specs.Receiving.IsDatagramTaken.{dropped, handled, told_again, closed_too, draining, drained}
 use Rattle.qh_core.specs.Receiving.IsPacketHandled.{repeated, empty, faulty, unnoted, taken}

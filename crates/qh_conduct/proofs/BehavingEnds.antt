@@ -49,7 +49,7 @@ first_count side limits peer false = omega arith
 
 -- ---- what an event adds
 
-event_out : (event : ConnectionEvent) → handed_out (event_acts event) ≡ []
+pub event_out : (event : ConnectionEvent) → handed_out (event_acts event) ≡ []
 event_out (Datagram now remote payload) = refl
 event_out (Close now code reason) = refl
 

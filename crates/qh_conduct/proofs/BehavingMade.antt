@@ -1,5 +1,5 @@
 -- An end goes on as it behaved, over whatever calls are made.
-use Rattle.std.proofs.Common.{◌≡◌, ℕ, Bool, true, false, List, [], ◌∷◌, ◌++◌, Option, Some, None, Result, Ok, Err, IfOk, IfErr, refl, sym, ap, subst, ◌∙◌, inl, inr}
+use Rattle.std.proofs.Common.{◌≡◌, ℕ, Bool, List, [], ◌++◌, Option, Some, None, Result, Ok, Err, IfOk, IfErr, refl, sym, ap, subst, inr}
 use Rattle.std.specs.Prelude.{MatchResult}
 use Rattle.std.proofs.lemmas.List.{append-nil}
 use Rattle.qh_buffers.specs.declared.assembler.Chunk.{Chunk}
@@ -13,7 +13,7 @@ use Rattle.qh_conduct.specs.Reached.{AreNamed}
 use Rattle.qh_core.proofs.MadeTogether.{carried_on}
 use Rattle.qh_core.specs.Follows.{Follows}
 use Rattle.qh_core.specs.Inner.{IsSameEnd}
-use Rattle.qh_core.specs.Made.{AcceptsTags, MakesTagsOf, AreMade, IsAnyCall, IsLocalCall, IsMade, IsStreamCall}
+use Rattle.qh_core.specs.Made.{AcceptsTags, MakesTagsOf, AreMade, IsAnyCall, IsLocalCall, IsStreamCall}
 use Rattle.qh_core.specs.Made.IsAnyCall.{handed_in, lost, handed_out as datagram_out, nothing_sent, unsent, local}
 use Rattle.qh_core.specs.Made.IsLocalCall.{timeout, closed, polled, endpoint_polled, on_streams}
 use Rattle.qh_core.specs.Made.IsStreamCall.{unchanged, opened, accepted, wrote, unwritten, finished, reset, prioritized, read, stopped, took_reset, concurrent, send_window, receive_window}
@@ -21,8 +21,6 @@ use Rattle.qh_core.specs.Streams.{IsRead, IsReadFault}
 use Rattle.qh_core.specs.declared.fault.TakeFault.{TakeFault}
 use Rattle.qh_core.specs.declared.inner.Inner.{Inner}
 use Rattle.qh_spec.specs.Transcript.{Act, handed_in as datagrams_in, handed_out as datagrams_out, written}
-use Rattle.qh_spec.specs.declared.sides.Side.{Side}
-use Rattle.qh_spec.specs.declared.sides.Space.{Space}
 use Rattle.qh_streams.specs.Streams.{PlainStreams}
 use Rattle.qh_transcript.specs.Receiving.{reset_acts}
 

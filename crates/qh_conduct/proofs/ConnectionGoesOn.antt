@@ -4,7 +4,7 @@ use Rattle.std.proofs.lemmas.Bool.{both_ways}
 use Rattle.qh_buffers.specs.Ranges.{has}
 use Rattle.qh_conduct.proofs.StreamsGoOn.{GoOn, reading_on, sending_on}
 use Rattle.qh_conduct.specs.Announced.{Announced, AreLive, HasComeWith, IsKeptDatagram, IsKeptFrame, IsLimited}
-use Rattle.qh_conduct.specs.Announced.IsKeptFrame.{ping, response, ack, stream, reset, stop, max_data, max_stream_data, max_streams, close}
+use Rattle.qh_conduct.specs.Announced.IsKeptFrame.{ping, response, ack, stream, reset, stop, max_data, max_stream_data, max_streams, control, close}
 use Rattle.qh_core.specs.Inner.{is_open}
 use Rattle.qh_core.specs.declared.inner.Inner.{Inner}
 use Rattle.qh_halves.specs.RecvHalves.{recv_at}
@@ -63,6 +63,7 @@ module _ {S : Type 0} where
   frame_on old new came more f go among (max_stream_data id limit is named below) =
       max_stream_data id limit is (reading_on go.streams.later id named) (limited_on old.space.streams new.space.streams id limit go.streams named.0 below)
   frame_on old new came more f go among (max_streams dir count is below) = max_streams dir count is (let rises = go.streams.counts (is_two_way dir) in omega (arith, below, rises))
+  frame_on old new came more f go among (control g is may) = control g is (rw go.side may)
   frame_on old new came more f go among (close reason is shut) = close reason is (go.shut shut)
 
   pub datagram_on : (old new : Inner S) (came more : List (List ℕ)) (d : List ℕ) → Goes old new → ((d : List ℕ) → In d came → In d more) → IsKeptDatagram old came d → IsKeptDatagram new more d

@@ -9,15 +9,16 @@ use Rattle.qh_base.specs.declared.time.Moment.{Moment}
 use Rattle.qh_conduct.proofs.ConnectionGoesOn.{Goes, come_on, datagram_on, live_on}
 use Rattle.qh_conduct.proofs.FramesKept.{AreKept, packet_kept}
 use Rattle.qh_conduct.proofs.PacketsKept.{only_packet, packet_there}
-use Rattle.qh_conduct.proofs.SpaceGoesOn.{made_go, made_rest}
+use Rattle.qh_conduct.proofs.SpaceGoesOn.{bare_go, bare_rest, made_go, made_rest}
 use Rattle.qh_conduct.proofs.StreamsGoOn.{GoOn, same_go}
 use Rattle.qh_conduct.specs.Announced.{Announced, HasAnnounced, IsKeptDatagram, IsKeptFrame, IsOver, MakesTags}
-use Rattle.qh_conduct.specs.Announced.IsKeptFrame.{close as closes}
+use Rattle.qh_conduct.specs.Announced.IsKeptFrame.{control as controls, close as closes}
+use Rattle.qh_core.proofs.ControlFrames.{control_frames}
 use Rattle.qh_core.proofs.Handed.{same_in}
 use Rattle.qh_core.specs.Follows.{transmit_acts}
 use Rattle.qh_core.specs.Inner.{is_open}
 use Rattle.qh_core.specs.Sending.{AreFramesMade, ClosesReadBack, IsDatagramMade, close_frame, datagram_of, overhead}
-use Rattle.qh_core.specs.Sending.AreFramesMade.{packet as packet_made, close as close_made}
+use Rattle.qh_core.specs.Sending.AreFramesMade.{packet as packet_made, control as control_made, close as close_made}
 use Rattle.qh_core.specs.declared.inner.Inner.{Inner}
 use Rattle.qh_core.specs.declared.state.State.{State}
 use Rattle.qh_core.specs.declared.state.State.TheVariants.{Closed, Drained}
@@ -104,6 +105,28 @@ module _ {S : Type 0} where
       one_more old new t d goes rest.1
       (sealed_kept old new (handed_in u) frames (sealed old.side Data old.space.next_number) goes.side goes.remote_id (let one = rest.0 in omega (arith, one)) (tags old.side old.space.next_number below)
       k (some_frames frames k.frames k.are (some_bytes header frames m.some))) p
+  frames_go sealed tags now old new frames t (control_made up m e) below back (inl over) = absurd (both_ways (is_open old.state) (ap is_open over.1) up)
+  frames_go sealed tags now old new frames t (control_made up m e) below back (inr p) =
+      let d = datagram_of sealed old frames in
+      let u = t ++ HandedOut d ∷ [] in
+      let rest = bare_rest now.0 (overhead old + length frames) old.space new.space m.sent in
+      let goes : Goes old new = record {
+        side = ap (λ (c : Inner S). c.side) e;
+        local_id = ap (λ (c : Inner S). c.local_id) e;
+        remote_id = ap (λ (c : Inner S). c.remote_id) e;
+        streams = bare_go now.0 (overhead old + length frames) old.space new.space m.sent;
+        next = let one = rest.0 in omega (arith, one);
+        shut = λ no. absurd (both_ways (is_open old.state) no up);
+      } in
+      let r = control_frames old.side frames m.control in
+      let k : AreKept new (handed_in u) frames = record {
+        frames = r.frames;
+        are = r.are;
+        kept = λ f among. let g = r.all f among in controls g.0 g.1 (rw goes.side g.2);
+      } in
+      one_more old new t d goes rest.1
+      (sealed_kept old new (handed_in u) frames (sealed old.side Data old.space.next_number) goes.side goes.remote_id (let one = rest.0 in omega (arith, one)) (tags old.side old.space.next_number below)
+      k r.some) p
   frames_go sealed tags now old new frames t (close_made reason until is bytes_are e) below back (inl over) = absurd (not_over old (Closed reason true until) is (λ same. cc) over)
   frames_go sealed tags now old new frames t (close_made reason until is bytes_are e) below back (inr p) =
       let d = datagram_of sealed old frames in

@@ -9,10 +9,12 @@ use Rattle.qh_base.specs.declared.path.Transmit.{Transmit}
 use Rattle.qh_base.specs.declared.time.Moment.{Moment}
 use Rattle.qh_conduct.specs.Announced.{MakesTags}
 use Rattle.qh_conduct.specs.Filled.{AreFilled}
+use Rattle.qh_core.proofs.ControlFrames.{control_frames, control_silent, of_each}
+use Rattle.qh_core.specs.Control.{control_frame}
 use Rattle.qh_core.specs.Follows.{HasSomething, transmit_acts}
 use Rattle.qh_core.specs.Inner.{IsSameEnd, is_open}
 use Rattle.qh_core.specs.Sending.{AreFramesMade, ClosesReadBack, IsDatagramMade, close_frame, datagram_of, overhead}
-use Rattle.qh_core.specs.Sending.AreFramesMade.{packet as packet_made, close as close_made}
+use Rattle.qh_core.specs.Sending.AreFramesMade.{packet as packet_made, control as control_made, close as close_made}
 use Rattle.qh_core.specs.declared.inner.Inner.{Inner}
 use Rattle.qh_core.specs.declared.state.Close.{Close}
 use Rattle.qh_core.specs.declared.state.Close.TheVariants.{Application, Connection}
@@ -170,12 +172,16 @@ module _ {S : Type 0} where
 
   frames_sender : (now : Moment) (old new : Inner S) (before frames : List ℕ) → AreFramesMade now old new before frames → SameSender old new
   frames_sender now old new before frames (packet_made up m e) = record { side = ap (λ (c : Inner S). c.side) e; remote_id = ap (λ (c : Inner S). c.remote_id) e }
+  frames_sender now old new before frames (control_made up m e) = record { side = ap (λ (c : Inner S). c.side) e; remote_id = ap (λ (c : Inner S). c.remote_id) e }
   frames_sender now old new before frames (close_made reason until is bytes_are e) = record { side = ap (λ (c : Inner S). c.side) e; remote_id = ap (λ (c : Inner S). c.remote_id) e }
 
   frames_filled : (now : Moment) (old new : Inner S) (before frames : List ℕ) → AreFramesMade now old new before frames → ClosesReadBack old.state → Filled frames
   frames_filled now old new before frames (packet_made up m e) back =
       let b = packet_filled now.0 (overhead old) (1200 - overhead old) old.space new.space before (before ++ frames) m in
       subst (λ (z : List ℕ). Filled z) (sym (append_cancel_left before frames b.bytes b.appended)) b.filled
+  frames_filled now old new before frames (control_made up m e) back =
+      let r = control_frames old.side frames m.control in
+      record { frames = r.frames; are = r.are; all = of_each (λ (q : QuicFrame). IsFilled q) old.side frames r (λ g. no_stream (control_frame g) (control_silent g)) }
   frames_filled now old new before frames (close_made reason until is bytes_are e) back =
       subst (λ (z : List ℕ). Filled z) (append-nil (frame_bytes (close_frame reason)) ∙ sym bytes_are) (one_filled (close_frame reason) [] (back reason until is) (close_filled reason) none_filled)
 

@@ -3,12 +3,15 @@ use Rattle.std.proofs.Common.{◌≡◌, ◌⊎◌, ℕ, ◌+◌, ◌-◌, ◌<�
 use Rattle.std.proofs.lemmas.Bool.{cases_lt, eqb-true}
 use Rattle.std.proofs.lemmas.Option.{same_Some}
 use Rattle.qh_conduct.specs.Announced.{IsKeptFrame}
-use Rattle.qh_conduct.specs.Announced.IsKeptFrame.{ping, response, ack, stream, reset, stop, max_data, max_stream_data, max_streams, close}
+use Rattle.qh_conduct.specs.Announced.IsKeptFrame.{ping, response, ack, stream, reset, stop, max_data, max_stream_data, max_streams, control, close}
+use Rattle.qh_core.specs.Control.{MaySend, control_frame}
 use Rattle.qh_core.specs.Follows.{Follows, HasSomething, IsWithinLimits}
 use Rattle.qh_core.specs.Follows.Reaches.{run as by_run}
 use Rattle.qh_core.specs.Inner.{AreOf}
 use Rattle.qh_core.specs.Sending.{close_frame}
 use Rattle.qh_core.specs.declared.config.ConnConfig.{ConnConfig}
+use Rattle.qh_core.specs.declared.control.ControlFrame.{ControlFrame}
+use Rattle.qh_core.specs.declared.control.ControlFrame.TheVariants.{NewToken, NewConnectionId, RetireConnectionId}
 use Rattle.qh_core.specs.declared.inner.Inner.{Inner}
 use Rattle.qh_core.specs.declared.state.Close.{Close}
 use Rattle.qh_core.specs.declared.state.Close.TheVariants.{Application, Connection}
@@ -198,6 +201,11 @@ form_fits true false id offset payload e small = rw e (omega (arith, small))
 form_fits false true id offset payload e small = rw e small
 form_fits false false id offset payload e small = rw e small
 
+pub control_fits : (side : Side) (g : ControlFrame) → MaySend side g → IsInRange (control_frame g)
+control_fits side (NewToken token) may = may.1
+control_fits side (NewConnectionId sequence prior id reset_token) may = may
+control_fits side (RetireConnectionId sequence) may = tt
+
 module _ {S : Type 0} (c : Inner S) (came : List (List ℕ)) where
   close_fits : (reason : Close) → IsInRange (close_frame reason)
   close_fits (Connection reason) = tt
@@ -214,6 +222,7 @@ module _ {S : Type 0} (c : Inner S) (came : List (List ℕ)) where
   frame_fits f counts fits (max_stream_data id limit is named below) = subst (λ (g : QuicFrame). IsInRange g) (sym is) tt
   frame_fits f counts fits (max_streams Bi count is below) = subst (λ (g : QuicFrame). IsInRange g) (sym is) (let bound = counts true in omega (arith, below, bound))
   frame_fits f counts fits (max_streams Uni count is below) = subst (λ (g : QuicFrame). IsInRange g) (sym is) (let bound = counts false in omega (arith, below, bound))
+  frame_fits f counts fits (control g is may) = subst (λ (q : QuicFrame). IsInRange q) (sym is) (control_fits c.side g may)
   frame_fits f counts fits (close reason is shut) = subst (λ (g : QuicFrame). IsInRange g) (sym is) (close_fits reason)
 
 -- a STREAM frame of a datagram that was handed out

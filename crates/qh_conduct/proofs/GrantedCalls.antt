@@ -7,7 +7,7 @@ use Rattle.qh_base.specs.declared.connection_error.ConnectionError.TheVariants.{
 use Rattle.qh_base.specs.declared.path.Transmit.{Transmit}
 use Rattle.qh_base.specs.declared.time.Moment.{Moment}
 use Rattle.qh_conduct.proofs.AnnouncedCalls.{IsQuietStep, closes_step, drained_open, drained_step, polled_step, timed_step, with_step}
-use Rattle.qh_conduct.proofs.SpaceGoesOn.{frames_go, made_go}
+use Rattle.qh_conduct.proofs.SpaceGoesOn.{bare_go, frames_go, made_go}
 use Rattle.qh_conduct.proofs.StreamsGoOn.{GoOn, same_go}
 use Rattle.qh_conduct.proofs.StreamsReceive.{call_go, limit_at_first}
 use Rattle.qh_conduct.specs.Announced.{IsOver}
@@ -23,7 +23,7 @@ use Rattle.qh_core.specs.Receiving.{GoesOnWith, IsClosedWith, IsDatagramTaken, I
 use Rattle.qh_core.specs.Receiving.IsDatagramTaken.{dropped, handled, told_again, closed_too, draining, drained}
 use Rattle.qh_core.specs.Receiving.IsPacketHandled.{repeated, empty, faulty, unnoted, taken}
 use Rattle.qh_core.specs.Sending.{AreFramesMade, IsDatagramMade, NothingIsSent}
-use Rattle.qh_core.specs.Sending.AreFramesMade.{packet as packet_made, close as close_made}
+use Rattle.qh_core.specs.Sending.AreFramesMade.{packet as packet_made, control as control_made, close as close_made}
 use Rattle.qh_core.specs.Timers.{IsTimedOut, restarted}
 use Rattle.qh_core.specs.Timers.IsTimedOut.{idle, recovery, closed, draining as draining_over, waits, drained as drained_still}
 use Rattle.qh_core.specs.declared.config.ConnConfig.{ConnConfig}
@@ -207,6 +207,11 @@ module _ {S : Type 0} where
   frames_step now old new before frames (packet_made up m e) = record {
     config = ap (λ (c : Inner S). c.config) e;
     streams = made_go _ _ _ old.space new.space _ _ m;
+    over = λ over. absurd (drained_open old.state over.1 up);
+  }
+  frames_step now old new before frames (control_made up m e) = record {
+    config = ap (λ (c : Inner S). c.config) e;
+    streams = bare_go _ _ old.space new.space m.sent;
     over = λ over. absurd (drained_open old.state over.1 up);
   }
   frames_step now old new before frames (close_made reason until is bytes_are e) = record {

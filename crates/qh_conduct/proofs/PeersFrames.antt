@@ -2,7 +2,7 @@
 use Rattle.std.proofs.Common.{◌≡◌, ℕ, ◌-◌, ◌/◌, ◌<◌, ◌≤◌, ◌==◌, false, List, [], ◌∷◌, length, Option, Some, None, refl, sym, ap, subst, ◌∙◌, arith, inl, inr}
 use Rattle.std.specs.Prelude.{◌⊎◌}
 use Rattle.std.proofs.lemmas.Bool.{cases_Bool, eqb-true, lt-ltb}
-use Rattle.qh_conduct.proofs.FramesSay.{Between, ack_kind, close_kind, count_kind, exact_kind, form_kind, says_ack}
+use Rattle.qh_conduct.proofs.FramesSay.{Between, ack_kind, close_kind, control_kind, count_kind, exact_kind, form_kind, no_control, says_ack}
 use Rattle.qh_conduct.proofs.PeersKept.{kept_frame, says_came, used_number}
 use Rattle.qh_conduct.proofs.PeersLimits.{all_within, stream_within}
 use Rattle.qh_conduct.proofs.PeersNames.{names_known}
@@ -11,14 +11,17 @@ use Rattle.qh_conduct.proofs.PeersRuns.{ends_written, reaches_written}
 use Rattle.qh_conduct.proofs.ReachSpaces.{form_same, frame_came}
 use Rattle.qh_conduct.proofs.ReachSums.{frame_unrefused}
 use Rattle.qh_conduct.specs.Announced.{Announced, IsKeptFrame}
-use Rattle.qh_conduct.specs.Announced.IsKeptFrame.{ping, response, ack, stream, reset, stop, max_data, max_stream_data, max_streams, close}
+use Rattle.qh_conduct.specs.Announced.IsKeptFrame.{ping, response, ack, stream, reset, stop, max_data, max_stream_data, max_streams, control, close}
 use Rattle.qh_conduct.specs.Fitting.{AgreeOnSizes, AreWithinWritten, IsWithinStream}
 use Rattle.qh_conduct.specs.Granted.{AreGranted}
 use Rattle.qh_conduct.specs.Filled.{AreFilled}
 use Rattle.qh_conduct.specs.Peers.{AreLinked, ArePeers}
 use Rattle.qh_conduct.specs.Reached.{CameIn, EndsAt, Reached, Reaches}
 use Rattle.qh_conduct.specs.Sized.{AreRight}
+use Rattle.qh_core.specs.Control.{MaySend, control_frame}
 use Rattle.qh_core.specs.Follows.{Following, HasFrame}
+use Rattle.qh_core.specs.declared.control.ControlFrame.{ControlFrame}
+use Rattle.qh_core.specs.declared.control.ControlFrame.TheVariants.{NewToken, NewConnectionId, RetireConnectionId}
 use Rattle.qh_core.specs.declared.inner.Inner.{Inner}
 use Rattle.qh_frame.specs.AckWritten.{AreApart, ack_frame, gaps}
 use Rattle.qh_frame.specs.Plain.{ack_of, plain_of}
@@ -27,7 +30,7 @@ use Rattle.qh_frame.specs.declared.ack.Ack.{Ack}
 use Rattle.qh_frame.specs.declared.ack.AckRange.{AckRange}
 use Rattle.qh_frame.specs.declared.frame.Frame.{Frame}
 use Rattle.qh_frame.specs.declared.frame.Frame.TheVariants as kind
-use Rattle.qh_space.specs.Receiving.{coming_of, frame_refusal}
+use Rattle.qh_space.specs.Receiving.{coming_of, frame_refusal, refused_at_server}
 use Rattle.qh_spec.proofs.AckRows.{greatest_in}
 use Rattle.qh_spec.specs.Acknowledged.{Covers}
 use Rattle.qh_spec.specs.FrameViews.{stream_values}
@@ -36,6 +39,8 @@ use Rattle.qh_spec.specs.Lists.{In}
 use Rattle.qh_spec.specs.QuicFrame.{StreamFrame as Run, has_bit}
 use Rattle.qh_spec.specs.QuicFrames.{QuicFrame, Value, Num}
 use Rattle.qh_spec.specs.Transcript.{Act, handed_in, written}
+use Rattle.qh_spec.specs.declared.sides.Side.{Side}
+use Rattle.qh_spec.specs.declared.sides.Side.TheVariants.{Client, Server}
 use Rattle.qh_streams.specs.Streams.{refusal_of}
 use Rattle.qh_streams.specs.declared.frames.StreamFrame.{StreamFrame}
 
@@ -92,13 +97,18 @@ first_number (Num n ∷ more) = n
 first_number others = 0
 
 module _ {S : Type 0} (c : Inner S) (came : List (List ℕ)) where
-  -- the types of the frames that an end may send
+  -- the types of the frames that an end may send, a token from a server alone
   abbrev IsSentKind : ℕ → Type 0
-  IsSentKind kind = (kind ≤ 29) × (kind ≡ 7 → ⊥)
+  IsSentKind kind = (kind ≤ 29) × (kind ≡ 7 → c.side ≡ Server)
 
   between_kind : (low high k : ℕ) → Between low high k → high ≤ 29 → (7 < low) ⊎ (high < 7) → IsSentKind k
-  between_kind low high k b top (inl above) = let l = b.0 in let h = b.1 in (omega (arith, h, top), λ e. omega (arith, e, l, above))
-  between_kind low high k b top (inr below) = let l = b.0 in let h = b.1 in (omega (arith, h, top), λ e. omega (arith, e, h, below))
+  between_kind low high k b top (inl above) = let l = b.0 in let h = b.1 in (omega (arith, h, top), λ e. absurd (omega (arith, e, l, above)))
+  between_kind low high k b top (inr below) = let l = b.0 in let h = b.1 in (omega (arith, h, top), λ e. absurd (omega (arith, e, h, below)))
+
+  control_sent : (q : QuicFrame) (g : ControlFrame) → q ≡ control_frame g → MaySend c.side g → IsSentKind q.kind
+  control_sent q (NewToken token) is may = let same : q.kind ≡ 7 = ap (λ (f : QuicFrame). f.kind) is in (omega (arith, same), λ e. may.0)
+  control_sent q (NewConnectionId sequence prior id reset_token) is may = let same : q.kind ≡ 24 = ap (λ (f : QuicFrame). f.kind) is in (omega (arith, same), λ e. absurd (omega (arith, same, e)))
+  control_sent q (RetireConnectionId sequence) is may = let same : q.kind ≡ 25 = ap (λ (f : QuicFrame). f.kind) is in (omega (arith, same), λ e. absurd (omega (arith, same, e)))
 
   sent_kind : (q : QuicFrame) → IsKeptFrame c came q → IsSentKind q.kind
   sent_kind q (ping is) = between_kind 1 1 q.kind (exact_kind q 1 [] is) (omega arith) (inr (omega arith))
@@ -110,6 +120,7 @@ module _ {S : Type 0} (c : Inner S) (came : List (List ℕ)) where
   sent_kind q (max_data limit is below) = between_kind 16 16 q.kind (exact_kind q 16 _ is) (omega arith) (inl (omega arith))
   sent_kind q (max_stream_data id limit is named below) = between_kind 17 17 q.kind (exact_kind q 17 _ is) (omega arith) (inl (omega arith))
   sent_kind q (max_streams dir count is below) = between_kind 18 19 q.kind (count_kind q dir count is) (omega arith) (inl (omega arith))
+  sent_kind q (control g is may) = control_sent q g is may
   sent_kind q (close reason is shut) = between_kind 28 29 q.kind (close_kind q reason is) (omega arith) (inl (omega arith))
 
   -- an ACK covers its greatest number
@@ -130,9 +141,15 @@ module _ {S : Type 0} (c : Inner S) (came : List (List ℕ)) where
   covers_greatest q a form (max_data limit is below) = let x = ack_type q _ form refl in let y = exact_kind q 16 _ is in absurd (omega (arith, x.0, x.1, y.0, y.1))
   covers_greatest q a form (max_stream_data id limit is named below) = let x = ack_type q _ form refl in let y = exact_kind q 17 _ is in absurd (omega (arith, x.0, x.1, y.0, y.1))
   covers_greatest q a form (max_streams dir count is below) = let x = ack_type q _ form refl in let y = count_kind q dir count is in absurd (omega (arith, x.0, x.1, y.0, y.1))
+  covers_greatest q a form (control g is may) = absurd (no_control 2 3 q.kind (ack_type q _ form refl) (control_kind q g is) (inr (omega arith)) (inr (omega arith)))
   covers_greatest q a form (close reason is shut) = let x = ack_type q _ form refl in let y = close_kind q reason is in absurd (omega (arith, x.0, x.1, y.0, y.1))
 
 -- ---- no refusal
+
+-- what is refused at a server isn't where the other end is one
+taken_there : (side : Side) (kind : ℕ) → other side ≡ Server → refused_at_server side kind ≡ None
+taken_there Client kind is = refl
+taken_there Server kind is = absurd (cc)
 
 module _ {S : Type 0} (c p : Inner S) (tc tp : List Act) (peers : ArePeers c p) (linked : AreLinked tc tp) (a : Announced c tc) (b : Announced p tp) (rc : Reached c tc) (rp : Reached p tp) (f : Following p tp)
     (space_is : p.space ≡ f.space) (filled : AreFilled p tp) (right : AreRight p tp) (grants : AreGranted c) where
@@ -179,15 +196,17 @@ module _ {S : Type 0} (c p : Inner S) (tc tp : List Act) (peers : ArePeers c p) 
         used_number c tc a (length p.local_id) (handed_in tp) (other p.side) (ap length peers.back) linked.from x.greatest
         (says_ack p (handed_in tp) q x.greatest (covers_greatest p (handed_in tp) q x form kept) kept)
 
-    not_kind : (form : QuicFrame) → written_form q ≡ form → (form.kind / 8 == 1) ≡ false → (form.kind == 2) ≡ false → (form.kind == 49) ≡ false → (form.kind ≤ 29) × (form.kind ≡ 7 → ⊥)
-    not_kind form e plain no_ack no_datagram = subst (λ (f : QuicFrame). (f.kind ≤ 29) × (f.kind ≡ 7 → ⊥)) (form_same q form e plain no_ack no_datagram) (sent_kind p (handed_in tp) q kept)
+    not_kind : (form : QuicFrame) → written_form q ≡ form → (form.kind / 8 == 1) ≡ false → (form.kind == 2) ≡ false → (form.kind == 49) ≡ false → (form.kind ≤ 29) × (form.kind ≡ 7 → p.side ≡ Server)
+    not_kind form e plain no_ack no_datagram = subst (λ (f : QuicFrame). (f.kind ≤ 29) × (f.kind ≡ 7 → p.side ≡ Server)) (form_same q form e plain no_ack no_datagram) (sent_kind p (handed_in tp) q kept)
 
     as_coming : (x : Frame) (g : StreamFrame) → coming_of x ≡ Some g → written_form q ≡ plain_of x → refusal_of c.space.streams g ≡ None
     as_coming x g is form = coming_unrefused g (frame_came c.side (length c.local_id) (handed_in tc) x q g is form has)
 
     pub unrefused : (x : Frame) → written_form q ≡ plain_of x → frame_refusal c.space x ≡ None
     unrefused (kind.Ack x) form = rw (lt-ltb x.greatest c.space.next_number (below_next x form)) refl
-    unrefused (kind.NewToken token) form = absurd ((not_kind _ form refl refl refl).1 refl)
+    unrefused (kind.NewToken token) form =
+        let sender : p.side ≡ Server = (not_kind _ form refl refl refl).1 refl in
+        ap (λ (s : Side). refused_at_server s 7) rc.are.side_is ∙ taken_there c.side 7 (sym peers.sides ∙ sender)
     unrefused kind.HandshakeDone form = let low = (not_kind _ form refl refl refl).0 in absurd (omega (arith, low))
     unrefused (kind.Datagram payload has_length) form = let high = datagram_type q _ form refl in let low = (sent_kind p (handed_in tp) q kept).0 in absurd (omega (arith, high, low))
     unrefused (kind.Stream s) form = as_coming (kind.Stream s) _ refl form

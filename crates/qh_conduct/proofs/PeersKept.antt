@@ -1,10 +1,10 @@
 -- What the frames say that came from the other end: each is one that it may have sent.
 use Rattle.std.proofs.Common.{◌≡◌, ℕ, ◌/◌, ◌<◌, ◌≤◌, ◌==◌, List, [], ◌∷◌, length, Option, Some, None, refl, sym, ap, subst, ◌∙◌, arith, inl, inr}
 use Rattle.std.proofs.lemmas.Bool.{cases_Bool, eqb-true}
-use Rattle.qh_conduct.proofs.FramesSay.{Between, ack_kind, close_kind, count_kind, exact_kind, says_count, says_limit, says_reset, says_stop, says_stream, says_stream_limit}
+use Rattle.qh_conduct.proofs.FramesSay.{Between, ack_kind, close_kind, control_kind, count_kind, exact_kind, no_control, says_count, says_limit, says_reset, says_stop, says_stream, says_stream_limit}
 use Rattle.qh_conduct.proofs.ReachSpaces.{none_is, same_coming}
 use Rattle.qh_conduct.specs.Announced.{Announced, IsKeptFrame, IsLimited, IsReading, IsSending}
-use Rattle.qh_conduct.specs.Announced.IsKeptFrame.{ping, response, ack, stream, reset, stop, max_data, max_stream_data, max_streams, close}
+use Rattle.qh_conduct.specs.Announced.IsKeptFrame.{ping, response, ack, stream, reset, stop, max_data, max_stream_data, max_streams, control, close}
 use Rattle.qh_conduct.specs.Reached.{CameIn}
 use Rattle.qh_core.specs.Follows.{HasComing, HasFrame, HasNumber}
 use Rattle.qh_core.specs.declared.inner.Inner.{Inner}
@@ -85,6 +85,7 @@ module _ {S : Type 0} (c : Inner S) (came : List (List ℕ)) where
   run_form q run e (max_data limit is below) = let a = stream_type q run e in let b = exact_kind q 16 _ is in absurd (omega (arith, a.0, a.1, b.0, b.1))
   run_form q run e (max_stream_data id limit is named below) = let a = stream_type q run e in let b = exact_kind q 17 _ is in absurd (omega (arith, a.0, a.1, b.0, b.1))
   run_form q run e (max_streams dir count is below) = let a = stream_type q run e in let b = count_kind q dir count is in absurd (omega (arith, a.0, a.1, b.0, b.1))
+  run_form q run e (control g is may) = absurd (no_control 8 15 q.kind (stream_type q run e) (control_kind q g is) (inl (omega arith)) (inr (omega arith)))
   run_form q run e (close reason is shut) = let a = stream_type q run e in let b = close_kind q reason is in absurd (omega (arith, a.0, a.1, b.0, b.1))
 
   -- what the sender of a frame is bound to by it

@@ -10,7 +10,6 @@ use Rattle.qh_conduct.specs.Granted.{AreGranted}
 use Rattle.qh_conduct.specs.Peers.{ArePeers}
 use Rattle.qh_core.specs.Config.{bounded, peer_of}
 use Rattle.qh_core.specs.Follows.{Following, HasComing, HasFrame}
-use Rattle.qh_core.specs.declared.config.ConnConfig.{ConnConfig}
 use Rattle.qh_core.specs.declared.inner.Inner.{Inner}
 use Rattle.qh_frame.specs.Plain.{frame}
 use Rattle.qh_half.specs.Recv.{PlainRecv, new_recv}

@@ -1,7 +1,8 @@
 -- The frames that an end may send can be read, each with values in range, and no other bytes stand in its packets.
 use Rattle.std.proofs.Common.{◌≡◌, ℕ, ◌+◌, ◌-◌, ◌<◌, ◌≤◌, ◌^◌, ◌==◌, Bool, true, false, List, [], ◌∷◌, length, get_or, refl, sym, ap, subst, ◌∙◌, arith, inl, inr}
+use Rattle.qh_conduct.proofs.FramesFit.{control_fits}
 use Rattle.qh_conduct.specs.Announced.{AreLive, IsKeptFrame}
-use Rattle.qh_conduct.specs.Announced.IsKeptFrame.{ping, response, ack, stream, reset, stop, max_data, max_stream_data, max_streams, close}
+use Rattle.qh_conduct.specs.Announced.IsKeptFrame.{ping, response, ack, stream, reset, stop, max_data, max_stream_data, max_streams, control, close}
 use Rattle.qh_core.specs.Inner.{is_open}
 use Rattle.qh_core.specs.declared.inner.Inner.{Inner}
 use Rattle.std.proofs.lemmas.Bool.{both_ways}
@@ -65,6 +66,7 @@ module _ {S : Type 0} (c : Inner S) (came : List (List ℕ)) where
   kept_fits q live up small (max_data limit is below) = rw is tt
   kept_fits q live up small (max_stream_data id limit is named below) = rw is tt
   kept_fits q live up small (max_streams dir count is below) = rw is (count_fits dir count (let most = live.counts (is_two_way dir) in omega (arith, below, most)))
+  kept_fits q live up small (control g is may) = rw is (control_fits c.side g may)
   kept_fits q live up small (close reason is shut) = absurd (both_ways (is_open c.state) shut up)
 
 -- ---- nothing is left behind the frames

@@ -2,9 +2,10 @@
 use Rattle.std.proofs.Common.{◌≡◌, ℕ, Bool, true, false, List, refl, ap, ◌∙◌}
 use Rattle.qh_base.specs.declared.path.Transmit.{Transmit}
 use Rattle.qh_base.specs.declared.time.Moment.{Moment}
+use Rattle.qh_conduct.proofs.SpaceGoesOn.{bare_streams}
 use Rattle.qh_conduct.specs.Calls.{ToldTheSame}
 use Rattle.qh_core.specs.Sending.{AreFramesMade, IsDatagramMade, NothingIsSent}
-use Rattle.qh_core.specs.Sending.AreFramesMade.{packet, close}
+use Rattle.qh_core.specs.Sending.AreFramesMade.{packet, control, close}
 use Rattle.qh_core.specs.declared.inner.Inner.{Inner}
 use Rattle.qh_halves.specs.declared.counts.StreamCounts.{StreamCounts}
 use Rattle.qh_history.proofs.Carried.{by_packet}
@@ -49,6 +50,7 @@ of_both old new e false = (ap (λ (x : (ℕ × ℕ) × (ℕ × ℕ)). x.1.0) e, 
 module _ {S : Type 0} where
   frames_most : (now : Moment) (old new : Inner S) (before frames : List ℕ) → AreFramesMade now old new before frames → most new.space.streams ≡ most old.space.streams
   frames_most now old new before frames (packet up made e) = by_packet (λ s. most s ≡ most old.space.streams) (lost_most old.space.streams) (handed_most old.space.streams) _ _ _ old.space new.space _ _ made refl
+  frames_most now old new before frames (control up made e) = ap most (bare_streams _ _ old.space new.space made.sent)
   frames_most now old new before frames (close reason until is are e) = ap (λ (x : Inner S). most x.space.streams) e
 
   pub made_permits : (sealed : Side → Space → ℕ → List ℕ) (now : Moment) (old new : Inner S) (before after : List ℕ) (transmit : Transmit) → IsDatagramMade sealed now old new before after transmit

@@ -1,5 +1,5 @@
 -- What a connection knows of its streams came in datagrams, over each of its calls.
-use Rattle.std.proofs.Common.{◌≡◌, ◌⊎◌, ℕ, ◌==◌, if◌then◌else◌, Bool, true, false, List, [], ◌∷◌, ◌++◌, length, Option, Some, None, Result, Err, refl, sym, ap, subst, ◌∙◌, inl, inr}
+use Rattle.std.proofs.Common.{◌≡◌, ◌⊎◌, ℕ, ◌+◌, ◌==◌, if◌then◌else◌, Bool, true, false, List, [], ◌∷◌, ◌++◌, length, Option, Some, None, Result, Err, refl, sym, ap, subst, ◌∙◌, inl, inr}
 use Rattle.std.specs.Prelude.{MatchBool, ◌||◌}
 use Rattle.std.proofs.lemmas.Bool.{both_ways}
 use Rattle.qh_base.specs.declared.connection_error.ConnectionError.{ConnectionError}
@@ -11,6 +11,7 @@ use Rattle.qh_buffers.specs.declared.assembler.Chunk.{Chunk}
 use Rattle.qh_conduct.proofs.ReachFrames.{opened_reached}
 use Rattle.qh_conduct.proofs.ReachSpaces.{Came, all_frames}
 use Rattle.qh_conduct.proofs.ReachSteps as step
+use Rattle.qh_conduct.proofs.SpaceGoesOn.{bare_streams}
 use Rattle.qh_conduct.specs.Reached.{AreNamed, AreReached, CameIn, HasNothingYet, HasReached, IsLostForMemory, IsUntouched, Reached}
 use Rattle.qh_core.proofs.Ends.{ended_with}
 use Rattle.qh_core.specs.Event.{IsDrainedTold, IsPolledEvent}
@@ -21,8 +22,8 @@ use Rattle.qh_core.specs.Inner.{IsFailedBy, is_open, with_streams}
 use Rattle.qh_core.specs.Receiving.{GoesOnWith, HasContent, IsClosedWith, IsDatagramTaken, IsEventTaken, IsFaulted, IsOpenedBy, IsPacketHandled, IsPacketTaken, received}
 use Rattle.qh_core.specs.Receiving.IsDatagramTaken.{dropped, handled, told_again, closed_too, draining as in_draining, drained as in_drained}
 use Rattle.qh_core.specs.Receiving.IsPacketHandled.{repeated, empty, faulty, unnoted, taken as in_taken}
-use Rattle.qh_core.specs.Sending.{AreFramesMade, IsDatagramMade, NothingIsSent}
-use Rattle.qh_core.specs.Sending.AreFramesMade.{packet as packet_made, close as close_made}
+use Rattle.qh_core.specs.Sending.{AreFramesMade, IsDatagramMade, NothingIsSent, overhead}
+use Rattle.qh_core.specs.Sending.AreFramesMade.{packet as packet_made, control as control_made, close as close_made}
 use Rattle.qh_core.specs.Streams.{IsRead, IsReadFault, IsWriteRefused}
 use Rattle.qh_core.specs.Streams.IsWriteRefused.{closed as write_closed, wanting as write_wanting, refused as write_refused}
 use Rattle.qh_core.specs.Timers.{AreLostByAge, IsProbed, IsTimedOut}
@@ -271,6 +272,9 @@ module _ {S : Type 0} where
   frames_made now old new t before bytes (packet_made opened packet e) =
       moved old new t (ap (λ (c : Inner S). c.side) e) (ap (λ (c : Inner S). c.local_id) e)
       (λ frames. by_packet (λ s. AreReached old.side s frames) (step.lost old.side frames) (step.handed old.side frames) _ _ _ old.space new.space _ _ packet) (not_lost old opened)
+  frames_made now old new t before bytes (control_made opened packet e) =
+      moved old new t (ap (λ (c : Inner S). c.side) e) (ap (λ (c : Inner S). c.local_id) e)
+      (λ frames p. rw (bare_streams now.0 (overhead old + length bytes) old.space new.space packet.sent) p) (not_lost old opened)
   frames_made now old new t before bytes (close_made reason until is are e) =
       moved old new t (ap (λ (c : Inner S). c.side) e) (ap (λ (c : Inner S). c.local_id) e) (λ frames p. rw (ap (λ (c : Inner S). c.space.streams) e) p)
       (λ lost. (ap (λ (c : Inner S). is_open c.state) e, ap (λ (c : Inner S). c.error) e ∙ lost.1))

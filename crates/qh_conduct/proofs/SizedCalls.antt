@@ -10,13 +10,15 @@ use Rattle.qh_base.specs.declared.time.Moment.{Moment}
 use Rattle.qh_conduct.proofs.AnnouncedCalls.{IsQuietStep, closes_step, drained_open, drained_step, polled_step, timed_step, with_step}
 use Rattle.qh_conduct.proofs.DatagramsKept.{open_reads_back}
 use Rattle.qh_conduct.proofs.PacketsKept.{only_packet}
-use Rattle.qh_conduct.proofs.SizedSpaces.{AreSaid, aged_on, close_said, frames_on, made_on, packet_said, probed_on}
+use Rattle.qh_conduct.proofs.SizedSpaces.{AreSaid, aged_on, close_said, control_said, frames_on, made_on, packet_said, probed_on}
+use Rattle.qh_conduct.proofs.SpaceGoesOn.{bare_streams}
 use Rattle.qh_conduct.proofs.StreamsReceive.{call_go}
 use Rattle.qh_conduct.proofs.TakenOn.{TakenOn, IsWriting, call_view, closed_after, polled_taken, self_taken, taken_after, taken_on, written_closed, written_taken}
 use Rattle.qh_conduct.specs.Announced.{IsOver, MakesTags}
 use Rattle.qh_conduct.specs.Calls.{IsCall}
 use Rattle.qh_conduct.specs.Sized.{AreRight, AreTaken, HasReset, HasSized, IsClosedAt, MayWrite, Sized, WereRight, reset_frame, written_by}
 use Rattle.qh_core.proofs.Acts.{last_or_before, one_datagram}
+use Rattle.qh_core.proofs.ControlFrames.{control_frames, of_each}
 use Rattle.qh_core.proofs.Ends.{ended_with, goes_on_space}
 use Rattle.qh_core.proofs.Handed.{before_those, never_empty, same_out}
 use Rattle.qh_core.specs.Event.{IsDrainedTold, IsPolledEvent}
@@ -28,7 +30,7 @@ use Rattle.qh_core.specs.Receiving.{GoesOnWith, IsClosedWith, IsDatagramTaken, I
 use Rattle.qh_core.specs.Receiving.IsDatagramTaken.{dropped, handled, told_again, closed_too, draining, drained}
 use Rattle.qh_core.specs.Receiving.IsPacketHandled.{repeated, empty, faulty, unnoted, taken}
 use Rattle.qh_core.specs.Sending.{AreFramesMade, ClosesReadBack, IsDatagramMade, NothingIsSent, close_frame, datagram_of, overhead}
-use Rattle.qh_core.specs.Sending.AreFramesMade.{packet as packet_made, close as close_made}
+use Rattle.qh_core.specs.Sending.AreFramesMade.{packet as packet_made, control as control_made, close as close_made}
 use Rattle.qh_core.specs.Timers.{IsTimedOut, restarted}
 use Rattle.qh_core.specs.Timers.IsTimedOut.{idle, recovery, closed, draining as draining_over, waits, drained as drained_still}
 use Rattle.qh_core.specs.declared.event.ConnectionEvent.{ConnectionEvent}
@@ -324,6 +326,16 @@ module _ {S : Type 0} where
       let same : b.bytes ≡ frames = sym (append_cancel_left header frames b.bytes b.appended) in
       one_more old new t frames (sealed old.side Data old.space.next_number) (ap (λ (c : Inner S). c.side) e) (ap (λ (c : Inner S). c.remote_id) e) go (tags old.side old.space.next_number below)
       (subst (λ (z : List ℕ). AreSaid new.space.streams t z) same b.said) (p, were)
+  frames_sized sealed tags now old new frames t (control_made up m e) below back (inr over, were) = absurd (drained_open old.state over.0.1 up)
+  frames_sized sealed tags now old new frames t (control_made up m e) below back (inl p, were) =
+      let r = control_frames old.side frames m.control in
+      let k : AreSaid new.space.streams t frames = record {
+        frames = r.frames;
+        are = r.are;
+        said = of_each (λ (q : QuicFrame). (id code size : ℕ) → q ≡ reset_frame id code size → IsClosedAt new.space.streams t id size) old.side frames r (control_said new.space.streams t);
+      } in
+      one_more old new t frames (sealed old.side Data old.space.next_number) (ap (λ (c : Inner S). c.side) e) (ap (λ (c : Inner S). c.remote_id) e) (same_streams old new new refl (bare_streams now.0 (overhead old + length frames) old.space new.space m.sent))
+      (tags old.side old.space.next_number below) k (p, were)
   frames_sized sealed tags now old new frames t (close_made reason until is bytes_are e) below back (inr over, were) = let same : Closed reason true until ≡ Drained = sym is ∙ over.0.1 in absurd (cc)
   frames_sized sealed tags now old new frames t (close_made reason until is bytes_are e) below back (inl p, were) =
       let read = back reason until is in

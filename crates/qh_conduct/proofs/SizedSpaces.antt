@@ -12,12 +12,15 @@ use Rattle.qh_conduct.proofs.FramesSay.{Between, ack_kind, close_kind, count_kin
 use Rattle.qh_conduct.proofs.StreamsGoOn.{handed_goes}
 use Rattle.qh_conduct.proofs.TakenOn.{TakenOn, acked_taken_on, closed_after, handed_taken_on, lost_taken_on, received_taken, self_taken, taken_after, taken_on}
 use Rattle.qh_conduct.specs.Sized.{AreTaken, IsClosedAt, reset_frame}
+use Rattle.qh_core.specs.Control.{control_frame}
 use Rattle.qh_core.specs.Receiving.{AreFramesTaken}
 use Rattle.qh_core.specs.Receiving.AreFramesTaken.{none as none_taken, more as more_taken, closed as closed_by, refused as refused_at}
 use Rattle.qh_core.specs.Timers.{AreLostByAge, IsProbed}
 use Rattle.qh_core.specs.Timers.AreLostByAge.{due as age_due, not_yet as age_not_yet}
 use Rattle.qh_core.specs.Timers.IsProbed.{due as probe_due, not_yet as probe_not_yet}
 use Rattle.qh_core.specs.Sending.{close_frame}
+use Rattle.qh_core.specs.declared.control.ControlFrame.{ControlFrame}
+use Rattle.qh_core.specs.declared.control.ControlFrame.TheVariants.{NewToken, NewConnectionId, RetireConnectionId}
 use Rattle.qh_core.specs.declared.state.Close.{Close}
 use Rattle.qh_frame.proofs.FramesWritten.{ping_put}
 use Rattle.qh_frame.specs.AckWritten.{ack_frame}
@@ -149,6 +152,11 @@ module _ (s : PlainStreams) (t : List Act) where
 
   pub close_said : (reason : Close) → IsSaid (close_frame reason)
   close_said reason = other_kind (close_frame reason) 28 29 (close_kind (close_frame reason) reason refl) (λ low high. absurd (omega (arith, low)))
+
+  pub control_said : (g : ControlFrame) → IsSaid (control_frame g)
+  control_said (NewToken token) = other_frame 7 (Text token ∷ []) (λ same. omega (arith, same))
+  control_said (NewConnectionId sequence prior id reset_token) = other_frame 24 (Num sequence ∷ Num prior ∷ Text id ∷ Text reset_token.0 ∷ []) (λ same. omega (arith, same))
+  control_said (RetireConnectionId sequence) = other_frame 25 (Num sequence ∷ []) (λ same. omega (arith, same))
 
   none_said : AreSaid []
   none_said = record { frames = []; are = refl; said = λ f among. absurd among }

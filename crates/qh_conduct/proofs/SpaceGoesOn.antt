@@ -16,7 +16,7 @@ use Rattle.qh_loss.specs.declared.probe.Probe.TheVariants as probe
 use Rattle.qh_recovery.specs.declared.sent_packets.SentPacket.{SentPacket}
 use Rattle.qh_space.specs.Receiving.{IsFrameTaken, IsLossTaken, frame_refusal}
 use Rattle.qh_space.specs.Receiving.IsFrameTaken.{passive, streams as of_streams, ack as of_ack, challenge, close}
-use Rattle.qh_space.specs.Sending.{AreElicitingPut, IsPacketMade, may_elicit, with_sent}
+use Rattle.qh_space.specs.Sending.{AreElicitingPut, IsPacketMade, IsSentBare, may_elicit, with_sent}
 use Rattle.qh_space.specs.Timers.{pings_after}
 use Rattle.qh_space.specs.declared.data_space.DataSpace.{DataSpace}
 use Rattle.qh_streams.specs.Streams.{PlainStreams, IsHandedOver, IsLostFrame}
@@ -115,3 +115,13 @@ made_rest now around room old new before after made = (
       ∙ ap (λ (n : ℕ). n + 1) (put_next (may_elicit old) (room - (length made.out_mid - length before)) old made.mid made.out_mid after made.packet.frames.items made.eliciting),
   ap (λ (s : DataSpace). s.acks.ranges) made.new_is,
 )
+
+-- a packet of which nothing is kept leaves the streams as they are
+pub bare_streams : (now size : ℕ) (old new : DataSpace) → IsSentBare now size old new → new.streams ≡ old.streams
+bare_streams now size old new bare = ap (λ (s : DataSpace). s.streams) bare.new_is
+
+pub bare_go : (now size : ℕ) (old new : DataSpace) → IsSentBare now size old new → GoOn old.streams new.streams
+bare_go now size old new bare = subst (λ (s : PlainStreams). GoOn old.streams s) (sym (bare_streams now size old new bare)) (same_go old.streams)
+
+pub bare_rest : (now size : ℕ) (old new : DataSpace) → IsSentBare now size old new → (new.next_number ≡ old.next_number + 1) × (new.acks.ranges ≡ old.acks.ranges)
+bare_rest now size old new bare = (ap (λ (s : DataSpace). s.next_number) bare.new_is, ap (λ (s : DataSpace). s.acks.ranges) bare.new_is)

@@ -3,10 +3,12 @@ use Rattle.std.specs.Prelude.{◌≡◌, ◌⊎◌, ℕ, ◌^◌, ◌<◌, ◌�
 use Rattle.std.specs.List.{AllByRecursion}
 use Rattle.qh_base.specs.declared.connection_error.ConnectionError.TheVariants.{Memory}
 use Rattle.qh_buffers.specs.Ranges.{has}
+use Rattle.qh_core.specs.Control.{MaySend, control_frame}
 use Rattle.qh_core.specs.Follows.{HasFrame, HasNumber}
 use Rattle.qh_core.specs.Inner.{is_open}
 use Rattle.qh_core.specs.Receiving.{is_close}
 use Rattle.qh_core.specs.Sending.{close_frame}
+use Rattle.qh_core.specs.declared.control.ControlFrame.{ControlFrame}
 use Rattle.qh_core.specs.declared.inner.Inner.{Inner}
 use Rattle.qh_core.specs.declared.state.Close.{Close}
 use Rattle.qh_core.specs.declared.state.State.TheVariants.{Drained}
@@ -72,7 +74,8 @@ module _ {S : Type 0} where
 
   -- The frame is one that the connection may have sent, where these datagrams came: an ACK has only numbers that came; a limit and
   -- a count is no greater than the one that was announced last; a stream that is named was opened, and has the half that sends such
-  -- a frame; a CONNECTION_CLOSE comes only once the connection is closed.
+  -- a frame; a token comes from a server alone, and isn't empty, and a new id retires no later one; a CONNECTION_CLOSE comes only once
+  -- the connection is closed.
   pub data IsKeptFrame (c : Inner S) (came : List (List ℕ)) (f : QuicFrame) : Type 0 where
     ping : f ≡ frame frame_types.ping [] → IsKeptFrame c came f
     response : (echoed : List ℕ) → f ≡ frame frame_types.path_response (Text echoed ∷ []) → IsKeptFrame c came f
@@ -83,6 +86,7 @@ module _ {S : Type 0} where
     max_data : (limit : ℕ) → f ≡ frame frame_types.max_data (Num limit ∷ []) → limit ≤ c.space.streams.recv.announced.value → IsKeptFrame c came f
     max_stream_data : (id limit : ℕ) → f ≡ frame frame_types.max_stream_data (Num id ∷ Num limit ∷ []) → IsReading c.space.streams id → IsLimited c.space.streams id limit → IsKeptFrame c came f
     max_streams : (dir : Dir) (count : ℕ) → f ≡ frame (by_dir dir frame_types.max_streams_bidi frame_types.max_streams_uni) (Num count ∷ []) → count ≤ (counts_of c.space.streams (is_two_way dir)).announced.value → IsKeptFrame c came f
+    control : (g : ControlFrame) → f ≡ control_frame g → MaySend c.side g → IsKeptFrame c came f
     close : (reason : Close) → f ≡ close_frame reason → is_open c.state ≡ false → IsKeptFrame c came f
 
   -- ---- datagrams

@@ -6,8 +6,8 @@ use Rattle.std.specs.Prelude.{IfSome, MatchBool, if◌then◌else◌, is_some, n
 use Rattle.qh_base.specs.declared.time.Moment.{Moment}
 use Rattle.qh_buffers.specs.Ranges.{PlainRange}
 use Rattle.qh_core.specs.Inner.{IsConnection, counted, is_open}
-use Rattle.qh_core.specs.Sending.{AreBytesMade, AreFramesMade, AreFramesPut, IsDatagramMade, NothingIsSent, close_frame, datagram_of, idle_after, is_close_due, overhead, without_close_due}
-use Rattle.qh_core.specs.Sending.AreFramesMade.{packet, close}
+use Rattle.qh_core.specs.Sending.{AreBytesMade, AreFramesMade, AreFramesPut, AreNotControl, ArePut, BearsNoControl, IsDatagramMade, NothingIsSent, close_frame, datagram_of, idle_after, is_close_due, overhead, without_close_due}
+use Rattle.qh_core.specs.Sending.AreFramesMade.{packet, control, close}
 use Rattle.qh_core.specs.Sending.IsSilent.{told, draining, drained}
 use Rattle.qh_core.specs.Timers.{sent_at}
 use Rattle.qh_core.specs.declared.inner.Inner.{Inner}
@@ -69,7 +69,7 @@ module _ {S : Type 0} where
 
     pub packet_put : (o : Option ℕ) → is_open old.state ≡ true
         → IfSome o (λ n. (n ≡ old.space.next_number) × (n < 2 ^ 62) × IsPacketMade now.0 around room old.space space before after)
-        → is_some o ≡ true → AreFramesPut now old new before after
+        → is_some o ≡ true → ArePut now old new before after
     packet_put None opened none some = absurd (both_ways false refl some)
     packet_put (Some n) opened is some =
         let made = is.2 in
@@ -80,13 +80,16 @@ module _ {S : Type 0} where
         let fits = made.fits in
         let exact = subst (λ (r : ℕ). IsPacketMade now.0 (overhead old) r old.space space before after) room_is
         (subst (λ (a : ℕ). IsPacketMade now.0 a room old.space space before after) around_is made) in
-        subst (λ (c : Inner S). AreFramesPut now old c before after) is_after (record {
-          frames = bytes.0;
-          after_is = bytes.1;
-          number = omega (arith, number, below);
-          fits = omega (arith, sum, fits, room_is);
-          made = packet opened (subst (λ (l : List ℕ). IsPacketMade now.0 (overhead old) (1200 - overhead old) old.space space before l) bytes.1 exact) refl;
-        })
+        subst (λ (c : Inner S). ArePut now old c before after) is_after (
+          record {
+            frames = bytes.0;
+            after_is = bytes.1;
+            number = omega (arith, number, below);
+            fits = omega (arith, sum, fits, room_is);
+            made = packet opened (subst (λ (l : List ℕ). IsPacketMade now.0 (overhead old) (1200 - overhead old) old.space space before l) bytes.1 exact) refl;
+          },
+          tt,
+        )
 
     end_kept : (o : Option ℕ) → IfSome o (λ n. (n ≡ old.space.next_number) × (n < 2 ^ 62) × IsPacketMade now.0 around room old.space space before after)
         → (o ≡ None → space ≡ old.space) → SameEnd old.space space
@@ -111,16 +114,18 @@ module _ {S : Type 0} where
 
   pub close_put : (old : Inner S) (state : State) (before after : List ℕ) (reason : Close) (until : Moment) → old.state ≡ Closed reason true until → state ≡ without_close_due old.state
       → old.space.next_number < 2 ^ 62 → IsPut before after (close_frame reason) 153 → 153 ≤ 1200 - overhead old → (now : Moment)
-      → AreFramesPut now old (record old { state = state; space = record old.space { next_number = old.space.next_number + 1 } }) before after
+      → ArePut now old (record old { state = state; space = record old.space { next_number = old.space.next_number + 1 } }) before after
   close_put old state before after reason until is state_is below put wide now =
-      let size = put.size in
-      record {
-        frames = frame_bytes (close_frame reason);
-        after_is = put.whole;
-        number = below;
-        fits = omega (arith, size, wide);
-        made = close reason until is refl (ap (λ (s : State). record old { state = s; space = record old.space { next_number = old.space.next_number + 1 } }) (state_is ∙ ap without_close_due is));
-      }
+      let size = put.size in (
+        record {
+          frames = frame_bytes (close_frame reason);
+          after_is = put.whole;
+          number = below;
+          fits = omega (arith, size, wide);
+          made = close reason until is refl (ap (λ (s : State). record old { state = s; space = record old.space { next_number = old.space.next_number + 1 } }) (state_is ∙ ap without_close_due is));
+        },
+        tt,
+      )
 
   -- once this end told that it closed, or the peer closed, nothing more is sent
   pub silent : (c : Inner S) (s : State) → c.state ≡ s → is_open s ≡ false → is_close_due s ≡ false → NothingIsSent c c
@@ -132,7 +137,7 @@ module _ {S : Type 0} where
 
   -- ---- a datagram
 
-  pub datagram_made : (sealed : Side → Space → ℕ → List ℕ) (now : Moment) (old new : Inner S) (tag framed buffer after : List ℕ) (size : ℕ)
+  abbrev pub datagram_made : (sealed : Side → Space → ℕ → List ℕ) (now : Moment) (old new : Inner S) (tag framed buffer after : List ℕ) (size : ℕ)
       → tag ≡ sealed old.side Data old.space.next_number → length tag ≡ 32 → AreFramesPut now old new (header_bytes old.remote_id old.space.next_number) framed
       → after ≡ buffer ++ (framed ++ tag) → size ≡ length (framed ++ tag) → length old.remote_id ≤ 20 → AreBytesMade sealed now old new buffer after size
   datagram_made sealed now old new tag framed buffer after size tag_is tag_size put after_is size_is short =
@@ -153,13 +158,35 @@ module _ {S : Type 0} where
         fits = omega (arith, size_is, all, sum, head, fits, tag_size, short);
       }
 
-  frames_counted : (now : Moment) (old new : Inner S) (before frames : List ℕ) (u : UdpStats) → AreFramesMade now old new before frames → AreFramesMade now old (record new { udp_tx = u }) before frames
+  abbrev pub frames_counted : (now : Moment) (old new : Inner S) (before frames : List ℕ) (u : UdpStats) → AreFramesMade now old new before frames → AreFramesMade now old (record new { udp_tx = u }) before frames
   frames_counted now old new before frames u (packet opened made e) = packet opened made (ap (λ (c : Inner S). record c { udp_tx = u }) e)
+  frames_counted now old new before frames u (control opened made e) = control opened made (ap (λ (c : Inner S). record c { udp_tx = u }) e)
   frames_counted now old new before frames u (close reason until is frames_are e) = close reason until is frames_are (ap (λ (c : Inner S). record c { udp_tx = u }) e)
 
-  same_addresses : (now : Moment) (old new : Inner S) (before frames : List ℕ) → AreFramesMade now old new before frames → new.addresses ≡ old.addresses
+  pub same_addresses : (now : Moment) (old new : Inner S) (before frames : List ℕ) → AreFramesMade now old new before frames → new.addresses ≡ old.addresses
   same_addresses now old new before frames (packet opened made e) = ap (λ (c : Inner S). c.addresses) e
+  same_addresses now old new before frames (control opened made e) = ap (λ (c : Inner S). c.addresses) e
   same_addresses now old new before frames (close reason until is frames_are e) = ap (λ (c : Inner S). c.addresses) e
+
+  -- and it bears no frames of the connection's own still
+  pub counted_apart : (now : Moment) (old new : Inner S) (before frames : List ℕ) (u : UdpStats) (m : AreFramesMade now old new before frames) → AreNotControl m → AreNotControl (frames_counted now old new before frames u m)
+  counted_apart now old new before frames u (packet opened made e) apart = tt
+  counted_apart now old new before frames u (control opened made e) apart = absurd apart
+  counted_apart now old new before frames u (close reason until is frames_are e) apart = tt
+
+  -- what was put into a datagram that was appended
+  pub bears_put : (sealed : Side → Space → ℕ → List ℕ) (now : Moment) (old new : Inner S) (before after : List ℕ) (size : ℕ) (b : AreBytesMade sealed now old new before after size) → AreNotControl b.made
+      → BearsNoControl sealed now old new before after
+  bears_put sealed now old new before after size b apart = record { frames = b.frames; after_is = b.after_is; made = b.made; no_control = apart }
+
+  pub bears_counted : (sealed : Side → Space → ℕ → List ℕ) (now : Moment) (old new : Inner S) (before after : List ℕ) (u : UdpStats) → BearsNoControl sealed now old new before after
+      → BearsNoControl sealed now old (record new { udp_tx = u }) before after
+  bears_counted sealed now old new before after u b = record {
+    frames = b.frames;
+    after_is = b.after_is;
+    made = frames_counted now old new _ b.frames u b.made;
+    no_control = counted_apart now old new _ b.frames u b.made b.no_control;
+  }
 
   -- a datagram that was appended is counted, and goes to the peer
   pub datagram_sent : (sealed : Side → Space → ℕ → List ℕ) (now : Moment) (old new : Inner S) (before after : List ℕ) (size : ℕ) (u : UdpStats) → AreBytesMade sealed now old new before after size

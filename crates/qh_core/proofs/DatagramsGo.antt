@@ -1,5 +1,5 @@
 -- A datagram that goes: how the connection stands to all that was done then.
-use Rattle.std.proofs.Common.{◌≡◌, ℕ, zero, suc, ◌+◌, ◌-◌, ◌<◌, ◌≤◌, nat_lt, Bool, true, false, List, [], ◌∷◌, ◌++◌, length, Option, Some, None, refl, sym, ap, subst, ◌∙◌, arith, inl, inr}
+use Rattle.std.proofs.Common.{◌≡◌, ℕ, zero, suc, ◌+◌, ◌-◌, ◌<◌, ◌≤◌, nat_lt, Bool, true, false, List, [], ◌∷◌, ◌++◌, length, Some, None, refl, sym, ap, subst, ◌∙◌, arith, inl, inr}
 use Rattle.std.proofs.Math.Seq.{drop-append_seam}
 use Rattle.std.proofs.lemmas.Bool.{both_ways, cases_Bool}
 use Rattle.std.proofs.lemmas.List.{append-nil, append_cancel_left}
@@ -8,6 +8,7 @@ use Rattle.qh_base.specs.declared.connection_error.ConnectionError.TheVariants.{
 use Rattle.qh_base.specs.declared.path.Transmit.{Transmit}
 use Rattle.qh_base.specs.declared.time.Moment.{Moment}
 use Rattle.qh_core.proofs.Acts.{last_or_before, one_datagram}
+use Rattle.qh_core.proofs.ControlFrames.{bare_rest, control_frames, control_resets_nothing, control_silent, of_each, silent_runs}
 use Rattle.qh_core.proofs.Followed.{FollowsOf, carried_on, same_end, same_streams, space_follows, stepped}
 use Rattle.qh_core.proofs.Handed.{same_in, written_on}
 use Rattle.qh_core.proofs.ResetsMade.{below_count, has_reset_type, packet_said}
@@ -16,7 +17,7 @@ use Rattle.qh_core.specs.Follows.{Following, HasComing, HasFrame, HasNumber, Has
 use Rattle.qh_core.specs.Follows.Reaches.{run as by_run, reset as by_reset}
 use Rattle.qh_core.specs.Inner.{IsConnection, IsSameEnd}
 use Rattle.qh_core.specs.Sending.{AreFramesMade, ClosesReadBack, IsDatagramMade, close_frame, datagram_of, overhead}
-use Rattle.qh_core.specs.Sending.AreFramesMade.{packet, close}
+use Rattle.qh_core.specs.Sending.AreFramesMade.{packet, control, close}
 use Rattle.qh_core.specs.declared.config.ConnConfig.{ConnConfig}
 use Rattle.qh_core.specs.declared.inner.Inner.{Inner}
 use Rattle.qh_core.specs.declared.state.Close.{Close}
@@ -52,7 +53,7 @@ use Rattle.qh_transcript.proofs.ReceivingLists.{none_some, others_stand}
 use Rattle.qh_transcript.proofs.SendingSteps as step
 use Rattle.qh_transcript.proofs.WithinKept as kept
 use Rattle.qh_transcript.specs.Receiving.{ReadNothing}
-use Rattle.qh_transcript.specs.Sending.{IsRunOf, StandsOut, WriteNothing, runs_of, some_run}
+use Rattle.qh_transcript.specs.Sending.{IsRunOf, StandsOut, WriteNothing, runs_of}
 use Rattle.qh_transcript.specs.Within.{count_given, first_count, greatest}
 
 -- ---- a run that was written lies within the limits
@@ -258,19 +259,27 @@ module _ (side : Side) (own : ℕ) (id : List ℕ) (config : ConnConfig) where
       let says = b.are.said (reset_frame stream code size) (frame_there (length id) number side id frames tag b.are.frames (reset_frame stream code size) refl tag_is read has) stream code size refl in
       (says.0, λ mine. rw after.of.peer_is (says.1 mine)))
 
-  -- a datagram with one frame that carries nothing of a stream is handed out
+  -- a datagram with frames that carry nothing of a stream is handed out
+  silent_goes : (s : DataSpace) (number : ℕ) (fs : List QuicFrame) (frames tag : List ℕ) (t : List Act) → AreQuicFrames frames fs → ((q : QuicFrame) → In q fs → stream_of q ≡ None)
+      → ((q : QuicFrame) → In q fs → has_reset_type q ≡ false) → length tag ≡ 32 → FollowsOf side own (length id) config s t
+      → FollowsOf side own (length id) config s (t ++ HandedOut (header_bytes id number ++ (frames ++ tag)) ∷ [])
+  silent_goes s number fs frames tag t are silent no_reset tag_is p =
+      handed_out_follows side own (length id) config s t (header_bytes id number ++ (frames ++ tag)) p.sent p p.stands.out
+      (λ run has. subst (λ (z : List Run). In run z) (append-nil p.sent) (subst (λ (z : List Run). In run (p.sent ++ z)) (silent_runs fs silent)
+      (handed (length id) number side p.sent t id frames tag fs refl tag_is are p.is_sent run has)))
+      (λ stream code size has.
+      let f = reset_frame stream code size in
+      absurd (both_ways (has_reset_type f) (no_reset f (frame_there (length id) number side id frames tag fs f refl tag_is are has)) refl))
+
+  -- a datagram with one such frame
   frame_goes : (s : DataSpace) (number : ℕ) (f : QuicFrame) (frames tag : List ℕ) (t : List Act) → frames ≡ frame_bytes f → ((rest : List ℕ) → IsQuicFrame (frame_bytes f ++ rest) f rest) → stream_of f ≡ None → has_reset_type f ≡ false
       → length tag ≡ 32 → FollowsOf side own (length id) config s t → FollowsOf side own (length id) config s (t ++ HandedOut (header_bytes id number ++ (frames ++ tag)) ∷ [])
   frame_goes s number f frames tag t bytes_are back silent no_reset tag_is p =
       let one : IsQuicFrame frames f [] = subst (λ (z : List ℕ). IsQuicFrame z f []) (append-nil (frame_bytes f) ∙ sym bytes_are) (back []) in
-      let are : AreQuicFrames frames (f ∷ []) = ([], one, refl) in
-      handed_out_follows side own (length id) config s t (header_bytes id number ++ (frames ++ tag)) p.sent p p.stands.out
-      (λ run has. subst (λ (z : List Run). In run z) (append-nil p.sent) (subst (λ (o : Option Run). In run (p.sent ++ (some_run o ++ []))) silent
-      (handed (length id) number side p.sent t id frames tag (f ∷ []) refl tag_is are p.is_sent run has)))
-      (λ stream code size has. elim (frame_there (length id) number side id frames tag (f ∷ []) (reset_frame stream code size) refl tag_is are has) [
-        | inl same ↦ absurd (both_ways (has_reset_type f) no_reset (ap has_reset_type same))
-        | inr none ↦ absurd none
-      ])
+      silent_goes s number (f ∷ []) frames tag t ([], one, refl)
+      (λ q is. elim is [ inl same ↦ subst (λ (q : QuicFrame). stream_of q ≡ None) same silent | inr none ↦ absurd none ])
+      (λ q is. elim is [ inl same ↦ subst (λ (q : QuicFrame). has_reset_type q ≡ false) same no_reset | inr none ↦ absurd none ])
+      tag_is p
 
 -- ---- the connection
 
@@ -291,6 +300,17 @@ module _ {S : Type 0} where
       let before = subst (λ (s : DataSpace). FollowsOf old.side (length old.local_id) (length old.remote_id) old.config s t) (sym is) (space_follows old t p) in
       carried_on old new (t ++ HandedOut (datagram_of sealed old frames) ∷ []) new.space (rw e (same_end refl refl refl refl)) (inr refl)
       (packet_goes old.side (length old.local_id) old.remote_id old.config now.0 (overhead old) (1200 - overhead old) old.space new.space old.space.next_number frames tag t m tag_is before)
+  frames_go sealed now old new frames t (control up m e) tag_is back c p =
+      let is : old.space ≡ p.space = elim p.is_space [ inl failed ↦ none_some _ old.error Memory (c.not_lost up) failed | inr same ↦ same ] in
+      let tag = sealed old.side Data old.space.next_number in
+      let u = t ++ HandedOut (datagram_of sealed old frames) ∷ [] in
+      let before = subst (λ (s : DataSpace). FollowsOf old.side (length old.local_id) (length old.remote_id) old.config s t) (sym is) (space_follows old t p) in
+      let fs = control_frames old.side frames m.control in
+      let after = silent_goes old.side (length old.local_id) old.remote_id old.config old.space old.space.next_number fs.frames frames tag t fs.are
+      (of_each (λ (q : QuicFrame). stream_of q ≡ None) old.side frames fs control_silent) (of_each (λ (q : QuicFrame). has_reset_type q ≡ false) old.side frames fs control_resets_nothing) tag_is before in
+      let rest = bare_rest _ _ old.space new.space m.sent in
+      carried_on old new u new.space (rw e (same_end refl refl refl refl)) (inr refl)
+      (same_streams old.side (length old.local_id) (length old.remote_id) old.config old.space new.space u rest.streams rest.dedup after)
   frames_go sealed now old new frames t (close reason until is bytes_are e) tag_is back c p =
       let tag = sealed old.side Data old.space.next_number in
       let after = frame_goes old.side (length old.local_id) old.remote_id old.config p.space old.space.next_number (close_frame reason) frames tag t bytes_are (back reason until is) (close_silent reason) (close_resets_nothing reason) tag_is (space_follows old t p) in
@@ -304,6 +324,7 @@ module _ {S : Type 0} where
 
   frames_end : (now : Moment) (old new : Inner S) (before frames : List ℕ) → AreFramesMade now old new before frames → IsSameEnd old new
   frames_end now old new before frames (packet up m e) = rw e (same_end refl refl refl refl)
+  frames_end now old new before frames (control up m e) = rw e (same_end refl refl refl refl)
   frames_end now old new before frames (close reason until is bytes_are e) = rw e (same_end refl refl refl refl)
 
   pub made_follows : (sealed : Side → Space → ℕ → List ℕ) (now : Moment) (old new : Inner S) (before after : List ℕ) (transmit : Transmit) (t : List Act) → IsDatagramMade sealed now old new before after transmit

@@ -1,6 +1,9 @@
 pub mod AcksTaken
 pub mod Acts
 pub mod CloseFrames
+pub mod ControlFrames
+pub mod Controlled
+pub mod ControlMade
 pub mod DatagramMade
 pub mod DatagramsCome
 pub mod DatagramsGo

@@ -1,21 +1,24 @@
 -- Each call of a connection that isn't a call on streams is a call of `IsMade`.
-use Rattle.std.proofs.Common.{◌≡◌, ℕ, Bool, true, false, List, [], ◌∷◌, ◌++◌, Option, Some, None, Result, Ok, Err, OnOk, OnErr, IfOk, IfSome, MatchBool, refl, sym, ap, subst, ◌∙◌}
-use Rattle.std.proofs.lemmas.Bool.{cases_Bool}
+use Rattle.std.proofs.Common.{◌≡◌, ℕ, Bool, true, false, List, [], Option, Some, None, Result, Ok, Err, OnOk, OnErr, IfOk, IfSome, MatchBool, refl, ap, ◌∙◌}
 use Rattle.qh_base.specs.declared.connection_error.ConnectionError.{ConnectionError}
 use Rattle.qh_base.specs.declared.connection_error.ConnectionError.TheVariants.{LocallyClosed, TransportError as Fault}
 use Rattle.qh_base.specs.declared.memory.Memory.{Memory as OutOfMemory}
 use Rattle.qh_base.specs.declared.path.Transmit.{Transmit}
 use Rattle.qh_base.specs.declared.time.Moment.{Moment}
+use Rattle.qh_core.proofs.ControlFrames.{open_reads_back}
 use Rattle.qh_core.proofs.MadeCalls.{Carries, CarriesAlone, alone}
 use Rattle.qh_core.specs.Event.{IsDrainedTold, IsPolledEvent}
-use Rattle.qh_core.specs.Follows.{Follows, event_acts, transmit_acts}
-use Rattle.qh_core.specs.Inner.{IsFailedBy, IsSameEnd, is_open, with_space, with_streams}
+use Rattle.qh_core.specs.Follows.{control_acts, event_acts, transmit_acts}
+use Rattle.qh_core.specs.Inner.{IsFailedBy, IsSameEnd, is_open}
 use Rattle.qh_core.specs.Made.{AcceptsTags, MakesTagsOf, GoesOn, IsMade, IsMadeLocally}
-use Rattle.qh_core.specs.Made.IsAnyCall.{handed_in, lost, handed_out, nothing_sent, unsent}
-use Rattle.qh_core.specs.Made.IsLocalCall.{timeout, closed, polled, endpoint_polled}
-use Rattle.qh_core.specs.Receiving.{GoesOnWith, IsClosedWith, IsDatagramTaken, IsEventTaken, IsFaulted, IsPacketHandled, IsWantingFor, handed_at, received}
-use Rattle.qh_core.specs.Sending.{AreFramesMade, ClosesReadBack, IsDatagramMade, NothingIsSent}
+use Rattle.qh_core.specs.Made.IsAnyCall.{handed_in, lost, handed_out, nothing_sent, unsent, local}
+use Rattle.qh_core.specs.Made.IsLocalCall.{timeout, closed, polled, endpoint_polled, on_streams}
+use Rattle.qh_core.specs.Made.IsStreamCall.{unchanged}
+use Rattle.qh_core.specs.Receiving.{GoesOnWith, IsClosedWith, IsDatagramTaken, IsEventTaken, IsPacketHandled, IsWantingFor, handed_at, received}
+use Rattle.qh_core.specs.Sending.{AreFramesMade, ClosesReadBack, IsControlKept, IsControlSent, IsDatagramMade, NothingIsSent}
 use Rattle.qh_core.specs.Timers.{IsKeptByTimers, IsTimedOut, IsUndisturbed}
+use Rattle.qh_core.specs.declared.control.ControlFrame.{ControlFrame}
+use Rattle.qh_core.specs.declared.control.ControlSent.{ControlSent}
 use Rattle.qh_core.specs.declared.event.ConnectionEvent.{ConnectionEvent}
 use Rattle.qh_core.specs.declared.event.ConnectionEvent.TheVariants.{Datagram, Close}
 use Rattle.qh_core.specs.declared.event.EndpointEvent.{EndpointEvent}
@@ -73,6 +76,7 @@ module _ {S : Type 0} where
 
   frames_stay : (now : Moment) (old new : Inner S) (before frames : List ℕ) → AreFramesMade now old new before frames → Stays old new
   frames_stay now old new before frames (AreFramesMade.packet _ _ is) = ap (λ (z : Inner S). z.session) is
+  frames_stay now old new before frames (AreFramesMade.control _ _ is) = ap (λ (z : Inner S). z.session) is
   frames_stay now old new before frames (AreFramesMade.close _ _ _ _ is) = ap (λ (z : Inner S). z.session) is
 
   timeout_stays : (now : ℕ) (old new : Inner S) → IsTimedOut now old new → Stays old new
@@ -116,6 +120,17 @@ module _ {S : Type 0} where
   transmit_made accepts sealed now before after (Ok None) old new some reads undisturbed denied failed carries same =
       (nothing_sent (denied refl).1, goes_on old new _ same (ap (λ (z : Inner S). z.session) (denied refl).1.0) carries)
   transmit_made accepts sealed now before after (Err _) old new some reads undisturbed denied failed carries same =
+      (unsent failed.1, goes_on old new _ same (failed_stays old new failed.1) carries)
+
+  pub control_made : (accepts : AcceptsTags S) (sealed : MakesTagsOf S) (now : Moment) (before after : List ℕ) (frames : List ControlFrame) (result : Result (Option ControlSent) OutOfMemory) (old new : Inner S)
+      → IfOk result (λ o. IfSome o (λ sent. IsControlSent (sealed old.session) now old new before after frames sent)) → OnOk result (IsUndisturbed now old new)
+      → IfOk result (λ o. o ≡ None → (after ≡ before) × (new ≡ old) × IsControlKept old frames) → OnErr result ((after ≡ before) × IsFailedBy old new)
+      → Carries old new (control_acts before after result) → IsSameEnd old new → IsMade accepts sealed old new (control_acts before after result)
+  control_made accepts sealed now before after frames (Ok (Some t)) old new some undisturbed denied failed carries same =
+      (handed_out now before after t.transmit some.made (open_reads_back old.state some.opened) undisturbed, goes_on old new _ same (frames_stay now old new _ _ some.made.bytes.made) carries)
+  control_made accepts sealed now before after frames (Ok None) old new some undisturbed denied failed carries same =
+      (local [] (on_streams [] (unchanged (denied refl).1)), goes_on old new _ same (ap (λ (z : Inner S). z.session) (denied refl).1) carries)
+  control_made accepts sealed now before after frames (Err _) old new some undisturbed denied failed carries same =
       (unsent failed.1, goes_on old new _ same (failed_stays old new failed.1) carries)
 
   pub timeout_made : (now : ℕ) (old new : Inner S) → IsTimedOut now old new → IsKeptByTimers now old new → CarriesAlone old new → IsSameEnd old new → IsMadeLocally old new []

@@ -1,17 +1,22 @@
 -- A packet that is made: it is out where it asks for an acknowledgement, and then none came of it.
 use Rattle.std.proofs.Common.{◌≡◌, ◌⊎◌, ℕ, zero, suc, ◌+◌, ◌-◌, nat_lt, nat_cmp, cond, Bool, true, false, List, [], ◌∷◌, ◌++◌, length, Option, Some, None, unwrap_or, refl, sym, ap, subst, ◌∙◌, inl, inr, arith}
+use Rattle.std.specs.List.{list_any}
 use Rattle.std.specs.Prelude.{MatchBool, slice_get}
 use Rattle.std.specs.BTreeMap.{is_at}
 use Rattle.std.proofs.lemmas.Bool.{both_ways, cases_Bool}
 use Rattle.std.proofs.lemmas.List.{append_cancel_left, length-append}
 use Rattle.qh_base.specs.declared.path.Transmit.{Transmit}
 use Rattle.qh_base.specs.declared.time.Moment.{Moment}
+use Rattle.qh_core.proofs.ControlFrames.{bare_next, bare_rest, bare_sent, control_frames, control_wants}
 use Rattle.qh_core.proofs.FramesMade.{AreFramesOf, frames_made}
 use Rattle.qh_core.specs.Inner.{is_open}
 use Rattle.qh_core.specs.Progress.{AreAllAcknowledged, HasAckOf, IsAwaiting, NumberedPacket, Progress}
+use Rattle.qh_core.specs.Control.{IsControlMade}
 use Rattle.qh_core.specs.Sending.{AreFramesMade, IsDatagramMade, overhead}
-use Rattle.qh_core.specs.Sending.AreFramesMade.{packet as packet_made, close as close_made}
+use Rattle.qh_core.specs.Sending.AreFramesMade.{packet as packet_made, control as control_made, close as close_made}
 use Rattle.qh_core.specs.declared.inner.Inner.{Inner}
+use Rattle.qh_buffers.specs.Ranges.{has}
+use Rattle.qh_packet.specs.Frames.{is_ack_eliciting}
 use Rattle.qh_packet.specs.Packet.{header_bytes}
 use Rattle.qh_recovery.specs.PendingAcks.{PlainPendingAcks}
 use Rattle.qh_recovery.specs.SentPackets.{packet_at}
@@ -82,6 +87,18 @@ out_behind now overhead room old new before after made =
     subst (λ (s : DataSpace). IsOutBehind old s made.packet (nat_lt (length made.out_mid) (length after))) (sym made.new_is)
     (kept_behind (may_elicit old) (room - (length made.out_mid - length before)) old made.mid made.out_mid after made.packet (nat_lt (length made.out_mid) (length after)) made.eliciting)
 
+-- a packet of the connection's own frames is out, where no ACK was due
+control_behind : (now overhead : ℕ) (side : Side) (old new : DataSpace) (bytes : List ℕ) (made : IsControlMade now overhead side old new bytes) → IsOutBehind old new made.sent.packet true
+control_behind now overhead side old new bytes made =
+    let b = made.sent in record {
+      next = bare_next _ _ old new b;
+      acks = (bare_rest _ _ old new b).acks ∙ ap (λ (x : Bool). let a : PlainPendingAcks = record old.acks { is_due = x } in a) made.quiet;
+      out = λ k q there. elim (last_or_before old.sent old.next_number k b.packet q (subst (λ (es : Packets). packet_at es k ≡ Some q) (bare_sent _ _ old new b) there)) [
+        | inl before ↦ inl before
+        | inr last ↦ inr (refl, last.0, last.1)
+      ];
+    }
+
 -- ---- what was sent, with one packet more
 
 ack_before : (packets : List NumberedPacket) (p : NumberedPacket) (n : ℕ) → HasAckOf packets n → HasAckOf (packets ++ p ∷ []) n
@@ -105,22 +122,48 @@ same_moment a b e = ap (λ (k : ℕ). let m : Moment = record { 0 = k } in m) e
 -- ---- the datagram
 
 module _ {S : Type 0} where
-  -- while the connection is open a packet was made
-  record IsMadeOpen (now : Moment) (old new : Inner S) (before frames : List ℕ) : Type 0 where
-    least : ℕ
-    room : ℕ
-    made : IsPacketMade now.0 least room old.space new.space before (before ++ frames)
+  -- While the connection is open a packet was made: of frames, of which one covers all that is to be acknowledged, where an ACK is due,
+  -- and which is out where they ask for an acknowledgement.
+  record IsMadeOpen (now : Moment) (old new : Inner S) (bytes : List ℕ) : Type 0 where
+    frames : List QuicFrame
+    are : AreQuicFrames bytes frames
+    acknowledge : old.space.acks.is_due ≡ true → (n : ℕ) → has old.space.acks.ranges n ≡ true → (f : QuicFrame) × In f frames × Covers f n
+    packet : SentPacket SentFrame
+    is_eliciting : Bool
+    ask : is_eliciting ≡ true → list_any is_ack_eliciting frames ≡ true
+    time_is : packet.time_sent.0 ≡ now.0
+    behind : IsOutBehind old.space new.space packet is_eliciting
 
-  made_open : (now : Moment) (old new : Inner S) (before frames : List ℕ) → AreFramesMade now old new before frames → is_open old.state ≡ true → IsMadeOpen now old new before frames
-  made_open now old new before frames (packet_made here made rest) here_open = record { least = overhead old; room = 1200 - overhead old; made = made }
-  made_open now old new before frames (close_made reason until is bytes rest) here_open = absurd (both_ways (is_open old.state) (ap is_open is) here_open)
+  made_open : (now : Moment) (old new : Inner S) (before bytes : List ℕ) → AreFramesMade now old new before bytes → is_open old.state ≡ true → IsMadeOpen now old new bytes
+  made_open now old new before bytes (packet_made here made rest) here_open =
+      let f : AreFramesOf old.space.acks before made.out_mid (before ++ bytes) = frames_made _ _ _ old.space new.space before (before ++ bytes) made in
+      record {
+        frames = f.frames;
+        are = subst (λ (z : List ℕ). AreQuicFrames z f.frames) (sym (append_cancel_left before bytes f.bytes f.appended)) f.are;
+        acknowledge = f.acknowledge;
+        packet = made.packet;
+        is_eliciting = nat_lt (length made.out_mid) (length (before ++ bytes));
+        ask = f.ask;
+        time_is = made.time_is;
+        behind = out_behind _ _ _ old.space new.space before (before ++ bytes) made;
+      }
+  made_open now old new before bytes (control_made here made rest) here_open =
+      let f = control_frames old.side bytes made.control in
+      record {
+        frames = f.frames;
+        are = f.are;
+        acknowledge = λ due n there. absurd (both_ways old.space.acks.is_due made.quiet due);
+        packet = made.sent.packet;
+        is_eliciting = true;
+        ask = λ _. control_wants old.side bytes f;
+        time_is = made.sent.time_is;
+        behind = control_behind _ _ old.side old.space new.space bytes made;
+      }
+  made_open now old new before bytes (close_made reason until is are rest) here_open = absurd (both_ways (is_open old.state) (ap is_open is) here_open)
 
-  module _ (now : Moment) (old new : Inner S) (before frames : List ℕ) (sent accepted : List NumberedPacket) (m : IsMadeOpen now old new before frames) (p : Progress old sent accepted) where
-    f : AreFramesOf old.space.acks before m.made.out_mid (before ++ frames)
-    f = frames_made now.0 m.least m.room old.space new.space before (before ++ frames) m.made
-
-    b : IsOutBehind old.space new.space m.made.packet (nat_lt (length m.made.out_mid) (length (before ++ frames)))
-    b = out_behind now.0 m.least m.room old.space new.space before (before ++ frames) m.made
+  module _ (now : Moment) (old new : Inner S) (bytes : List ℕ) (sent accepted : List NumberedPacket) (f : IsMadeOpen now old new bytes) (p : Progress old sent accepted) where
+    b : IsOutBehind old.space new.space f.packet f.is_eliciting
+    b = f.behind
 
     abbrev made_packet : NumberedPacket
     made_packet = record { number = old.space.next_number; at = now; frames = f.frames }
@@ -144,7 +187,7 @@ module _ {S : Type 0} where
         packet = made_packet;
         among = in_last made_packet sent;
         number_is = last.1;
-        at_is = same_moment now q.time_sent (sym m.made.time_is ∙ ap (λ (s : SentPacket SentFrame). s.time_sent.0) last.2);
+        at_is = same_moment now q.time_sent (sym f.time_is ∙ ap (λ (s : SentPacket SentFrame). s.time_sent.0) last.2);
         wants = f.ask last.0;
         unacknowledged = λ h. let below = p.acks_below n h in omega (arith, below, last.1, p.next);
       }
@@ -166,12 +209,9 @@ module _ {S : Type 0} where
       apart = rw (b.acks) p.apart;
     }
 
-    same_bytes : f.bytes ≡ frames
-    same_bytes = sym (append_cancel_left before frames f.bytes f.appended)
-
-    packet_progress : (fs : List QuicFrame) × AreQuicFrames frames fs × Progress new (sent ++ record { number = old.space.next_number; at = now; frames = fs } ∷ []) accepted
+    packet_progress : (fs : List QuicFrame) × AreQuicFrames bytes fs × Progress new (sent ++ record { number = old.space.next_number; at = now; frames = fs } ∷ []) accepted
         × AreAllAcknowledged (sent ++ record { number = old.space.next_number; at = now; frames = fs } ∷ []) accepted
-    packet_progress = (f.frames, subst (λ (z : List ℕ). AreQuicFrames z f.frames) same_bytes f.are, made_progress, acknowledged)
+    packet_progress = (f.frames, f.are, made_progress, acknowledged)
 
   pub datagram_made : (sealed : Side → Space → ℕ → List ℕ) (now : Moment) (old new : Inner S) (before after : List ℕ) (transmit : Transmit) (sent accepted : List NumberedPacket)
       (made : IsDatagramMade sealed now old new before after transmit) → is_open old.state ≡ true → Progress old sent accepted
@@ -179,4 +219,4 @@ module _ {S : Type 0} where
       × AreAllAcknowledged (sent ++ record { number = old.space.next_number; at = now; frames = fs } ∷ []) accepted
   datagram_made sealed now old new before after transmit sent accepted made here_open p =
       let header = header_bytes old.remote_id old.space.next_number in
-      packet_progress now old new header made.bytes.frames sent accepted (made_open now old new header made.bytes.frames made.bytes.made here_open) p
+      packet_progress now old new made.bytes.frames sent accepted (made_open now old new header made.bytes.frames made.bytes.made here_open) p

@@ -9,19 +9,23 @@ use Rattle.qh_base.specs.declared.memory.Memory.{Memory as OutOfMemory}
 use Rattle.qh_base.specs.declared.path.Transmit.{Transmit}
 use Rattle.qh_base.specs.declared.time.Moment.{Moment}
 use Rattle.qh_base.specs.declared.transport_error.TransportError.{TransportError}
+use Rattle.qh_core.proofs.ControlFrames.{bare_rest}
+use Rattle.qh_core.proofs.Controlled.{IsControlled}
 use Rattle.qh_core.proofs.Ends.{ended_with, not_for_time}
 use Rattle.qh_core.proofs.OwnCounts.{made_counts, packet_counts, polled_counts, recovered_counts}
 use Rattle.qh_core.proofs.Transmitted.{IsTransmitted}
 use Rattle.qh_core.specs.Event.{IsPolledEvent}
 use Rattle.qh_core.specs.Event.IsPolledEvent.{stream, lost, none as nothing}
-use Rattle.qh_core.specs.Inner.{HaveSameCounts, with_space, with_streams}
+use Rattle.qh_core.specs.Inner.{HaveSameCounts, with_streams}
 use Rattle.qh_core.specs.Receiving.{GoesOnWith, IsDatagramTaken, IsFaulted, IsPacketHandled, IsPacketTaken, handed_at}
 use Rattle.qh_core.specs.Receiving.IsDatagramTaken.{dropped, handled, told_again, closed_too, draining, drained}
 use Rattle.qh_core.specs.Receiving.IsPacketHandled.{repeated, empty, faulty, unnoted, taken}
 use Rattle.qh_core.specs.Sending.{AreFramesMade}
-use Rattle.qh_core.specs.Sending.AreFramesMade.{packet, close}
+use Rattle.qh_core.specs.Sending.AreFramesMade.{packet, control, close}
 use Rattle.qh_core.specs.Timers.{IsKeptByTimers, IsTimedOut, IsUndisturbed, RunsOn, restarted, sent_at}
 use Rattle.qh_core.specs.Timers.IsTimedOut.{idle, recovery, closed, draining as draining_over, waits, drained as drained_still}
+use Rattle.qh_core.specs.declared.control.ControlFrame.{ControlFrame}
+use Rattle.qh_core.specs.declared.control.ControlSent.{ControlSent}
 use Rattle.qh_core.specs.declared.event.ConnectionEvent.{ConnectionEvent}
 use Rattle.qh_core.specs.declared.event.ConnectionEvent.TheVariants.{Datagram}
 use Rattle.qh_core.specs.declared.event.Event.{Event}
@@ -112,6 +116,13 @@ module _ {S : Type 0} where
         idle = subst (λ (t : IdleTimer). RunsOn now old.idle t) (sym (ap (λ (c : Inner S). c.idle) e)) (maybe_sent now (nat_lt (length old.space.sent) (length new.space.sent)) old.idle);
         timed_out = λ is. sym error ∙ is;
       }
+  frames_undisturbed now old new before frames (control up made e) =
+      let error = ap (λ (c : Inner S). c.error) e in
+      record {
+        counts = subst (λ (s : PlainStreams). HaveSameCounts old.space.streams s) (sym (bare_rest _ _ old.space new.space made.sent).streams) (same_streams old.space.streams);
+        idle = subst (λ (t : IdleTimer). RunsOn now old.idle t) (sym (ap (λ (c : Inner S). c.idle) e)) (maybe_sent now (nat_lt (length old.space.sent) (length new.space.sent)) old.idle);
+        timed_out = λ is. sym error ∙ is;
+      }
   frames_undisturbed now old new before frames (close reason until is bytes e) = rw e (record { counts = same_streams old.space.streams; idle = same_idle now old.idle; timed_out = λ is. is })
 
   pub transmitted_undisturbed : (sealed : Side → Space → ℕ → List ℕ) (now : Moment) (old new : Inner S) (before after : List ℕ) (answer : Result (Option Transmit) OutOfMemory)
@@ -119,6 +130,12 @@ module _ {S : Type 0} where
   transmitted_undisturbed sealed now old new before after (Ok (Some transmit)) a = frames_undisturbed now old new _ _ a.some.bytes.made
   transmitted_undisturbed sealed now old new before after (Ok None) a = same_undisturbed now old new ((a.none refl).1).0
   transmitted_undisturbed sealed now old new before after (Err e) a = tt
+
+  pub controlled_undisturbed : (sealed : Side → Space → ℕ → List ℕ) (now : Moment) (old new : Inner S) (before after : List ℕ) (frames : List ControlFrame) (answer : Result (Option ControlSent) OutOfMemory)
+      → IsControlled sealed now old new before after frames answer → OnOk answer (IsUndisturbed now old new)
+  controlled_undisturbed sealed now old new before after frames (Ok (Some sent)) a = frames_undisturbed now old new _ _ a.some.made.bytes.made
+  controlled_undisturbed sealed now old new before after frames (Ok None) a = same_undisturbed now old new (a.none refl).1
+  controlled_undisturbed sealed now old new before after frames (Err e) a = tt
 
   -- ---- what is due
 

@@ -4,6 +4,7 @@ use Rattle.std.specs.Prelude.{map}
 use Rattle.qh_base.specs.declared.connection_error.ConnectionError.{ConnectionError}
 use Rattle.qh_base.specs.declared.path.Transmit.{Transmit}
 use Rattle.qh_base.specs.declared.time.Moment.{Moment}
+use Rattle.qh_core.proofs.ControlFrames.{bare_rest}
 use Rattle.qh_core.proofs.FramesRead.{frames_read}
 use Rattle.qh_core.proofs.Ends.{goes_on_open, goes_on_space}
 use Rattle.qh_core.specs.Inner.{is_open}
@@ -12,7 +13,7 @@ use Rattle.qh_core.specs.Receiving.AreFramesTaken.{none as none_taken, more as m
 use Rattle.qh_core.specs.Receiving.IsDatagramTaken.{dropped, handled, told_again, closed_too, draining as in_draining, drained as in_drained}
 use Rattle.qh_core.specs.Receiving.IsPacketHandled.{repeated, empty, faulty, unnoted, taken as in_taken}
 use Rattle.qh_core.specs.Sending.{AreFramesMade, IsDatagramMade, NothingIsSent}
-use Rattle.qh_core.specs.Sending.AreFramesMade.{packet as packet_made, close as close_made}
+use Rattle.qh_core.specs.Sending.AreFramesMade.{packet as packet_made, control as control_made, close as close_made}
 use Rattle.qh_core.specs.Timers.{AreLostByAge, IsProbed, IsTimedOut}
 use Rattle.qh_core.specs.Timers.AreLostByAge.{due as some_lost, not_yet as no_loss}
 use Rattle.qh_core.specs.Timers.IsProbed.{due as some_probe, not_yet as no_probe}
@@ -30,7 +31,6 @@ use Rattle.qh_spec.specs.QuicFrames.{QuicFrame, AreQuicFrames}
 use Rattle.qh_spec.specs.declared.sides.Side.{Side}
 use Rattle.qh_spec.specs.declared.sides.Space.{Space}
 use Rattle.qh_streams.specs.Streams.{PlainStreams}
-use Rattle.qh_transcript.proofs.WaitingFrames.{kept_keeps}
 use Rattle.qh_transcript.specs.Sending.{some_run, runs_of}
 use Rattle.qh_transcript.specs.Waiting.{KeepsWhatCame}
 
@@ -115,6 +115,7 @@ module _ {S : Type 0} where
   made_keeps sealed now old new before after transmit came made = kept _ _ made.bytes.made where
     kept : (first frames : List ℕ) → AreFramesMade now old new first frames → KeepsWhatCame old.space.streams came → KeepsWhatCame new.space.streams came
     kept first frames (packet_made opened packet is) = space.made _ _ _ old.space new.space _ _ came packet
+    kept first frames (control_made opened packet is) = same_keeps old.space.streams new.space.streams came (bare_rest _ _ old.space new.space packet.sent).streams
     kept first frames (close_made reason until closed are is) = streams_keep old new _ came is refl
 
   pub none_keeps : (old new : Inner S) (came : List Run) → NothingIsSent old new → KeepsWhatCame old.space.streams came → KeepsWhatCame new.space.streams came

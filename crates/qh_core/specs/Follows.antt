@@ -7,6 +7,7 @@ use Rattle.qh_base.specs.declared.path.Transmit.{Transmit}
 use Rattle.qh_buffers.specs.declared.assembler.Chunk.{Chunk}
 use Rattle.qh_core.specs.Inner.{AreOf}
 use Rattle.qh_core.specs.declared.config.ConnConfig.{ConnConfig}
+use Rattle.qh_core.specs.declared.control.ControlSent.{ControlSent}
 use Rattle.qh_core.specs.declared.fault.TakeFault.{TakeFault}
 use Rattle.qh_core.specs.declared.fault.TakeFault.TheVariants.{Readable, Read}
 use Rattle.qh_core.specs.declared.event.ConnectionEvent.{ConnectionEvent}
@@ -49,6 +50,12 @@ abbrev pub transmit_acts : List ℕ → List ℕ → Result (Option Transmit) Ou
 transmit_acts before after (Ok (Some transmit)) = HandedOut (drop (length before) after) ∷ []
 transmit_acts before after (Ok None) = []
 transmit_acts before after (Err e) = []
+
+-- what transmit_control adds where it answers so, likewise
+abbrev pub control_acts : List ℕ → List ℕ → Result (Option ControlSent) OutOfMemory → List Act
+control_acts before after (Ok (Some sent)) = HandedOut (drop (length before) after) ∷ []
+control_acts before after (Ok None) = []
+control_acts before after (Err e) = []
 
 abbrev pub write_acts : (stream : ℕ) → (bytes : List ℕ) → Result ℕ WriteFault → List Act
 write_acts stream bytes (Ok count) = Wrote stream (take count bytes) ∷ []

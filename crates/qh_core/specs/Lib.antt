@@ -1,4 +1,5 @@
 pub mod Config
+pub mod Control
 pub mod Event
 pub mod Follows
 pub mod Inner

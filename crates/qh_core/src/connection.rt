@@ -1,23 +1,26 @@
 ghost use Rattle.std.specs.Prelude.{◌≡◌, ◌↔◌, ◌++◌, [], ℕ, List, true, false, not, None, is_some, OnOk, OnErr, IfOk, IfSome, MatchOption};
 ghost use Rattle.qh_base.specs.declared.connection_error.ConnectionError.TheVariants.{LocallyClosed};
 ghost use Rattle.qh_core.specs.Event.{IsDrainedTold, IsPolledEvent, is_drained};
-ghost use Rattle.qh_core.specs.Follows.{Follows, event_acts, transmit_acts};
+ghost use Rattle.std.specs.List.{AllByRecursion};
+ghost use Rattle.qh_core.specs.Control.{MaySend};
+ghost use Rattle.qh_core.specs.Follows.{Follows, control_acts, event_acts, transmit_acts};
 ghost use Rattle.qh_core.specs.Inner.{HaveSameCounts, IsFailedBy, IsNewSpace, IsSameEnd, fresh_stats, is_client, is_open};
 ghost use Rattle.qh_core.specs.Receiving.{IsClosedWith, IsEventTaken, IsWantingFor, handed_at, received};
-ghost use Rattle.qh_core.specs.Sending.{ClosesReadBack, IsDatagramMade, NothingIsSent};
+ghost use Rattle.qh_core.specs.Sending.{BearsNoControl, ClosesReadBack, IsControlKept, IsControlSent, IsDatagramMade, MaySendControl, NothingIsSent};
 ghost use Rattle.qh_core.specs.Timers.{IsDueAt, IsFirstDue, IsKeptByTimers, IsTimedOut, IsUndisturbed};
 ghost use Rattle.qh_core.specs.declared.state.Close.TheVariants.{Application};
 ghost use Rattle.qh_core.specs.declared.state.State.TheVariants.{Established};
 ghost use Rattle.qh_loss.specs.Owed.{AreOwed};
 ghost use Rattle.qh_recovery.specs.Rtt.{rtt_of};
-ghost use Rattle.qh_recovery.specs.SentPackets.{IsNext};
+ghost use Rattle.qh_recovery.specs.SentPackets.{IsNext, packet_at};
 ghost use Rattle.qh_spec.specs.Transcript.{Act};
 
 mod streams;
 
 use crate::inner::Parts;
 use crate::{
-    ConnConfig, ConnectionEvent, ConnectionStats, EndpointEvent, Event, Inner, Session, State,
+    ConnConfig, ConnectionEvent, ConnectionStats, ControlFrame, ControlSent, EndpointEvent, Event,
+    Inner, Session, State,
 };
 use qh_base::{
     ConnectionError, ConnectionId, FourTuple, Memory, Moment, Reason, Side, Span, Transmit, VarInt,
@@ -133,6 +136,7 @@ impl<S: Session> Connection<S> {
         buf: &mut Vec<u8>,
     ) -> Result<Option<Transmit>, Memory>
         ensures some { IfOk result (λ o. IfSome o (λ t. IsDatagramMade (S.sealed self.old.session) now self.old self.new buf.old.items buf.new.items t)) }
+        ensures no_control { IfOk result (λ o. IfSome o (λ t. BearsNoControl (S.sealed self.old.session) now self.old self.new buf.old.items buf.new.items)) }
         ensures read_back { IfOk result (λ o. IfSome o (λ t. ClosesReadBack self.old.state)) }
         ensures none { IfOk result (λ o. o ≡ None → (buf.new.items ≡ buf.old.items) × NothingIsSent self.old self.new) }
         ensures err { OnErr result ((buf.new.items ≡ buf.old.items) × IsFailedBy self.old self.new) }
@@ -141,6 +145,29 @@ impl<S: Session> Connection<S> {
         ensures same_end { IsSameEnd self.old self.new }
     {
         self.inner.poll_transmit(self.alloc, now, buf)
+    }
+
+    /// Appends the next datagram, of as many of these frames as it has room for, from the first on, and nothing else. None exactly where
+    /// the connection isn't open, no packet number is left, an ACK is due, which `poll_transmit` sends first, the window permits no
+    /// datagram and no probe is due, no frame is handed in, or not even the first one has room. The frames aren't kept here: whoever
+    /// hands them in sees by `is_out` when their packet is out no more, and by the ACK frames that came whether it was acknowledged.
+    /// Want of memory, only where a datagram may be made, leaves the buffer as it was and ends the connection.
+    pub fn transmit_control(
+        &mut self,
+        now: Moment,
+        frames: &[ControlFrame],
+        buf: &mut Vec<u8>,
+    ) -> Result<Option<ControlSent>, Memory>
+        requires { AllByRecursion (MaySend self.old.side) frames.now }
+        ensures some { IfOk result (λ o. IfSome o (λ sent. IsControlSent (S.sealed self.old.session) now self.old self.new buf.old.items buf.new.items frames.now sent)) }
+        ensures none { IfOk result (λ o. o ≡ None → (buf.new.items ≡ buf.old.items) × (self.new ≡ self.old) × IsControlKept self.old frames.now) }
+        ensures err { OnErr result ((buf.new.items ≡ buf.old.items) × IsFailedBy self.old self.new) }
+        ensures wanting { OnErr result (MaySendControl self.old) }
+        ensures follows { (t : List Act) → Follows self.old t → Follows self.new (t ++ control_acts buf.old.items buf.new.items result) }
+        ensures undisturbed { OnOk result (IsUndisturbed now self.old self.new) }
+        ensures same_end { IsSameEnd self.old self.new }
+    {
+        self.inner.transmit_control(self.alloc, now, frames, buf)
     }
 }
 
@@ -222,6 +249,14 @@ impl<S> Connection<S> {
         ensures closed { is_open self.now.state ≡ false → is_some self.now.error ≡ true }
     {
         let _ = &self.alloc;
+    }
+
+    /// Whether the packet with this number is out: it was sent, bore more than an ACK, and is neither acknowledged nor lost. Which of the
+    /// two a packet is that is out no more isn't told here.
+    pub fn is_out(&self, number: u64) -> bool
+        ensures { result ≡ is_some (packet_at self.now.space.sent number) }
+    {
+        self.inner.space.sent.get(number).is_some()
     }
 
     /// The session that makes and opens its tags.

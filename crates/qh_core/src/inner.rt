@@ -7,6 +7,7 @@ ghost use Rattle.qh_recovery.specs.Accepted.{Remembers};
 ghost use Rattle.qh_space.specs.Space.{AreUnused};
 
 mod closing;
+mod controlling;
 mod events;
 mod receiving;
 mod sending;

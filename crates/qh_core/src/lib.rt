@@ -6,6 +6,7 @@
 
 mod config;
 mod connection;
+mod control;
 mod event;
 mod fault;
 mod idle;
@@ -18,6 +19,7 @@ mod waiting;
 
 pub use config::{ConnConfig, first_limits};
 pub use connection::Connection;
+pub use control::{ControlFrame, ControlSent};
 pub use event::{ConnectionEvent, EndpointEvent, Event};
 pub use fault::TakeFault;
 pub use idle::IdleTimer;

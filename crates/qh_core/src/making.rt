@@ -7,13 +7,15 @@ ghost use Rattle.qh_base.specs.declared.stream_id.StreamId.{StreamId as AStreamI
 ghost use Rattle.qh_base.specs.declared.time.Moment.{Moment as AMoment};
 ghost use Rattle.qh_buffers.specs.declared.assembler.Chunk.{Chunk as AChunk};
 ghost use Rattle.qh_core.specs.Event.{IsDrainedTold, IsPolledEvent};
-ghost use Rattle.qh_core.specs.Follows.{Follows, event_acts, transmit_acts, write_acts, write_chunks_acts, finish_acts, reset_by_acts, stop_acts, take_acts, received_reset_acts};
+ghost use Rattle.qh_core.specs.Follows.{Follows, control_acts, event_acts, transmit_acts, write_acts, write_chunks_acts, finish_acts, reset_by_acts, stop_acts, take_acts, received_reset_acts};
 ghost use Rattle.qh_core.specs.Inner.{IsFailedBy, IsSameEnd, is_open, with_streams};
 ghost use Rattle.qh_core.specs.Made.{AcceptsTags, MakesTagsOf, IsMade, IsMadeLocally, IsMadeOnStreams, AreMade, AreMadeLocally, AreMadeOnStreams};
 ghost use Rattle.qh_core.specs.Receiving.{IsClosedWith, IsEventTaken, IsWantingFor, handed_at, received};
-ghost use Rattle.qh_core.specs.Sending.{ClosesReadBack, IsDatagramMade, NothingIsSent};
+ghost use Rattle.qh_core.specs.Sending.{ClosesReadBack, IsControlKept, IsControlSent, IsDatagramMade, NothingIsSent};
 ghost use Rattle.qh_core.specs.Streams.{IsRead, IsReadFault, IsWriteRefused};
 ghost use Rattle.qh_core.specs.Timers.{IsKeptByTimers, IsTimedOut, IsUndisturbed};
+ghost use Rattle.qh_core.specs.declared.control.ControlFrame.{ControlFrame as AControlFrame};
+ghost use Rattle.qh_core.specs.declared.control.ControlSent.{ControlSent as AControlSent};
 ghost use Rattle.qh_core.specs.declared.event.ConnectionEvent.{ConnectionEvent as AnEvent};
 ghost use Rattle.qh_core.specs.declared.event.EndpointEvent.{EndpointEvent as AnEndpointEvent};
 ghost use Rattle.qh_core.specs.declared.event.Event.{Event as ATold};
@@ -43,6 +45,10 @@ pub fn made<S>()
         → IfOk result (λ o. IfSome o (λ transmit. ClosesReadBack old.state)) → OnOk result (IsUndisturbed now old new)
         → IfOk result (λ o. o ≡ None → (after ≡ before) × NothingIsSent old new) → OnErr result ((after ≡ before) × IsFailedBy old new)
         → ((t : List Act) → Follows old t → Follows new (t ++ transmit_acts before after result)) → IsSameEnd old new → IsMade accepts sealed old new (transmit_acts before after result) }
+    ensures control { (accepts : AcceptsTags S) (sealed : MakesTagsOf S) (now : AMoment) (before after : List ℕ) (frames : List AControlFrame) (result : Result (Option AControlSent) OutOfMemory) (old new : AnInner S)
+        → IfOk result (λ o. IfSome o (λ sent. IsControlSent (sealed old.session) now old new before after frames sent)) → OnOk result (IsUndisturbed now old new)
+        → IfOk result (λ o. o ≡ None → (after ≡ before) × (new ≡ old) × IsControlKept old frames) → OnErr result ((after ≡ before) × IsFailedBy old new)
+        → ((t : List Act) → Follows old t → Follows new (t ++ control_acts before after result)) → IsSameEnd old new → IsMade accepts sealed old new (control_acts before after result) }
     ensures timeout { (now : ℕ) (old new : AnInner S) → IsTimedOut now old new → IsKeptByTimers now old new
         → ((t : List Act) → Follows old t → Follows new t) → IsSameEnd old new → IsMadeLocally old new [] }
     ensures close { (now : AMoment) (code : ℕ) (reason : List ℕ) (old new : AnInner S)

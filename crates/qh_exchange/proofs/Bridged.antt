@@ -43,7 +43,7 @@ module _ (faithful : IsFaithful) where
   end_lawful w side k config None events t at = subst (λ (z : List Act). Lawful side k k z) (sym at.stands) (nothing_lawful side k k)
   end_lawful w side k config (Some c) events t at =
       let is = at.stands.0 in
-      let law : Lawful c.side (length c.local_id) (length c.remote_id) t = faithful c t at.stands.1.follows in
+      let law : Lawful c.side (length c.local_id) (length c.remote_id) t = faithful c t at.stands.1.behaves.follows in
       subst (λ (s : Side). Lawful s k k t) is.side_is
       (subst (λ (n : ℕ). Lawful c.side n k t) is.local (subst (λ (n : ℕ). Lawful c.side (length c.local_id) n t) is.remote law))
 

@@ -3,7 +3,6 @@ use Rattle.std.proofs.Common.{◌≡◌, ◌⊎◌, inl, inr, ◌≤◌, Bool, t
 use Rattle.qh_base.specs.declared.connection_error.ConnectionError.{ConnectionError}
 use Rattle.qh_base.specs.declared.time.Moment.{Moment}
 use Rattle.qh_conduct.proofs.PeersOn.{same_peers}
-use Rattle.qh_conduct.specs.Behaves.{Behaves}
 use Rattle.qh_conduct.specs.Restarting.{IsCounting, IsSealed}
 use Rattle.qh_core.proofs.Ends.{ended_with}
 use Rattle.qh_core.specs.Inner.{IsSameEnd, is_open}
@@ -25,8 +24,9 @@ use Rattle.qh_spec.specs.declared.sides.Space.{Space}
 use Rattle.qh_spec.proofs.EventLaws.{given_to-append, sent_by-append, sent_one}
 use Rattle.qh_spec.proofs.Members.{in_left, in_right, in_split}
 use Rattle.qh_spec.proofs.TranscriptLaws.{handed_in-append, handed_out-append}
-use Rattle.qh_exchange.specs.Pair.{End, all, told_acts, wire}
+use Rattle.qh_exchange.specs.Pair.{End, IsMadeBy, all, told_acts, wire}
 use Rattle.qh_exchange.specs.Steps.{AreJoined, KeepsSound, StaysSound}
+use Rattle.qh_exchange.proofs.EndMade.{accords_on}
 use Rattle.qh_exchange.proofs.Wire.{handed_in-told, handed_in-wire, told_was_given}
 
 -- ---- the session
@@ -155,9 +155,9 @@ sound_given now side c d datagram same session lost opens restarts q tc tq whole
 
 -- ---- one step behind another
 
-joined_on : (now : Moment) (side : Side) (c d q : End) (tc tq acts : List Act) (more : List Event) → AreJoined c q tc tq → StaysSound now side c d tc more → Behaves d (tc ++ acts)
+joined_on : (now : Moment) (side : Side) (c d q : End) (tc tq acts : List Act) (more : List Event) → AreJoined c q tc tq → StaysSound now side c d tc more → IsMadeBy c d acts
     → wire acts ≡ told_acts side more → ((datagram : List ℕ) → In datagram (given_to side more) → In datagram (handed_out tq)) → AreJoined d q (tc ++ acts) tq
-joined_on now side c d q tc tq acts more j s behaves told given = record {
+joined_on now side c d q tc tq acts more j s made told given = record {
   peers = same_peers c q d q s.same_end (record { side = refl; local_id = refl; remote_id = refl; config = refl }) j.peers;
   key_is = j.key_is ∙ sym (ap (λ (z : PlainKeys). z.key_id) s.session_is);
   short = subst (λ (z : PlainKeys). length z.key_id ≤ 20) (sym s.session_is) j.short;
@@ -168,8 +168,8 @@ joined_on now side c d q tc tq acts more j s behaves told given = record {
     ];
     from = λ x i. subst (λ (z : List (List ℕ)). In x z) (sym (handed_out-append tc acts)) (in_left x (handed_out tc) (handed_out acts) (j.linked.from x i));
   };
-  behaves = behaves;
-  peer_behaves = j.peer_behaves;
+  accords = accords_on c d tc acts j.short made j.accords;
+  peer_accords = j.peer_accords;
   sealed = j.sealed;
   up = s.up;
   peer_open = j.peer_open;
@@ -213,11 +213,10 @@ stays_trans now side c d e tc acts x y a b runs told = record {
 }
 
 pub sound_trans : (now : Moment) (side : Side) (c d e : End) (x y : List Event) → Sounds true now side c d x → Sounds true now side d e y → IsSameEnd c d → RunsOn now d.idle e.idle
-    → ((t : List Act) → Behaves c t → (acts : List Act) × Behaves d (t ++ acts) × (wire acts ≡ told_acts side x)) → Sounds true now side c e (x ++ y)
-sound_trans now side c d e x y f g same runs does q tc tq whole is here joined given =
-    let acted : (acts : List Act) × Behaves d (tc ++ acts) × (wire acts ≡ told_acts side x) = does tc joined.behaves in
+    → (acts : List Act) → IsMadeBy c d acts → wire acts ≡ told_acts side x → Sounds true now side c e (x ++ y)
+sound_trans now side c d e x y f g same runs acts made told q tc tq whole is here joined given =
     let in_first = λ (z : List ℕ) (i : In z (given_to side x)). given z (subst (λ (l : List (List ℕ)). In z l) (sym (given_to-append side x y)) (in_left z (given_to side x) (given_to side y) i)) in
     let in_second = λ (z : List ℕ) (i : In z (given_to side y)). given z (subst (λ (l : List (List ℕ)). In z l) (sym (given_to-append side x y)) (in_right z (given_to side x) (given_to side y) i)) in
     let first : StaysSound now side c d tc x = f q tc tq whole is here joined in_first in
-    let second : StaysSound now side d e (tc ++ acted.0) y = g q (tc ++ acted.0) tq whole (same.side ∙ is) first.not_lost (joined_on now side c d q tc tq acted.0 x joined first acted.1 acted.2 in_first) in_second in
-    stays_trans now side c d e tc acted.0 x y first second runs acted.2
+    let second : StaysSound now side d e (tc ++ acts) y = g q (tc ++ acts) tq whole (same.side ∙ is) first.not_lost (joined_on now side c d q tc tq acts x joined first made told in_first) in_second in
+    stays_trans now side c d e tc acts x y first second runs told

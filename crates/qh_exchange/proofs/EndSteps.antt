@@ -1,11 +1,11 @@
 -- How an end goes on.
 use Rattle.std.proofs.Common.{◌≡◌, ◌⊎◌, inl, inr, Bool, true, false, List, [], ◌∷◌, ◌++◌, ℕ, Option, Some, None, refl, sym, ◌∙◌, ap, subst, append_assoc, append-nil}
-use Rattle.std.specs.Prelude.{◌||◌, length}
+use Rattle.std.specs.Prelude.{◌||◌}
 use Rattle.qh_base.specs.declared.time.Moment.{Moment}
-use Rattle.qh_conduct.specs.Behaves.{Behaves}
+use Rattle.qh_core.proofs.MadeTogether.{both_steps}
 use Rattle.qh_core.specs.Inner.{IsSameEnd, is_open}
+use Rattle.qh_core.specs.Made.AreSteps.{none}
 use Rattle.qh_core.specs.Timers.{IsUndisturbed, RunsOn}
-use Rattle.qh_core.specs.declared.config.ConnConfig.{ConnConfig}
 use Rattle.qh_core.specs.declared.idle.IdleTimer.{IdleTimer}
 use Rattle.qh_link.specs.Link.{fault_events}
 use Rattle.qh_link.specs.declared.link.LinkFault.{LinkFault}
@@ -18,8 +18,9 @@ use Rattle.qh_spec.specs.declared.link.Event.TheVariants.{Sent, Given}
 use Rattle.qh_spec.specs.declared.sides.Side.{Side}
 use Rattle.qh_spec.proofs.TranscriptLaws.{written-append, finished-append, pieces_read-append, ended-append}
 use Rattle.qh_exchange.specs.EndCalls.{IsHandedIn}
-use Rattle.qh_exchange.specs.Pair.{End, IsEndOf, IsToldIf, all, unhanded, unsent, told_acts}
+use Rattle.qh_exchange.specs.Pair.{End, IsMadeBy, IsToldIf, all, unhanded, unsent, told_acts}
 use Rattle.qh_exchange.specs.Steps.{EndStep, IsEndUndisturbed, IsQuiet, KeepsSound}
+use Rattle.qh_exchange.proofs.EndMade.{stands_on}
 use Rattle.qh_exchange.proofs.EndSounds.{Sounds, sound_failed, sound_kept, sound_trans, sound_ungiven}
 use Rattle.qh_exchange.proofs.Wire.{handed_in-told, handed_out-told, silent_fault, silent_given, silent_sent, told_acts-silent, told_given, told_if-append, told_sent, told_weaker}
 
@@ -96,11 +97,11 @@ end_undisturbed_trans false now c d e f (inr g) = inr g
 
 -- ---- steps
 
--- behind this transcript the end did quiet acts, of which the events tell
-pub record HasDone (is_whole : Bool) (side : Side) (d : End) (t : List Act) (more : List Event) : Type 0 where
+-- calls made the end the other, and did quiet acts, of which the events tell
+pub record HasDone (is_whole : Bool) (side : Side) (c d : End) (more : List Event) : Type 0 where
   pub acts : List Act
   pub quiet : IsQuiet acts
-  pub behaves : Behaves d (t ++ acts)
+  pub made : IsMadeBy c d acts
   pub told : IsToldIf is_whole side more acts
 
 -- an end that is there went on by what the link tells more
@@ -110,14 +111,9 @@ pub record EndWent (is_whole : Bool) (now : Moment) (side : Side) (c d : End) (b
   pub kind : Kind more
   pub silent : told_acts (other side) more ≡ []
   pub same : IsSameEnd c d
-  pub does : (t : List Act) → Behaves c t → HasDone is_whole side d t more
+  pub does : HasDone is_whole side c d more
   pub undisturbed : IsEndUndisturbed is_whole now (Some c) (Some d)
   pub sound : Sounds is_whole now side c d more
-
--- one end stays that end
-pub stays : (side : Side) (id_length : ℕ) (config : ConnConfig) (c d : End) → IsSameEnd c d → IsEndOf side id_length config c → IsEndOf side id_length config d
-stays side id_length config c d same e =
-    record { side_is = same.side ∙ e.side_is; local = ap length same.local_id ∙ e.local; remote = ap length same.remote_id ∙ e.remote; config_is = same.config ∙ e.config_is }
 
 pub end_step : (is_whole : Bool) (now : Moment) (side : Side) (c d : End) (t u : Option (List Event)) (K : List Event → Type 0) → (is_open c.state ≡ true → c.error ≡ None)
     → EndWent is_whole now side c d t u K → EndStep is_whole now side (Some c) (Some d) t u K
@@ -128,15 +124,15 @@ end_step is_whole now side c d t u K lost w =
       kind = w.kind;
       silent = w.silent;
       does = λ id_length config before s.
-          let h : HasDone is_whole side d before w.more = w.does before s.1 in
-          record { acts = h.acts; quiet = h.quiet; stands = (stays side id_length config c d w.same s.0, h.behaves); told = h.told };
+          let h : HasDone is_whole side c d w.more = w.does in
+          record { acts = h.acts; quiet = h.quiet; stands = stands_on side id_length config c d before h.acts h.made s; told = h.told };
       undisturbed = w.undisturbed;
       sound = sound_kept is_whole now side c d w.more lost w.sound;
     }
 
 sound_more : (is_whole : Bool) (now : Moment) (side : Side) (c d e : End) (x y : List Event) → Sounds true now side c d x → Sounds is_whole now side d e y → IsSameEnd c d
-    → IsEndUndisturbed is_whole now (Some d) (Some e) → ((t : List Act) → Behaves c t → HasDone true side d t x) → Sounds is_whole now side c e (x ++ y)
-sound_more true now side c d e x y f g same u does = sound_trans now side c d e x y f g same u.idle (λ t b. let h : HasDone true side d t x = does t b in (h.acts, h.behaves, h.told))
+    → IsEndUndisturbed is_whole now (Some d) (Some e) → HasDone true side c d x → Sounds is_whole now side c e (x ++ y)
+sound_more true now side c d e x y f g same u does = sound_trans now side c d e x y f g same u.idle does.acts does.made does.told
 sound_more false now side c d e x y f g same u does = sound_failed now side c e (x ++ y)
 
 -- one step after another, the first of them whole
@@ -149,13 +145,13 @@ end_trans is_whole now side a b c t u v K M N f g kinds =
       kind = kinds f.more g.more f.kind g.kind;
       silent = told_acts-silent (other side) f.more g.more g.silent ∙ f.silent;
       same = same_end_trans a b c f.same g.same;
-      does = λ acts s.
-          let x : HasDone true side b acts f.more = f.does acts s in
-          let y : HasDone is_whole side c (acts ++ x.acts) g.more = g.does (acts ++ x.acts) x.behaves in
+      does =
+          let x : HasDone true side a b f.more = f.does in
+          let y : HasDone is_whole side b c g.more = g.does in
           record {
             acts = x.acts ++ y.acts;
             quiet = quiet_more x.acts y.acts x.quiet y.quiet;
-            behaves = subst (λ (z : List Act). Behaves c z) (append_assoc acts x.acts y.acts) y.behaves;
+            made = both_steps _ a b c x.acts y.acts x.made y.made;
             told = told_if-append is_whole side f.more g.more x.acts y.acts x.told y.told;
           };
       undisturbed = end_undisturbed_trans is_whole now a b c f.undisturbed g.undisturbed;
@@ -187,10 +183,10 @@ end_idle is_whole now side c t u more K e kind mine silent =
       kind = kind;
       silent = silent;
       same = same_end_refl c;
-      does = λ acts s. record {
+      does = record {
         acts = [];
         quiet = quiet_nothing;
-        behaves = subst (λ (z : List Act). Behaves c z) (sym (append-nil acts)) s;
+        made = none;
         told = told_weaker is_whole side more [] (sym mine);
       };
       undisturbed = end_undisturbed_refl is_whole now c;
@@ -203,16 +199,16 @@ end_refl now side c t K kind = end_idle true now side c t t [] K (told_nothing t
 -- an end did these acts, of which these events tell
 end_did : (is_whole : Bool) (now : Moment) (side : Side) (c d : End) (t u : Option (List Event)) (more : List Event) (acts : List Act) (K : List Event → Type 0)
     → u ≡ told t more → K more → told_acts (other side) more ≡ [] → IsQuiet acts → IsToldIf is_whole side more acts → IsSameEnd c d
-    → IsEndUndisturbed is_whole now (Some c) (Some d) → ((before : List Act) → Behaves c before → Behaves d (before ++ acts)) → Sounds is_whole now side c d more
+    → IsEndUndisturbed is_whole now (Some c) (Some d) → IsMadeBy c d acts → Sounds is_whole now side c d more
     → EndWent is_whole now side c d t u K
-end_did is_whole now side c d t u more acts K e kind silent quiet tells same rest behaves sound =
+end_did is_whole now side c d t u more acts K e kind silent quiet tells same rest made sound =
     record {
       more = more;
       told_is = e;
       kind = kind;
       silent = silent;
       same = same;
-      does = λ before s. record { acts = acts; quiet = quiet; behaves = behaves before s; told = tells };
+      does = record { acts = acts; quiet = quiet; made = made; told = tells };
       undisturbed = rest;
       sound = sound;
     }
@@ -220,31 +216,26 @@ end_did is_whole now side c d t u more acts K e kind silent quiet tells same res
 -- the end was handed a datagram that it was given
 pub end_given : (now : Moment) (side : Side) (c d : End) (t u : Option (List Event)) (datagram : List ℕ) (K : List Event → Type 0)
     → u ≡ told t (Given side datagram ∷ []) → K (Given side datagram ∷ []) → IsSameEnd c d → IsEndUndisturbed true now (Some c) (Some d)
-    → ((acts : List Act) → Behaves c acts → IsHandedIn true datagram d acts) → KeepsSound true now side (Some c) (Some d) (Given side datagram ∷ []) → EndWent true now side c d t u K
-end_given now side c d t u datagram K e kind same rest behaves sound =
-    end_did true now side c d t u (Given side datagram ∷ []) (HandedIn datagram ∷ []) K e kind (silent_given side datagram) (quiet_in datagram) (sym (told_given side datagram)) same rest behaves
+    → IsHandedIn true datagram c d → KeepsSound true now side (Some c) (Some d) (Given side datagram ∷ []) → EndWent true now side c d t u K
+end_given now side c d t u datagram K e kind same rest made sound =
+    end_did true now side c d t u (Given side datagram ∷ []) (HandedIn datagram ∷ []) K e kind (silent_given side datagram) (quiet_in datagram) (sym (told_given side datagram)) same rest made
     (λ q tc tq whole is here joined given. sound c d q tc tq refl refl whole is joined given)
 
 -- or it may not have been, for want of memory
 pub end_ungiven : (now : Moment) (side : Side) (c d : End) (t u : Option (List Event)) (datagram : List ℕ) (K : List Event → Type 0)
     → u ≡ told t (Given side datagram ∷ []) → K (Given side datagram ∷ []) → IsSameEnd c d → IsEndUndisturbed false now (Some c) (Some d)
-    → ((acts : List Act) → Behaves c acts → IsHandedIn false datagram d acts) → EndWent false now side c d t u K
-end_ungiven now side c d t u datagram K e kind same rest behaves =
+    → IsHandedIn false datagram c d → EndWent false now side c d t u K
+end_ungiven now side c d t u datagram K e kind same rest made =
     record {
       more = Given side datagram ∷ [];
       told_is = e;
       kind = kind;
       silent = silent_given side datagram;
       same = same;
-      does = λ acts s.
-          elim (behaves acts s) as (λ _. HasDone false side d acts (Given side datagram ∷ [])) [
-            | inl f ↦ record {
-              acts = [];
-              quiet = quiet_nothing;
-              behaves = subst (λ (z : List Act). Behaves d z) (sym (append-nil acts)) f;
-              told = unhanded datagram (told_given side datagram);
-            }
-            | inr f ↦ record { acts = HandedIn datagram ∷ []; quiet = quiet_in datagram; behaves = f; told = all (sym (told_given side datagram)) }
+      does =
+          elim made as (λ _. HasDone false side c d (Given side datagram ∷ [])) [
+            | inl f ↦ record { acts = []; quiet = quiet_nothing; made = f; told = unhanded datagram (told_given side datagram) }
+            | inr f ↦ record { acts = HandedIn datagram ∷ []; quiet = quiet_in datagram; made = f; told = all (sym (told_given side datagram)) }
           ];
       undisturbed = rest;
       sound = sound_failed now side c d (Given side datagram ∷ []);
@@ -252,21 +243,21 @@ end_ungiven now side c d t u datagram K e kind same rest behaves =
 
 -- the end did what no event tells of
 pub end_still : (is_whole : Bool) (now : Moment) (side : Side) (c d : End) (t : Option (List Event)) (K : List Event → Type 0) → K [] → IsSameEnd c d
-    → IsEndUndisturbed is_whole now (Some c) (Some d) → ((acts : List Act) → Behaves c acts → Behaves d (acts ++ [])) → Sounds is_whole now side c d [] → EndWent is_whole now side c d t t K
-end_still is_whole now side c d t K kind same rest behaves sound =
-    end_did is_whole now side c d t t [] [] K (told_nothing t) kind refl quiet_nothing (told_weaker is_whole side [] [] refl) same rest behaves sound
+    → IsEndUndisturbed is_whole now (Some c) (Some d) → IsMadeBy c d [] → Sounds is_whole now side c d [] → EndWent is_whole now side c d t t K
+end_still is_whole now side c d t K kind same rest made sound =
+    end_did is_whole now side c d t t [] [] K (told_nothing t) kind refl quiet_nothing (told_weaker is_whole side [] [] refl) same rest made sound
 
 -- the end handed out a datagram, which was sent
 pub end_sent : (now : Moment) (side : Side) (c d : End) (t u : Option (List Event)) (datagram : List ℕ) (K : List Event → Type 0)
     → u ≡ told t (Sent side datagram ∷ []) → K (Sent side datagram ∷ []) → IsSameEnd c d → IsEndUndisturbed true now (Some c) (Some d)
-    → ((acts : List Act) → Behaves c acts → Behaves d (acts ++ HandedOut datagram ∷ [])) → Sounds true now side c d (Sent side datagram ∷ []) → EndWent true now side c d t u K
-end_sent now side c d t u datagram K e kind same rest behaves sound =
-    end_did true now side c d t u (Sent side datagram ∷ []) (HandedOut datagram ∷ []) K e kind (silent_sent side datagram) (quiet_out datagram) (sym (told_sent side datagram)) same rest behaves sound
+    → IsMadeBy c d (HandedOut datagram ∷ []) → Sounds true now side c d (Sent side datagram ∷ []) → EndWent true now side c d t u K
+end_sent now side c d t u datagram K e kind same rest made sound =
+    end_did true now side c d t u (Sent side datagram ∷ []) (HandedOut datagram ∷ []) K e kind (silent_sent side datagram) (quiet_out datagram) (sym (told_sent side datagram)) same rest made sound
 
 -- or the link didn't take it
 pub end_unsent : (now : Moment) (side : Side) (c d : End) (t u : Option (List Event)) (datagram : List ℕ) (e : LinkFault) (K : List Event → Type 0)
     → u ≡ told t (fault_events e) → K (fault_events e) → IsSameEnd c d → IsEndUndisturbed true now (Some c) (Some d)
-    → ((acts : List Act) → Behaves c acts → Behaves d (acts ++ HandedOut datagram ∷ [])) → EndWent false now side c d t u K
-end_unsent now side c d t u datagram e K is kind same rest behaves =
+    → IsMadeBy c d (HandedOut datagram ∷ []) → EndWent false now side c d t u K
+end_unsent now side c d t u datagram e K is kind same rest made =
     end_did false now side c d t u (fault_events e) (HandedOut datagram ∷ []) K is kind (silent_fault (other side) e) (quiet_out datagram)
-    (unsent datagram (ap (λ (z : List Act). z ++ HandedOut datagram ∷ []) (sym (silent_fault side e)))) same (inl rest) behaves (sound_failed now side c d (fault_events e))
+    (unsent datagram (ap (λ (z : List Act). z ++ HandedOut datagram ∷ []) (sym (silent_fault side e)))) same (inl rest) made (sound_failed now side c d (fault_events e))

@@ -1,11 +1,10 @@
 -- What the moments that are due do to an end, and an end that is new.
-use Rattle.std.proofs.Common.{◌≡◌, inl, inr, ◌≤◌, ◌<◌, ◌+◌, ◌-◌, ◌^◌, List, [], ◌∷◌, ◌++◌, ℕ, Option, Some, None, true, false, refl, sym, ◌∙◌, ap, subst, arith}
+use Rattle.std.proofs.Common.{◌≡◌, inl, inr, ◌≤◌, ◌<◌, ◌+◌, ◌-◌, ◌^◌, List, [], ◌∷◌, ◌++◌, ℕ, Option, Some, None, true, false, refl, sym, ◌∙◌, ap, subst, append-nil, arith}
 use Rattle.std.specs.Prelude.{length, max, min, MatchOption}
 use Rattle.qh_base.specs.declared.connection_error.ConnectionError.{ConnectionError}
 use Rattle.qh_base.specs.declared.connection_error.ConnectionError.TheVariants as lost
 use Rattle.qh_base.specs.declared.time.Moment.{Moment}
 use Rattle.qh_base.specs.declared.time.Span.{Span}
-use Rattle.qh_conduct.specs.Behaves.{Behaves}
 use Rattle.qh_core.specs.Inner.{HaveSameCounts, IsNewSpace, IsSameEnd, is_open}
 use Rattle.qh_core.specs.Timers.{IsIdleDue, IsTimedOut, three_probes}
 use Rattle.qh_core.specs.Timers.IsTimedOut.{idle, recovery, closed, draining, waits, drained}
@@ -13,15 +12,17 @@ use Rattle.qh_core.specs.declared.config.ConnConfig.{ConnConfig}
 use Rattle.qh_core.specs.declared.idle.IdleTimer.{IdleTimer}
 use Rattle.qh_packet.specs.Session.{PlainKeys}
 use Rattle.qh_roles.proofs.Stirred.{counts_after}
+use Rattle.qh_spec.specs.Transcript.{Act}
 use Rattle.qh_spec.specs.declared.link.Event.{Event}
 use Rattle.qh_spec.specs.declared.sides.Side.{Side}
 use Rattle.qh_exchange.specs.Clock.{HasPassed, IsClockedAt, runs}
 use Rattle.qh_exchange.specs.EndCalls.{HasWaited, IsPolledOut, IsTicked}
-use Rattle.qh_exchange.specs.Pair.{End, IsEndOf}
+use Rattle.qh_exchange.specs.Pair.{End, EndAccords, IsEndOf, IsMadeBy, Stands}
 use Rattle.qh_exchange.specs.Sound.{AtCounting, IsSoundEnd, own_id}
 use Rattle.qh_exchange.specs.Steps.{EndTicked, IsLostFairly, IsNewEnd}
 use Rattle.qh_exchange.specs.declared.ends.Ids.{Ids}
-use Rattle.qh_exchange.proofs.EndSteps.{same_end_trans, stays}
+use Rattle.qh_exchange.proofs.EndMade.{stands_on}
+use Rattle.qh_exchange.proofs.EndSteps.{same_end_trans}
 
 -- ---- the moments that are due
 
@@ -46,11 +47,16 @@ memory_stays now c d here (draining until is by e) failed = ap (λ (z : End). z.
 memory_stays now c d here (waits moment is before e) failed = ap (λ (z : End). z.error) e ∙ failed
 memory_stays now c d here (drained is e) failed = ap (λ (z : End). z.error) e ∙ failed
 
+-- calls that add nothing leave an end where it stands
+still_on : (side : Side) (id_length : ℕ) (config : ConnConfig) (c d : End) (t : List Act) → IsMadeBy c d []
+    → Stands side id_length config (Some c) t → Stands side id_length config (Some d) t
+still_on side id_length config c d t made s = subst (λ (z : List Act). Stands side id_length config (Some d) z) (append-nil t) (stands_on side id_length config c d t [] made s)
+
 pub end_ticked : (now : ℕ) (side : Side) (c m d : End) → IsTicked now c m → IsPolledOut m d → EndTicked now side (Some c) (Some d)
 end_ticked now side c m d s p =
     record {
       due = λ x e. let same : c ≡ x = cc in (m, subst (λ (z : End). IsTimedOut now z m) same s.due, p);
-      stands = λ id_length config t st. (stays side id_length config c d (same_end_trans c m d s.same_end p.same_end) st.0, p.behaves t (s.behaves t st.1));
+      stands = λ id_length config t st. still_on side id_length config m d t p.made (still_on side id_length config c m t s.made st);
       counts = λ x e.
           let same : c ≡ x = cc in
           (d, refl, subst (λ (z : End). HaveSameCounts z.space.streams d.space.streams) same (counts_after c.space.streams m.space.streams d.space.streams s.counts p.counts));
@@ -110,13 +116,13 @@ sound_ticked now side ids config events c m d (Some x) s p e opens h =
 
 -- an end that is made so is new
 pub new_end : (side : Side) (id_length : ℕ) (config : ConnConfig) (now : Moment) (c d : End) → c ≡ d → IsEndOf side id_length config d → IsNewSpace config side c.space
-    → (IsNewSpace c.config c.side c.space → Behaves c []) → d.idle ≡ record { timeout = config.idle; since = now; has_sent = false } → d.error ≡ None → is_open d.state ≡ true
+    → (IsNewSpace c.config c.side c.space → EndAccords c []) → d.idle ≡ record { timeout = config.idle; since = now; has_sent = false } → d.error ≡ None → is_open d.state ≡ true
     → IsNewEnd side id_length config now c
-new_end side id_length config now c d e of space behaves runs_from not_lost up =
+new_end side id_length config now c d e of space accords runs_from not_lost up =
     let whole : IsEndOf side id_length config c = subst (λ (z : End). IsEndOf side id_length config z) (sym e) of in
     record {
       of = whole;
-      behaves = behaves (subst (λ (z : ConnConfig). IsNewSpace z c.side c.space) (sym whole.config_is) (subst (λ (z : Side). IsNewSpace config z c.space) (sym whole.side_is) space));
+      accords = accords (subst (λ (z : ConnConfig). IsNewSpace z c.side c.space) (sym whole.config_is) (subst (λ (z : Side). IsNewSpace config z c.space) (sym whole.side_is) space));
       opened = (space.counts true).0;
       accepted = (space.counts true).1;
       since = ap (λ (z : End). z.idle.since) e ∙ ap (λ (z : IdleTimer). z.since) runs_from;

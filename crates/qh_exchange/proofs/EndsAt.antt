@@ -1,10 +1,8 @@
 -- How an end of a pair stands behind what it did, and how many streams are counted then.
-use Rattle.std.proofs.Common.{◌≡◌, inl, inr, Bool, true, false, List, [], ◌++◌, ℕ, Option, Some, None, refl, sym, ◌∙◌, ap, subst}
-use Rattle.std.specs.Prelude.{is_some, length}
+use Rattle.std.proofs.Common.{◌≡◌, inl, inr, Bool, true, false, List, [], ◌++◌, ℕ, Option, Some, None, refl, sym, ◌∙◌, subst}
+use Rattle.std.specs.Prelude.{is_some}
 use Rattle.qh_base.specs.declared.connection_error.ConnectionError.TheVariants as lost
 use Rattle.qh_base.specs.declared.time.Moment.{Moment}
-use Rattle.qh_conduct.specs.Behaves.{Behaves}
-use Rattle.qh_core.specs.Inner.{with_streams}
 use Rattle.qh_core.specs.declared.config.ConnConfig.{ConnConfig}
 use Rattle.qh_roles.specs.Client.{PlainClient}
 use Rattle.qh_roles.specs.Server.{PlainServer}
@@ -12,7 +10,7 @@ use Rattle.qh_roles.specs.Streams.{AreCalls}
 use Rattle.qh_spec.specs.Transcript.{Act}
 use Rattle.qh_spec.specs.declared.link.Event.{Event}
 use Rattle.qh_spec.specs.declared.sides.Side.{Side}
-use Rattle.qh_exchange.specs.Pair.{End, EndAt, HasAcceptedEnd, HasOpenedEnd, IsEndOf, Stands, told_acts}
+use Rattle.qh_exchange.specs.Pair.{End, EndAccords, EndAt, HasAcceptedEnd, HasOpenedEnd, Stands, told_acts}
 use Rattle.qh_exchange.specs.Steps.{Did, HasAcceptedAll, HasOpenedAll, IsEndUndisturbed, IsNewEnd, IsOnSide}
 use Rattle.qh_exchange.proofs.Wire.{told_acts-silent, told_calls, told_if-append, told_weaker}
 
@@ -77,7 +75,7 @@ pub at_opened : (side : Side) (id_length : ℕ) (config : ConnConfig) (old : Opt
     → old ≡ None → IsNewEnd side id_length config now c → EndAt true side id_length config old events t → EndAt true side id_length config (Some c) events t
 at_opened side id_length config old now c events t none new at =
     let nothing : t ≡ [] = subst (λ (z : Option End). Stands side id_length config z t) none at.stands in
-    record { stands = (new.of, subst (λ (z : List Act). Behaves c z) (sym nothing) new.behaves); told = at.told }
+    record { stands = (new.of, subst (λ (z : List Act). EndAccords c z) (sym nothing) new.accords); told = at.told }
 
 -- an end that isn't there did nothing
 pub no_acts : (side : Side) (k : ℕ) (config : ConnConfig) (o : Option End) (t : List Act) → o ≡ None → Stands side k config o t → t ≡ []
@@ -86,15 +84,6 @@ no_acts side k config o t none s = subst (λ (z : Option End). Stands side k con
 pub on_side : (side : Side) (id_length : ℕ) (config : ConnConfig) (o : Option End) (t : List Act) → Stands side id_length config o t → IsOnSide side o
 on_side side id_length config None t s = tt
 on_side side id_length config (Some c) t s = s.0.side_is
-
--- an end of which streams alone changed is the same end
-pub same_end : (side : Side) (id_length : ℕ) (config : ConnConfig) (c d : End) → d ≡ with_streams c d.space.streams → IsEndOf side id_length config c → IsEndOf side id_length config d
-same_end side id_length config c d rest of = record {
-  side_is = ap (λ (z : End). z.side) rest ∙ of.side_is;
-  local = ap (λ (z : End). length z.local_id) rest ∙ of.local;
-  remote = ap (λ (z : End). length z.remote_id) rest ∙ of.remote;
-  config_is = ap (λ (z : End). z.config) rest ∙ of.config_is;
-}
 
 pub not_out_of_memory : (c : End) → c.error ≡ None → c.error ≡ Some lost.Memory → ⊥
 not_out_of_memory c n e = cc

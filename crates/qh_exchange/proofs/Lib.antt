@@ -2,6 +2,7 @@ pub mod AskedLists
 pub mod Bridged
 pub mod ClockSteps
 pub mod EndCounts
+pub mod EndMade
 pub mod EndPolls
 pub mod EndSounds
 pub mod EndSteps

@@ -1,16 +1,20 @@
 -- The steps of the roles of a pair: the client asks, and the server serves.
 use Rattle.std.proofs.Common.{◌≡◌, inl, inr, true, List, [], ◌++◌, ℕ, Option, Some, None, refl, sym, ◌∙◌, ap, subst, append-nil}
-use Rattle.qh_roles.proofs.Going.{went_nowhere}
+use Rattle.qh_core.proofs.MadeTogether.{local_all, streams_local}
+use Rattle.qh_roles.proofs.Going.{went_by, went_nowhere}
 use Rattle.qh_roles.specs.Client.{Asking}
+use Rattle.qh_roles.specs.Going.{WentFrom}
 use Rattle.qh_roles.specs.Server.{ServerStep, Serving}
 use Rattle.qh_roles.specs.Streams.{Acted}
 use Rattle.qh_spec.specs.Record.{PlainEntry}
+use Rattle.qh_spec.specs.Transcript.{Act}
 use Rattle.qh_spec.specs.declared.link.Event.{Event}
 use Rattle.qh_spec.specs.declared.sides.Side.TheVariants.{Client, Server}
-use Rattle.qh_exchange.specs.Pair.{End, IsRunning, IsSound, PairState, Stands, id_length}
+use Rattle.qh_exchange.specs.Pair.{End, IsMadeBy, IsRunning, IsSound, PairState, Stands, id_length, plain_accepts, plain_sealed}
 use Rattle.qh_exchange.specs.Steps.{ClientPolled, HasAcceptedAll, HasOpenedAll, HasRun, IsCounted, IsOnSide, IsStill, PairStep, ServerPolled}
 use Rattle.qh_exchange.specs.Turn.{IsNotLost}
-use Rattle.qh_exchange.proofs.EndsAt.{accepted_weak, at_acted, not_out_of_memory, on_side, opened_weak, same_end}
+use Rattle.qh_exchange.proofs.EndMade.{stands_on}
+use Rattle.qh_exchange.proofs.EndsAt.{accepted_weak, at_acted, not_out_of_memory, on_side, opened_weak}
 use Rattle.qh_exchange.proofs.PairSounds.{rests}
 use Rattle.qh_exchange.proofs.PairSteps.{told_nothing}
 
@@ -20,6 +24,10 @@ client_side p run = on_side Client (id_length p) p.config p.client_end run.runni
 
 pub server_side : (p : PairState) → HasRun p → IsOnSide Server p.server_end
 server_side p run = on_side Server (id_length p) p.config p.server_end run.running.server.acts run.running.server.at.stands
+
+-- the calls of a role made an end what it is
+made_on_streams : (c d : End) (t acts : List Act) → WentFrom c t d (t ++ acts) → IsMadeBy c d acts
+made_on_streams c d t acts went = local_all plain_accepts plain_sealed c d acts (streams_local c d acts (went_by c t d acts went))
 
 -- a client that went on at its end, which isn't lost
 pub client_asks : (p q : PairState) → IsCounted p → IsNotLost p.client_end → ClientPolled p.client q.client p.client_end q.client_end
@@ -40,13 +48,13 @@ client_asks p q counted going polled is =
           let stands : Stands Client (id_length p) p.config (Some b) run.client.acts
           = subst (λ (z : Option End). Stands Client (id_length p) p.config z run.client.acts) polled.before_is run.client.at.stands in
           let t = run.client.acts in
-          let did : Acted b t (Asking q.client) d t = polled.asks b t t (went_nowhere b t stands.1) (inr opened_before) run.client.asking in
+          let did : Acted b t (Asking q.client) d t = polled.asks b t t (went_nowhere b t stands.1.behaves) (inr opened_before) run.client.asking in
           record {
             client = record {
               acts = run.client.acts ++ did.acts;
               at = at_acted Client (id_length p) p.config p.client_end q.client_end events run.client.acts did.acts run.client.at did.calls
                   (subst (λ (z : Option End). Stands Client (id_length p) p.config z (run.client.acts ++ did.acts)) (sym polled.after_is)
-                  (same_end Client (id_length p) p.config b d polled.rest stands.0, did.follows.behaves));
+                  (stands_on Client (id_length p) p.config b d t did.acts (made_on_streams b d t did.acts did.follows) stands));
               asking = did.holds;
               opened = opened_weak q.client q.client_end count;
             };
@@ -87,7 +95,7 @@ server_serves now p q t r s counted going polled is =
           let stands : Stands Server (id_length p) p.config (Some b) run.server.acts
           = subst (λ (z : Option End). Stands Server (id_length p) p.config z run.server.acts) polled.before_is run.server.at.stands in
           let t = run.server.acts in
-          let did : Acted b t (Serving q.server (entries ++ st.fresh)) d t = st.does b t t entries (went_nowhere b t stands.1) run.server.serving in
+          let did : Acted b t (Serving q.server (entries ++ st.fresh)) d t = st.does b t t entries (went_nowhere b t stands.1.behaves) run.server.serving in
           subst (λ (z : List Event). IsRunning true (record p { server = q.server; server_end = q.server_end }) z (entries ++ st.fresh)) (sym (append-nil events))
           (record {
             client = record { acts = run.client.acts; at = run.client.at; asking = run.client.asking; opened = run.client.opened };
@@ -95,7 +103,7 @@ server_serves now p q t r s counted going polled is =
               acts = run.server.acts ++ did.acts;
               at = at_acted Server (id_length p) p.config p.server_end q.server_end events run.server.acts did.acts run.server.at did.calls
                   (subst (λ (z : Option End). Stands Server (id_length p) p.config z (run.server.acts ++ did.acts)) (sym polled.after_is)
-                  (same_end Server (id_length p) p.config b d polled.rest stands.0, did.follows.behaves));
+                  (stands_on Server (id_length p) p.config b d t did.acts (made_on_streams b d t did.acts did.follows) stands));
               serving = did.holds;
               accepted = accepted_weak q.server q.server_end count;
             };

@@ -59,8 +59,8 @@ joined side ids config k c q events t u honest knows fits short at to s r =
             (subst (λ (z : Side). In d (sent_by z events)) (other_twice side)
             (honest_all (other side) d events honest (subst (λ (z : List (List ℕ)). In d z) (whole_in (other side) events u to.told) i)));
       };
-      behaves = at.stands.1;
-      peer_behaves = to.stands.1;
+      accords = at.stands.1;
+      peer_accords = to.stands.1;
       sealed = λ d i.
           let old = r.sealed d (subst (λ (z : List (List ℕ)). In d z) (whole_out (other side) events u to.told) i) in
           subst (λ (z : List ℕ). IsSealed (tag_bytes z) q.side q.remote_id d) (sym r.key_is)

@@ -175,7 +175,7 @@ filled : (w : Bool) (side : Side) (k : ℕ) (config : ConnConfig) (end : Option 
 filled w side k config None events t at run has = absurd (subst (λ (z : List Act). In has.datagram (handed_out z)) at.stands has.among)
 filled w side k config (Some c) events t at run has =
     let is = at.stands.0 in
-    at.stands.1.filled run
+    at.stands.1.behaves.filled run
     (subst (λ (z : Side). HasRun (length c.remote_id) (handed_out t) z run) (sym is.side_is)
     (subst (λ (n : ℕ). HasRun n (handed_out t) side run) (sym is.remote) has))
 
@@ -188,7 +188,7 @@ module _ (within : AreWithin) where
       subst (λ (z : ConnConfig). IsWithinLimits k k side z before d) is.config_is
       (subst (λ (z : Side). IsWithinLimits k k z c.config before d) is.side_is
       (subst (λ (n : ℕ). IsWithinLimits n k c.side c.config before d) is.local
-      (subst (λ (n : ℕ). IsWithinLimits (length c.local_id) n c.side c.config before d) is.remote (within c t before after d at.stands.1.follows e))))
+      (subst (λ (n : ℕ). IsWithinLimits (length c.local_id) n c.side c.config before d) is.remote (within c t before after d at.stands.1.behaves.follows e))))
 
   kept : (w : Bool) (side : Side) (k : ℕ) (config : ConnConfig) (end : Option End) (events : List Event) (t : List Act) → EndAt w side k config end events t
       → (before after : List Event) (d : List ℕ) → events ≡ before ++ Sent side d ∷ after → KeptWithin k config side before d

@@ -1,17 +1,16 @@
 -- What the calls on one end do (own).
-use Rattle.std.specs.Prelude.{◌≡◌, ◌⊎◌, ℕ, ◌+◌, ◌≤◌, Bool, true, false, List, [], ◌++◌, ◌∷◌, Some, Result, Ok, Err, MatchBool, length, map}
+use Rattle.std.specs.Prelude.{◌≡◌, ◌⊎◌, ℕ, ◌+◌, ◌≤◌, Bool, true, false, List, [], ◌∷◌, Some, Result, Ok, Err, MatchBool, length, map}
 use Rattle.qh_base.specs.declared.connection_error.ConnectionError.{ConnectionError}
 use Rattle.qh_base.specs.declared.connection_error.ConnectionError.TheVariants as lost
 use Rattle.qh_base.specs.declared.memory.Memory.{Memory as OutOfMemory}
 use Rattle.qh_base.specs.declared.time.Span.{Span}
-use Rattle.qh_conduct.specs.Behaves.{Behaves}
 use Rattle.qh_core.specs.Inner.{HaveSameCounts, IsSameEnd}
 use Rattle.qh_core.specs.Timers.{IsTimedOut}
 use Rattle.qh_spec.specs.declared.link.Event.{Event}
 use Rattle.qh_spec.specs.declared.link.Event.TheVariants.{Sent, Given}
 use Rattle.qh_spec.specs.declared.sides.Side.{Side}
 use Rattle.qh_spec.specs.Transcript.{Act, HandedIn, HandedOut}
-use Rattle.qh_exchange.specs.Pair.{End}
+use Rattle.qh_exchange.specs.Pair.{End, IsMadeBy}
 
 -- ---- what the link gives and takes
 
@@ -29,9 +28,9 @@ pub record AreSent (side : Side) (count : ℕ) (events : List Event) : Type 0 wh
 
 -- ---- one call
 
--- behind this transcript a datagram was handed in; where the call failed, it may not have been
-abbrev pub IsHandedIn : (is_whole : Bool) → List ℕ → End → List Act → Type 0
-IsHandedIn is_whole d c t = MatchBool is_whole (Behaves c (t ++ HandedIn d ∷ [])) (Behaves c t ⊎ Behaves c (t ++ HandedIn d ∷ []))
+-- a datagram was handed in; where the call failed, it may not have been
+abbrev pub IsHandedIn : (is_whole : Bool) → List ℕ → (old new : End) → Type 0
+IsHandedIn is_whole d old new = MatchBool is_whole (IsMadeBy old new (HandedIn d ∷ [])) (IsMadeBy old new [] ⊎ IsMadeBy old new (HandedIn d ∷ []))
 
 -- what an end did that was asked for a datagram and answered so: it handed it out, where there is one
 abbrev pub polled_acts : List ℕ → Result Bool OutOfMemory → List Act
@@ -49,7 +48,7 @@ pub record IsPolledOut (old new : End) : Type 0 where
   pub error_is : new.error ≡ old.error
   pub state_is : new.state ≡ old.state
   pub session_is : new.session ≡ old.session
-  pub behaves : (t : List Act) → Behaves old t → Behaves new t
+  pub made : IsMadeBy old new []
 
 -- an idle time is set, and passed by this moment
 pub record HasWaited (now : ℕ) (c : End) : Type 0 where
@@ -67,4 +66,4 @@ pub record IsTicked (now : ℕ) (old new : End) : Type 0 where
   pub failed : old.error ≡ Some lost.Memory → new.error ≡ Some lost.Memory
   pub kept : (e : ConnectionError) → new.error ≡ Some e → (old.error ≡ Some e) ⊎ (e ≡ lost.TimedOut)
   pub due : IsTimedOut now old new
-  pub behaves : (t : List Act) → Behaves old t → Behaves new t
+  pub made : IsMadeBy old new []

@@ -1,8 +1,9 @@
 -- How a pair stands to what happened on its link, and what its service recorded, since it was opened. No object stores
 -- these lists.
-use Rattle.std.specs.Prelude.{◌≡◌, ℕ, ◌^◌, ◌≤◌, Bool, true, false, not, List, [], ◌∷◌, ◌++◌, Option, Some, None, Result, length, filter, slice_get, MatchBool}
-use Rattle.qh_conduct.specs.Behaves.{Behaves}
+use Rattle.std.specs.Prelude.{◌≡◌, ℕ, ◌^◌, ◌≤◌, Bool, true, false, not, List, [], ◌∷◌, ◌++◌, Option, Some, None, Result, length, filter, slice_get, bytes_eq, MatchBool}
+use Rattle.qh_arrival.specs.Accord.{Accords}
 use Rattle.qh_core.specs.Config.{peer_of}
+use Rattle.qh_core.specs.Made.{AcceptsTags, AreMade, MakesTagsOf}
 use Rattle.qh_core.specs.declared.config.ConnConfig.{ConnConfig}
 use Rattle.qh_core.specs.declared.inner.Inner.{Inner}
 use Rattle.qh_packet.specs.Session.{PlainKeys}
@@ -17,6 +18,7 @@ use Rattle.qh_spec.specs.Honest.{IsHonest}
 use Rattle.qh_spec.specs.Link.{if_same_side}
 use Rattle.qh_spec.specs.Message.{PlainMessage}
 use Rattle.qh_spec.specs.Record.{PlainEntry}
+use Rattle.qh_spec.specs.Tag.{tag_bytes}
 use Rattle.qh_spec.specs.Transcript.{Act, HandedIn, HandedOut}
 use Rattle.qh_exchange.specs.Sound.{EndsFairly, IsSoundAt}
 use Rattle.qh_exchange.specs.Within.{KeptWithin}
@@ -26,6 +28,21 @@ use Rattle.qh_exchange.specs.declared.error.ExchangeError.{ExchangeError}
 -- an end of a connection with a plain session
 abbrev pub End : Type 0
 End = Inner PlainKeys
+
+-- what a plain session takes for tags, and which tags it makes
+abbrev pub plain_accepts : AcceptsTags PlainKeys
+plain_accepts keys from space number tag = bytes_eq tag (tag_bytes keys.key_id from space number)
+
+abbrev pub plain_sealed : MakesTagsOf PlainKeys
+plain_sealed keys = tag_bytes keys.key_id
+
+-- calls made the end the other, and these acts are what they add
+abbrev pub IsMadeBy : (old new : End) → List Act → Type 0
+IsMadeBy old new acts = AreMade plain_accepts plain_sealed old new acts
+
+-- the end stands so to all that was done with it
+abbrev pub EndAccords : End → List Act → Type 0
+EndAccords c t = Accords (plain_accepts c.session) (plain_sealed c.session) c t
 
 pub record PairState : Type 0 where
   -- the connection ids of the two ends, of one length, and the one that their tags are made of
@@ -46,17 +63,18 @@ id_length p = length p.ids.client
 
 -- ---- an end and its acts
 
--- this side's end, between ids of this length
+-- this side's end, between ids of this length, with a key id as long as a connection id may be (RFC 9000, section 17.2)
 pub record IsEndOf (side : Side) (id_length : ℕ) (config : ConnConfig) (c : End) : Type 0 where
   pub side_is : c.side ≡ side
   pub local : length c.local_id ≡ id_length
   pub remote : length c.remote_id ≡ id_length
   pub config_is : c.config ≡ config
+  pub short : length c.session.key_id ≤ 20
 
 -- an end stands where this transcript leaves it; one that isn't there has none
 abbrev pub Stands : Side → ℕ → ConnConfig → Option End → List Act → Type 0
 Stands side id_length config None t = t ≡ []
-Stands side id_length config (Some c) t = IsEndOf side id_length config c × Behaves c t
+Stands side id_length config (Some c) t = IsEndOf side id_length config c × EndAccords c t
 
 -- the acts that hand datagrams in and out, in order
 abbrev pub is_wire : Act → Bool

@@ -4,7 +4,6 @@ use Rattle.qh_base.specs.declared.connection_error.ConnectionError.{ConnectionEr
 use Rattle.qh_base.specs.declared.connection_error.ConnectionError.TheVariants as lost
 use Rattle.qh_base.specs.declared.time.Moment.{Moment}
 use Rattle.qh_base.specs.declared.time.Span.{Span}
-use Rattle.qh_conduct.specs.Behaves.{Behaves}
 use Rattle.qh_conduct.specs.Peers.{AreLinked, ArePeers}
 use Rattle.qh_conduct.specs.Restarting.{AreSealed, IsCounting, IsSealed}
 use Rattle.qh_core.specs.Inner.{HaveSameCounts, IsSameEnd, is_open, with_streams}
@@ -30,7 +29,7 @@ use Rattle.qh_exchange.specs.EndCalls.{HasWaited, IsPolledOut}
 use Rattle.qh_exchange.specs.Error.{error_of_loss}
 use Rattle.qh_exchange.specs.Exchange.{IfTimedOut}
 use Rattle.qh_exchange.specs.Full.{IsSentOut}
-use Rattle.qh_exchange.specs.Pair.{End, IsEndOf, IsRunning, IsSound, IsToldIf, PairState, Stands, told_acts}
+use Rattle.qh_exchange.specs.Pair.{End, EndAccords, IsEndOf, IsRunning, IsSound, IsToldIf, PairState, Stands, told_acts}
 use Rattle.qh_exchange.specs.Sound.{AreBy, own_id}
 use Rattle.qh_exchange.specs.Turn.{IsNotLost}
 use Rattle.qh_exchange.specs.declared.ends.Ids.{Ids}
@@ -52,7 +51,7 @@ is_done (Err e) = false
 -- an end before its first packet, which opened at this moment
 pub record IsNewEnd (side : Side) (id_length : ℕ) (config : ConnConfig) (now : Moment) (c : End) : Type 0 where
   pub of : IsEndOf side id_length config c
-  pub behaves : Behaves c []
+  pub accords : EndAccords c []
   pub opened : c.space.streams.bi.opened ≡ 0
   pub accepted : c.space.streams.bi.accepted ≡ 0
   pub since : c.idle.since ≡ now
@@ -90,8 +89,8 @@ pub record AreJoined (c q : End) (tc tq : List Act) : Type 0 where
   pub key_is : q.session.key_id ≡ c.session.key_id
   pub short : length c.session.key_id ≤ 20
   pub linked : AreLinked tc tq
-  pub behaves : Behaves c tc
-  pub peer_behaves : Behaves q tq
+  pub accords : EndAccords c tc
+  pub peer_accords : EndAccords q tq
   pub sealed : AreSealed (tag_bytes q.session.key_id) q tq
   pub up : is_open c.state ≡ true
   pub peer_open : is_open q.state ≡ true

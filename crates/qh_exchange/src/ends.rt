@@ -1,7 +1,6 @@
-ghost use Rattle.std.specs.Prelude.{◌≡◌, ◌≤◌, ◌<◌, ◌^◌, ◌++◌, ◌∷◌, [], ℕ, List, Option, Some, None, true, false, length, is_some, IfOk, IfErr, IfSome, MatchOption, OnOk};
+ghost use Rattle.std.specs.Prelude.{◌≡◌, ◌≤◌, ◌<◌, ◌^◌, ◌++◌, ◌∷◌, [], ℕ, List, Option, Some, None, true, false, length, is_some, IfOk, IfErr, MatchOption, OnOk};
 ghost use Rattle.qh_base.specs.declared.connection_error.ConnectionError.TheVariants.{TimedOut};
 ghost use Rattle.qh_base.specs.declared.time.Span.{Span as ASpan};
-ghost use Rattle.qh_conduct.specs.Behaves.{Behaves};
 ghost use Rattle.qh_conduct.specs.Calls.{ToldTheSame};
 ghost use Rattle.qh_conduct.specs.Restarting.{IsSealed};
 ghost use Rattle.qh_core.specs.Inner.{IsSameEnd, is_open};
@@ -10,6 +9,7 @@ ghost use Rattle.qh_exchange.specs.Clock.{HasPassed, IsEndClocked};
 ghost use Rattle.qh_exchange.specs.EndCalls.{IsHandedIn, IsPolledOut, IsTicked, polled_acts};
 ghost use Rattle.qh_exchange.specs.Exchange.{IfLink};
 ghost use Rattle.qh_exchange.specs.Full.{IsSentOut, ToldAsBefore};
+ghost use Rattle.qh_exchange.specs.Pair.{IsMadeBy};
 ghost use Rattle.qh_exchange.specs.Sound.{IsSoundAt, own_id};
 ghost use Rattle.qh_exchange.specs.Steps.{EndStep, EndTicked, HasNames, IsEndUndisturbed, IsLinkError, IsLostFairly, IsNewEnd, KeepsSound, is_done};
 ghost use Rattle.qh_exchange.specs.Turn.{AddsFault, IsLostWith, IsNotLost, has_link_failed};
@@ -18,14 +18,14 @@ ghost use Rattle.qh_spec.specs.declared.link.Event.TheVariants.{Given};
 ghost use Rattle.qh_spec.specs.Fault.{CountsFaults};
 ghost use Rattle.qh_spec.specs.Link.{other};
 ghost use Rattle.qh_spec.specs.Tag.{tag_bytes};
-ghost use Rattle.qh_spec.specs.Transcript.{Act};
 ghost use Rattle.qh_spec.specs.Turns.{IsIntake, IsOutput};
 
 use crate::{ExchangeError, Link, MAX_DATAGRAM};
 use bytes::Bytes;
+use qh_arrival::accords;
 use qh_base::{ConnectionError, ConnectionId, FourTuple, Memory, Moment, Side};
 use qh_conduct::{behaves, permits, plain_tags, restarts};
-use qh_core::{ConnConfig, Connection, ConnectionEvent, PlainSession};
+use qh_core::{ConnConfig, Connection, ConnectionEvent, PlainSession, made, made_together};
 use std::alloc::Global;
 use std::net::{IpAddr, Ipv4Addr, SocketAddr};
 
@@ -96,8 +96,10 @@ pub(crate) fn open_end(
     ensures end { IfOk result (IsNewEnd side (length ids.now.client) config now) }
     ensures names { IfOk result (HasNames side ids.now) }
 {
-    behaves::<PlainSession>();
+    accords::<PlainSession>();
     let session = PlainSession::new(ids.key, name.as_bytes())?;
+    // Its contract says that the key is short.
+    session.key_id();
     let (local, remote) = ids_from(side, ids);
     Ok(Connection::new(
         alloc,
@@ -213,7 +215,8 @@ fn run_timers(end: &mut End, now: Moment)
 {
     // It does nothing. Its contract says that an end which is open isn't lost, so that want of memory stays the reason.
     end.is_owed();
-    behaves::<PlainSession>();
+    made::<PlainSession>();
+    made_together::<PlainSession>();
     end.handle_timeout(now);
 }
 
@@ -221,7 +224,7 @@ fn run_timers(end: &mut End, now: Moment)
 fn drop_events(end: &mut End)
     ensures { IsPolledOut end.old end.new }
 {
-    behaves::<PlainSession>();
+    made::<PlainSession>();
     for _event in 0..u64::MAX {
         if end.poll().is_none() {
             break;
@@ -266,12 +269,14 @@ fn hand_in(
 ) -> Result<(), Memory>
     ensures same_end { IsSameEnd end.old end.new }
     ensures undisturbed { IsEndUndisturbed (is_done result) now (Some end.old) (Some end.new) }
-    ensures behaves { (t : List Act) → Behaves end.old t → IsHandedIn (is_done result) datagram.now end.new t }
+    ensures made { IsHandedIn (is_done result) datagram.now end.old end.new }
     ensures sound { KeepsSound (is_done result) now side (Some end.old) (Some end.new) (Given side datagram.now ∷ []) }
 {
     end.session().key_id();
     plain_tags();
     behaves::<PlainSession>();
+    made::<PlainSession>();
+    made_together::<PlainSession>();
     restarts::<PlainSession>();
     end.is_owed();
     let payload = copied(alloc, datagram)?;
@@ -328,16 +333,15 @@ fn has_next(end: &mut End, now: Moment, datagram: &mut Vec<u8>) -> Result<bool, 
     requires { is_open end.old.state ≡ true }
     ensures same_end { IsSameEnd end.old end.new }
     ensures undisturbed { IsEndUndisturbed (is_done result) now (Some end.old) (Some end.new) }
-    ensures behaves { (t : List Act) → Behaves end.old t → Behaves end.new (t ++ polled_acts datagram.new.items result) }
+    ensures made { IsMadeBy end.old end.new (polled_acts datagram.new.items result) }
     ensures open { IfOk result (λ _. is_open end.new.state ≡ true) }
     ensures session { end.new.session ≡ end.old.session }
     ensures sealed { IfOk result (λ found. found ≡ true → IsSealed (tag_bytes end.old.session.key_id) end.old.side end.old.remote_id datagram.new.items) }
     ensures none { IfOk result (λ found. found ≡ false → NothingIsSent end.old end.new) }
     ensures told { OnOk result (ToldTheSame end.old.space.streams end.new.space.streams) }
 {
-    end.session().key_id();
-    plain_tags();
-    behaves::<PlainSession>();
+    made::<PlainSession>();
+    made_together::<PlainSession>();
     permits::<PlainSession>();
     datagram.clear();
     let transmit = end.poll_transmit(now, datagram)?;

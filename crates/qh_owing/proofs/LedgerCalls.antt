@@ -1,5 +1,5 @@
 -- The ledger of a connection is kept over whatever calls are made.
-use Rattle.std.proofs.Common.{◌≡◌, ◌⊎◌, ℕ, ◌+◌, ◌<◌, ◌^◌, Bool, true, false, List, [], ◌∷◌, ◌++◌, append_assoc, length, length-append, drop, flat_map, Option, Some, None, refl, sym, ap, subst, ◌∙◌, inl, inr, arith}
+use Rattle.std.proofs.Common.{◌≡◌, ◌⊎◌, ℕ, ◌+◌, Bool, true, false, List, [], ◌∷◌, ◌++◌, length, length-append, drop, Option, Some, None, refl, sym, ap, subst, ◌∙◌, inl, inr}
 use Rattle.std.proofs.Math.Seq.{drop-append_seam}
 use Rattle.std.proofs.lemmas.Bool.{both_ways, cases_Bool}
 use Rattle.std.proofs.lemmas.List.{append-nil}
@@ -10,6 +10,7 @@ use Rattle.qh_base.specs.declared.path.Transmit.{Transmit}
 use Rattle.qh_base.specs.declared.time.Moment.{Moment}
 use Rattle.qh_base.specs.declared.transport_error.TransportError.{TransportError}
 use Rattle.qh_buffers.specs.Ranges.{PlainRange}
+use Rattle.qh_core.proofs.ControlFrames.{bare_rest}
 use Rattle.qh_core.proofs.Ends.{ended_with, goes_on_open, goes_on_space}
 use Rattle.qh_core.proofs.ExpectedNumbers.{expected_of}
 use Rattle.qh_core.proofs.MadeTogether.{carried_on}
@@ -30,7 +31,7 @@ use Rattle.qh_core.specs.Receiving.{GoesOnWith, IsClosedWith, IsDatagramTaken, I
 use Rattle.qh_core.specs.Receiving.IsDatagramTaken.{dropped as dropped_datagram, handled as handled_datagram, told_again, closed_too, draining as draining_datagram, drained as drained_datagram}
 use Rattle.qh_core.specs.Receiving.IsPacketHandled.{repeated, empty, faulty, unnoted, taken as taken_packet}
 use Rattle.qh_core.specs.Sending.{AreFramesMade, ClosesReadBack, IsDatagramMade, close_frame, datagram_of}
-use Rattle.qh_core.specs.Sending.AreFramesMade.{packet as packet_frames, close as close_frames}
+use Rattle.qh_core.specs.Sending.AreFramesMade.{packet as packet_frames, control as control_frames, close as close_frames}
 use Rattle.qh_core.specs.Timers.{IsTimedOut, restarted}
 use Rattle.qh_core.specs.Timers.IsTimedOut.{idle as idle_out, recovery as recovery_out, closed as closed_out, draining as draining_out, waits as waits_out, drained as drained_out}
 use Rattle.qh_core.specs.declared.event.ConnectionEvent.{ConnectionEvent}
@@ -40,19 +41,18 @@ use Rattle.qh_core.specs.declared.event.Event.{Event}
 use Rattle.qh_core.specs.declared.inner.Inner.{Inner}
 use Rattle.qh_core.specs.declared.state.Close.{Close as CloseReason}
 use Rattle.qh_core.specs.declared.state.State.{State}
-use Rattle.qh_core.specs.declared.state.State.TheVariants.{Closed, Draining, Drained}
+use Rattle.qh_core.specs.declared.state.State.TheVariants.{Closed, Drained}
 use Rattle.qh_frame.specs.FrameBytes.{frame_bytes}
 use Rattle.qh_half.specs.Recv.{PlainRecv}
 use Rattle.qh_halves.specs.RecvHalves.{recv_half_in}
 use Rattle.qh_owing.proofs.LedgerNext.{aged_next, frames_next, probed_next}
 use Rattle.qh_owing.proofs.LedgerStreams.{call_keeps, hands_none, only_streams, polled_keeps}
 use Rattle.qh_owing.proofs.NumbersKept.{aged_same, frames_same, made_same, probed_same}
-use Rattle.qh_owing.specs.Ledger.{AreAcceptedBy, AreNoted, AreSent, HasLedger, IsLedger, IsSentIn, KeepsLedger, packet_of, runs_accepted}
+use Rattle.qh_owing.specs.Ledger.{AreNoted, AreSent, HasLedger, IsLedger, IsSentIn, KeepsLedger, packet_of, runs_accepted}
 use Rattle.qh_owing.specs.Ledger.AreNoted.{none as none_noted, more as more_noted}
 use Rattle.qh_owing.specs.Ledger.AreSent.{none as none_sent, more as more_sent}
-use Rattle.qh_owing.specs.Owing.{AcceptsTag, AreAccepted, MakesTags, NamesTags, numbers_of}
+use Rattle.qh_owing.specs.Owing.{AcceptsTag, AreAccepted, numbers_of}
 use Rattle.qh_owing.specs.Owing.AreAccepted.{none as none_accepted, dropped as brings_none, repeated as brings_old, taken as brings_one}
-use Rattle.qh_packet.specs.Packet.{header_bytes}
 use Rattle.qh_recovery.specs.Accepted.{Remembers}
 use Rattle.qh_recovery.specs.PendingAcks.{PlainPendingAcks}
 use Rattle.qh_space.specs.declared.data_space.DataSpace.{DataSpace}
@@ -64,7 +64,6 @@ use Rattle.qh_spec.specs.QuicFrames.{QuicFrame, AreQuicFrames, IsQuicFrame}
 use Rattle.qh_spec.specs.Transcript.{Act, HandedIn, HandedOut, handed_in, handed_out}
 use Rattle.qh_spec.specs.declared.sides.Side.{Side}
 use Rattle.qh_spec.specs.declared.sides.Space.{Space}
-use Rattle.qh_spec.specs.declared.sides.Space.TheVariants.{Data}
 use Rattle.qh_streams.specs.Streams.{PlainStreams, IsReadBack}
 use Rattle.qh_transcript.specs.Sending.{runs_of}
 use Rattle.qh_transcript.specs.Waiting.{KeepsWhatCame}
@@ -498,6 +497,10 @@ module _ {S : Type 0} (accepts : AcceptsTag) (sealed : Side → Space → ℕ �
     frames_ledger first (packet_frames up made is) = by_packet up (record {
       same = subst (λ (z : Inner S). IsSameEnd b z) (sym is) (record { side = refl; local_id = refl; remote_id = refl; config = refl });
       dedup = made_same _ _ _ b.space c.space _ _ made;
+    })
+    frames_ledger first (control_frames up made is) = by_packet up (record {
+      same = subst (λ (z : Inner S). IsSameEnd b z) (sym is) (record { side = refl; local_id = refl; remote_id = refl; config = refl });
+      dedup = (bare_rest _ _ b.space c.space made.sent).dedup;
     })
     frames_ledger first (close_frames reason until was frames_are is) =
         by_close reason until was frames_are (subst (λ (z : Inner S). IsSameEnd b z) (sym is) (record { side = refl; local_id = refl; remote_id = refl; config = refl }))

@@ -1,5 +1,5 @@
 -- Calls on streams, and what is told of a connection, lose nothing of what came.
-use Rattle.std.proofs.Common.{◌≡◌, ℕ, Bool, true, false, List, [], ◌∷◌, Option, Some, None, Result, Ok, Err, if◌then◌else◌, refl, sym, ap, ◌∙◌, inl, inr}
+use Rattle.std.proofs.Common.{◌≡◌, ℕ, Bool, true, false, List, [], ◌∷◌, Option, Some, None, Result, Ok, Err, refl, sym, ap, ◌∙◌, inl, inr}
 use Rattle.std.specs.Prelude.{IfErr, IfOk, ◌==◌}
 use Rattle.std.proofs.lemmas.Bool.{cases_Bool}
 use Rattle.qh_buffers.specs.declared.assembler.Chunk.{Chunk}
@@ -16,13 +16,12 @@ use Rattle.qh_half.specs.declared.fault.ReadFault.{ReadFault}
 use Rattle.qh_half.specs.declared.fault.ReadFault.TheVariants as fault
 use Rattle.qh_half.specs.declared.fault.WriteFault.{WriteFault}
 use Rattle.qh_half.specs.declared.fault.WriteFault.TheVariants.{Blocked, Stopped, ClosedStream as StreamClosed, Memory}
-use Rattle.qh_halves.specs.RecvHalves.{IsRecvStep, Reads}
 use Rattle.qh_halves.specs.SendHalves.{write_limit}
 use Rattle.qh_halves.specs.declared.counts.StreamCounts.{StreamCounts}
 use Rattle.qh_spec.specs.QuicFrame.{StreamFrame as Run}
 use Rattle.qh_spec.specs.Transcript.{Act, handed_in, handed_out}
 use Rattle.qh_streams.proofs.StreamsTracked.{recv_goes}
-use Rattle.qh_streams.specs.Streams.{PlainStreams, IsPolled, counts_of, is_live, is_two_way, was_opened, with_blocked, with_counts}
+use Rattle.qh_streams.specs.Streams.{PlainStreams, IsPolled, is_live, is_two_way, was_opened, with_blocked, with_counts}
 use Rattle.qh_streams.specs.Streams.IsPolled.{writable, queued, none as nothing_polled}
 use Rattle.qh_streams.specs.declared.frames.StreamEvent.{StreamEvent}
 use Rattle.qh_transcript.proofs.ReceivingOpened.{opened_new}

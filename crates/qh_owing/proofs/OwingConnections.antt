@@ -1,5 +1,5 @@
 -- A connection that is handed datagrams and moments, and hands datagrams out: what it owes is kept while it is open.
-use Rattle.std.proofs.Common.{◌≡◌, ℕ, ◌-◌, ◌<◌, ◌^◌, Bool, true, false, List, [], ◌∷◌, ◌++◌, length, drop, Option, Some, None, refl, sym, ap, subst, ◌∙◌, inl, inr, arith, append_assoc}
+use Rattle.std.proofs.Common.{◌≡◌, ℕ, ◌+◌, ◌-◌, ◌<◌, ◌^◌, Bool, true, false, List, [], ◌∷◌, ◌++◌, length, drop, Option, Some, None, refl, sym, ap, subst, ◌∙◌, inl, inr, arith, append_assoc}
 use Rattle.std.proofs.Math.Seq.{drop-append_seam}
 use Rattle.std.proofs.lemmas.Bool.{both_ways, cases_Bool}
 use Rattle.std.proofs.lemmas.List.{append-nil, append_cancel_left}
@@ -9,6 +9,7 @@ use Rattle.qh_base.specs.declared.memory.Memory.{Memory as OutOfMemory}
 use Rattle.qh_base.specs.declared.path.Transmit.{Transmit}
 use Rattle.qh_base.specs.declared.time.Moment.{Moment}
 use Rattle.qh_base.specs.declared.transport_error.TransportError.{TransportError}
+use Rattle.qh_core.proofs.ControlFrames.{bare_rest}
 use Rattle.qh_core.proofs.Ends.{ended_with, goes_on_open}
 use Rattle.qh_core.proofs.ExpectedNumbers.{expected_of}
 use Rattle.qh_core.specs.Follows.{event_acts, transmit_acts}
@@ -17,7 +18,7 @@ use Rattle.qh_core.specs.Receiving.{AreFramesTaken, GoesOnWith, IsAccepted, IsCl
 use Rattle.qh_core.specs.Receiving.IsDatagramTaken.{dropped as dropped_datagram, handled as handled_datagram, told_again, closed_too, draining as draining_datagram, drained as drained_datagram}
 use Rattle.qh_core.specs.Receiving.IsPacketHandled.{repeated, empty, faulty, unnoted, taken as taken_packet}
 use Rattle.qh_core.specs.Sending.{AreFramesMade, IsDatagramMade, NothingIsSent, datagram_of, overhead}
-use Rattle.qh_core.specs.Sending.AreFramesMade.{packet as packet_frames, close as close_frames}
+use Rattle.qh_core.specs.Sending.AreFramesMade.{packet as packet_frames, control as control_frames, close as close_frames}
 use Rattle.qh_core.specs.Timers.{AreLostByAge, IsProbed, IsTimedOut, restarted}
 use Rattle.qh_core.specs.Timers.IsTimedOut.{idle as idle_out, recovery as recovery_out, closed as closed_out, draining as draining_out, waits as waits_out, drained as drained_out}
 use Rattle.qh_core.specs.declared.event.ConnectionEvent.{ConnectionEvent}
@@ -25,18 +26,16 @@ use Rattle.qh_core.specs.declared.event.ConnectionEvent.TheVariants.{Datagram, C
 use Rattle.qh_core.specs.declared.inner.Inner.{Inner}
 use Rattle.qh_core.specs.declared.state.Close.{Close as CloseReason}
 use Rattle.qh_frame.specs.declared.frame.Frame.{Frame}
-use Rattle.qh_owing.proofs.InPackets.{kept_in}
-use Rattle.qh_owing.proofs.KeptStreams.{Reads, again, handed, reads_nothing}
+use Rattle.qh_owing.proofs.KeptStreams.{Reads, reads_nothing}
 use Rattle.qh_owing.proofs.NumbersKept.{HasSameNumbers, aged_same, frames_same, made_same, probed_same}
 use Rattle.qh_owing.proofs.OwingAcks.{aged_owing, frames_owing, probed_owing}
 use Rattle.qh_owing.proofs.OwingDatagrams.{come_more, in_before, out_before, owing_more}
-use Rattle.qh_owing.proofs.OwingPackets.{low_value, made_owing}
-use Rattle.qh_owing.specs.Owing.{AcceptsTag, AreAccepted, AreKept, AreOutCarried, IsByteAcknowledged, IsEndAcknowledged, IsOwing, MakesTags, NamesTags, Owes, Owing, WasAccepted, numbers_of}
+use Rattle.qh_owing.proofs.OwingPackets.{bare_owing, low_value, made_owing}
+use Rattle.qh_owing.specs.Owing.{AcceptsTag, AreAccepted, IsOwing, MakesTags, NamesTags, Owes, Owing, WasAccepted, numbers_of}
 use Rattle.qh_owing.specs.Owing.AreAccepted.{dropped as brings_none, repeated as brings_old, taken as brings_one}
 use Rattle.qh_packet.proofs.Packets.{has_packet}
 use Rattle.qh_packet.specs.Packet.{header_bytes, low_bytes, short_of}
 use Rattle.qh_recovery.specs.Accepted.{Remembers}
-use Rattle.qh_recovery.specs.declared.sent_packets.SentPacket.{SentPacket}
 use Rattle.qh_space.specs.declared.data_space.DataSpace.{DataSpace}
 use Rattle.qh_spec.proofs.Members.{in_last}
 use Rattle.qh_spec.proofs.PacketLaws.{tag_length}
@@ -45,11 +44,10 @@ use Rattle.qh_spec.specs.Datagram.{Packet, HasPacket, one_rtt}
 use Rattle.qh_spec.specs.Link.{other}
 use Rattle.qh_spec.specs.Lists.{In}
 use Rattle.qh_spec.specs.QuicFrames.{QuicFrame, AreQuicFrames}
-use Rattle.qh_spec.specs.Transcript.{Act, HandedIn, HandedOut, handed_in, handed_out}
+use Rattle.qh_spec.specs.Transcript.{Act, HandedIn, HandedOut, handed_in}
 use Rattle.qh_spec.specs.declared.sides.Side.{Side}
 use Rattle.qh_spec.specs.declared.sides.Space.{Space}
 use Rattle.qh_spec.specs.declared.sides.Space.TheVariants.{Data}
-use Rattle.qh_streams.specs.declared.frames.SentFrame.{SentFrame}
 use Rattle.qh_transcript.specs.Sending.{WriteNothing}
 
 pub in_writes_nothing : (d : List ℕ) → WriteNothing (HandedIn d ∷ [])
@@ -61,7 +59,7 @@ reads_in t d k = reads_nothing t (HandedIn d ∷ []) (in_writes_nothing d) (λ i
 last_in : (t : List Act) (d : List ℕ) → In d (handed_in (t ++ HandedIn d ∷ []))
 last_in t d = subst (λ (z : List (List ℕ)). In d z) (sym (handed_in-append t (HandedIn d ∷ []))) (in_last d (handed_in t))
 
-one_come : (t : List Act) (d : List ℕ) → handed_in (t ++ HandedIn d ∷ []) ≡ handed_in t ++ d ∷ []
+pub one_come : (t : List Act) (d : List ℕ) → handed_in (t ++ HandedIn d ∷ []) ≡ handed_in t ++ d ∷ []
 one_come t d = handed_in-append t (HandedIn d ∷ [])
 
 -- the space that took a packet owes what it owed, but what the packet acknowledges
@@ -141,14 +139,14 @@ module _ {S : Type 0} (accepts : AcceptsTag) where
       (λ accepted up p. owing_more (length c.remote_id) c.side accepted accepted t (t ++ HandedIn d ∷ []) c.space (λ x is. is) (out_before t (HandedIn d ∷ [])) (reads_in t d) p) o
 
   -- a datagram that is no packet for this end brings none
-  unopened : (c : Inner S) (t : List Act) (d : List ℕ) → ((number : ℕ) (bytes : List ℕ) → IsOpenedBy accepts c d number bytes → ⊥) → BringsNone c c t (HandedIn d ∷ [])
+  pub unopened : (c : Inner S) (t : List Act) (d : List ℕ) → ((number : ℕ) (bytes : List ℕ) → IsOpenedBy accepts c d number bytes → ⊥) → BringsNone c c t (HandedIn d ∷ [])
   unopened c t d never = λ accepted up known are.
       let e = expected_of c.space in
       subst (λ (z : List (List ℕ)). AreAccepted accepts c.local_id (other c.side) z accepted) (sym (one_come t d))
       (brings_none (handed_in t) d accepted e.0 are (e.1 (numbers_of accepted) known) (λ number bytes is. never number bytes (record { expected = e.0; is_expected = e.1; is = is })))
 
   -- nor one whose number isn't new
-  not_new : (c : Inner S) (t : List Act) (d : List ℕ) (number : ℕ) (bytes : List ℕ) → IsOpenedBy accepts c d number bytes → IsOldTo c.space number → BringsNone c c t (HandedIn d ∷ [])
+  pub not_new : (c : Inner S) (t : List Act) (d : List ℕ) (number : ℕ) (bytes : List ℕ) → IsOpenedBy accepts c d number bytes → IsOldTo c.space number → BringsNone c c t (HandedIn d ∷ [])
   not_new c t d number bytes o known_already = λ accepted up known are.
       subst (λ (z : List (List ℕ)). AreAccepted accepts c.local_id (other c.side) z accepted) (sym (one_come t d))
       (brings_old (handed_in t) d accepted o.expected number bytes are (o.is_expected (numbers_of accepted) known) o.is (known_already (numbers_of accepted) known))
@@ -298,6 +296,13 @@ module _ {S : Type 0} (accepts : AcceptsTag) where
       let m = made_owing (length old.remote_id) old.side accepted t now.0 (overhead old) (1200 - overhead old) old.space new.space header (header ++ bytes) packet_made p in
       let same_bytes : m.bytes ≡ bytes = sym (append_cancel_left header bytes m.bytes m.appended) in
       m.owing (datagram_of sealed old bytes) (sealed_packet sealed old bytes m.frames makes below (subst (λ (z : List ℕ). AreQuicFrames z m.frames) same_bytes m.are))) o
+  frames_made sealed now old new header bytes t makes below (control_frames opened made e) o =
+      let d = datagram_of sealed old bytes in
+      let u = HandedOut d ∷ [] in
+      let size = overhead old + length bytes in
+      on old new t u (record { side = ap (λ (c : Inner S). c.side) e; local = ap (λ (c : Inner S). c.local_id) e; remote = ap (λ (c : Inner S). c.remote_id) e; opens = λ up. opened; numbers = λ up. (bare_rest now.0 size old.space new.space made.sent).dedup })
+      (none_come old new t u refl)
+      (λ accepted up p. bare_owing (length old.remote_id) old.side accepted t now.0 size old.space new.space made.sent d p) o
   frames_made sealed now old new header bytes t makes below (close_frames reason until is frames_are e) o =
       subst (λ (c : Inner S). Owes accepts c (t ++ HandedOut (datagram_of sealed old bytes) ∷ [])) (sym e) (shut old _ t (HandedOut (datagram_of sealed old bytes) ∷ []) refl refl refl refl o)
 

@@ -1,5 +1,5 @@
 -- What a connection owes is kept over whatever calls are made.
-use Rattle.std.proofs.Common.{◌≡◌, ℕ, Bool, List, [], ◌∷◌, ◌++◌, Option, Some, None, refl, sym, subst}
+use Rattle.std.proofs.Common.{List, [], ◌++◌, Some, refl, sym, subst}
 use Rattle.std.specs.Prelude.{Ok}
 use Rattle.qh_core.proofs.MadeTogether.{carried_on}
 use Rattle.qh_core.specs.Made.{AcceptsTags, MakesTagsOf, AreMade, IsAnyCall, IsLocalCall, IsStreamCall}

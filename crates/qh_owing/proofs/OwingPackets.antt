@@ -23,7 +23,7 @@ use Rattle.qh_packet.specs.Packet.{low_bytes}
 use Rattle.qh_recovery.specs.PendingAcks.{IsAckPut}
 use Rattle.qh_recovery.specs.SentPackets.{packet_at}
 use Rattle.qh_recovery.specs.declared.sent_packets.SentPacket.{SentPacket}
-use Rattle.qh_space.specs.Sending.{AreElicitingPut, IsPacketMade, ReadsBack, bytes_if, may_elicit, ping_bytes, response_bytes, with_sent}
+use Rattle.qh_space.specs.Sending.{AreElicitingPut, IsPacketMade, IsSentBare, ReadsBack, bytes_if, may_elicit, ping_bytes, response_bytes, with_sent}
 use Rattle.qh_space.specs.declared.data_space.DataSpace.{DataSpace}
 use Rattle.qh_spec.proofs.Members.{in_last}
 use Rattle.qh_spec.proofs.TranscriptLaws.{handed_out-append}
@@ -346,3 +346,15 @@ module _ (id_length : ℕ) (side : Side) (accepted : List Packet) (t : List Act)
           ];
         };
       }
+
+  -- what is owed is kept behind a packet of which nothing would be sent again
+  pub bare_owing : (now size : ℕ) (old new : DataSpace) → IsSentBare now size old new → (d : List ℕ) → IsOwing id_length side accepted t old → IsOwing id_length side accepted (t ++ HandedOut d ∷ []) new
+  bare_owing now size old new bare d p =
+      subst (λ (s : DataSpace). IsOwing id_length side accepted (later d) s) (sym bare.new_is) (record {
+        kept = kept_more id_length side (handed_out t) (handed_out (later d)) accepted accepted t (later d) old.streams (out_before t (HandedOut d ∷ [])) (λ x is. is) (reads_out d) p.kept;
+        in_packets = sent_in old.streams old.sent old.next_number p.in_packets bare.packet old.streams (λ o w. inl w);
+        out = λ number q f there among. elim (last_or_before old.sent old.next_number number bare.packet q there) [
+          | inl before ↦ carried_more id_length side t (later d) old.sent (out_before t (HandedOut d ∷ [])) (reads_on id_length side t (later d) (reads_out d)) p.out number q f before among
+          | inr last ↦ absurd (subst (λ (fs : List SentFrame). In f fs) (ap (λ (s : SentPacket SentFrame). s.frames.items) (sym last.1) ∙ bare.nothing) among)
+        ];
+      })

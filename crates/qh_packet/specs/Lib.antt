@@ -1,4 +1,9 @@
 pub mod Frames
+pub mod Initial
+pub mod LongHeader
 pub mod Packet
+pub mod Retry
 pub mod Session
+pub mod Version
+pub mod VersionNegotiation
 pub mod View

@@ -115,7 +115,7 @@ fn get_packet(bytes: &[u8], id_length: usize) -> Option<ShortPacket<'_>>
 }
 
 // The number that at most four bytes are in network order.
-fn number_of(bytes: &[u8]) -> u64
+pub(crate) fn number_of(bytes: &[u8]) -> u64
     requires { length bytes.now ≤ 4 }
     ensures value { result ≡ be_value bytes.now }
     ensures bound { result < 256 ^ length bytes.now }

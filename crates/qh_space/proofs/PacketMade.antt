@@ -48,6 +48,35 @@ owed_without s packets number packet none owed =
       out = subst (λ (l : List SentFrame). AreAllOut s l) same owed.out;
     }
 
+-- nor with one that has none
+owed_with : (s : PlainStreams) (packets : Packets) (number : ℕ) (packet : SentPacket SentFrame) → packet.frames.items ≡ [] → AreOwed s packets → AreOwed s (packets ++ (number, packet) ∷ [])
+owed_with s packets number packet none owed =
+    let same : frames_out (packets ++ (number, packet) ∷ []) ≡ frames_out packets = frames_more packets number packet ∙ (ap (λ (l : List SentFrame). frames_out packets ++ l) none ∙ append-nil (frames_out packets)) in
+    record {
+      tracked = subst (λ (l : List SentFrame). AreTracked s l) (sym same) owed.tracked;
+      out = subst (λ (l : List SentFrame). AreAllOut s l) (sym same) owed.out;
+    }
+
+-- the space once a packet was sent of which nothing is kept
+pub bare_space : (old new : DataSpace) (packet : SentPacket SentFrame) → packet.frames.items ≡ [] → IsSpace old → old.next_number < 2 ^ 62 → new ≡ with_sent old packet true
+    → HasInstead old.sent new.sent old.next_number (Some packet) → IsSpace new
+bare_space old new packet none space below is has =
+    let has_packet : HasInstead old.sent (old.sent ++ (old.next_number, packet) ∷ []) old.next_number (Some packet) = subst (λ (l : Packets). HasInstead old.sent l old.next_number (Some packet)) (ap (λ (s : DataSpace). s.sent) is) has in
+    subst (λ (m : DataSpace). IsSpace m) (sym is) (record {
+      owed = owed_with old.streams old.sent old.next_number packet none space.owed;
+      next = λ k q there. elim (last_or_before old.sent _ old.next_number packet has_packet k q there) [
+        | inl same ↦ omega (arith, same)
+        | inr before ↦ let less = space.next k q before in omega (arith, less)
+      ];
+      bound = omega (arith, below);
+      acked = λ n e. let less = space.acked n e in omega (arith, less);
+      in_order = λ n e k q there late. elim (last_or_before old.sent _ old.next_number packet has_packet k q there) [
+        | inl same ↦ let less = space.acked n e in absurd (omega (arith, same, less, late))
+        | inr before ↦ space.in_order n e k q before late
+      ];
+      due = space.due;
+    })
+
 -- the packets that are out once this one was made
 abbrev pub with_packet : Packets → (number : ℕ) → SentPacket SentFrame → Bool → Packets
 with_packet packets number packet true = packets ++ (number, packet) ∷ []

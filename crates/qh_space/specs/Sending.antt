@@ -63,6 +63,14 @@ with_sent s packet true = record s {
 }
 with_sent s packet false = record s { next_number = s.next_number + 1 }
 
+-- An ack-eliciting packet was sent of which nothing is kept here that would be sent again (RFC 9002, appendix A.5).
+pub record IsSentBare (now size : ℕ) (old new : DataSpace) : Type 0 where
+  pub packet : SentPacket SentFrame
+  pub nothing : packet.frames.items ≡ []
+  pub time_is : packet.time_sent.0 ≡ now
+  pub size_is : packet.size ≡ size
+  pub new_is : new ≡ with_sent old packet true
+
 -- A packet was made: an ACK if one is due, then ack-eliciting frames if they may be sent. It has some frame, and no more
 -- bytes of frames than there is room for.
 pub record IsPacketMade (now overhead room : ℕ) (old new : DataSpace) (out_old out_new : List ℕ) : Type 0 where

@@ -1,6 +1,6 @@
 ghost use Rattle.std.specs.Prelude.{◌≡◌, ◌⊎◌, ◌+◌, ◌-◌, ◌<◌, ◌≤◌, ◌^◌, ◌++◌, length, None, Some, true, false, IfOk, IfSome, OnOk, OnErr};
 ghost use Rattle.qh_recovery.specs.SentPackets.{HasInstead, IsNext};
-ghost use Rattle.qh_space.specs.Sending.{ReadsBack, may_elicit, bytes_if, due_bytes, ping_bytes, response_bytes, with_sent, AreElicitingPut, IsAckFirst, IsPacketMade, IsQuiet};
+ghost use Rattle.qh_space.specs.Sending.{ReadsBack, may_elicit, bytes_if, due_bytes, ping_bytes, response_bytes, with_sent, AreElicitingPut, IsAckFirst, IsPacketMade, IsQuiet, IsSentBare};
 ghost use Rattle.qh_space.specs.Space.{IsSpace};
 ghost use Rattle.qh_streams.specs.Streams.{AreAllOut, AreShared, IsIdle, KeepsOut};
 
@@ -52,6 +52,22 @@ impl DataSpace {
         };
         self.count_sent(packet, acked < out.len())?;
         Ok(Some(number))
+    }
+
+    /// An ack-eliciting packet with the next number was made elsewhere, of this size, of which nothing is kept here that would be sent
+    /// again (RFC 9002, appendix A.5). After want of memory the space isn't to be used any more.
+    pub fn on_packet_sent(&mut self, alloc: Global, now: Moment, size: u64) -> Result<(), Memory>
+        requires space { IsSpace self.old }
+        requires bound { self.old.next_number < 2 ^ 62 }
+        ensures ok { OnOk result (IsSentBare now.0 size self.old self.new) }
+        ensures space { OnOk result (IsSpace self.new) }
+    {
+        let packet = SentPacket {
+            time_sent: now,
+            size,
+            frames: Vec::new(alloc),
+        };
+        self.track(packet)
     }
 
     /// Whether ack-eliciting frames may be sent: the window permits a datagram, or a probe is due (RFC 9002, sections 7 and 7.5).

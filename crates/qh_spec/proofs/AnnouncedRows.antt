@@ -16,10 +16,10 @@ use Rattle.qh_spec.proofs.GreetedRows.{announced_by_one}
 use Rattle.qh_spec.proofs.PacketLaws.{one_packet}
 use Rattle.qh_spec.proofs.PacketRows.{client_tag, client_tagged}
 
-abbrev max_data_packet : Packet
+abbrev pub max_data_packet : Packet
 max_data_packet = record { space = Data; sender = Client; number = 1000; frames = limit_frame Connection 5000 ∷ [] }
 
-max_data_shape : shape_of 16 ≡ Some (Number ∷ [])
+pub max_data_shape : shape_of 16 ≡ Some (Number ∷ [])
 unfolding shape_of
 max_data_shape = refl
 
@@ -45,7 +45,7 @@ max_data_whole = record {
   content = record { space_is = refl; tagged = client_tagged; low = refl; frames = max_data_frames };
 }
 
-max_data_there : HasPacket 8 max_data_packet carrying_max_data
+pub max_data_there : HasPacket 8 max_data_packet carrying_max_data
 max_data_there = one_rtt carrying_max_data max_data_whole
 
 -- the only packet

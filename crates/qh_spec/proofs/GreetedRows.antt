@@ -101,7 +101,7 @@ not_short bytes p high a =
     omega (arith, first, few, high)
 
 -- it has no other packet
-only_packet : (s : Side) (offset : ℕ) (payload : List ℕ) (p : Packet) → offset < 64 → length payload < 25 → HasPacket 8 p (carrying_crypto s offset payload) → p ≡ packet_of s offset payload
+pub only_packet : (s : Side) (offset : ℕ) (payload : List ℕ) (p : Packet) → offset < 64 → length payload < 25 → HasPacket 8 p (carrying_crypto s offset payload) → p ≡ packet_of s offset payload
 only_packet s offset payload p low short (one_rtt bytes h) = absurd (not_short (carrying_crypto s offset payload) p (omega arith) h)
 only_packet s offset payload p low short (initial front rest bytes e i) =
     (initials_agree front rest (carrying_crypto s offset payload) [] p (packet_of s offset payload) i (carrying_is s offset payload low short) (sym e ∙ sym (append-nil (carrying_crypto s offset payload)))).0
@@ -198,7 +198,7 @@ other_frames_not g =
     ]
 
 -- a list whose elements another one has at their places is its front
-front_of : (xs ys : List ℕ) → ((k b : ℕ) → slice_get xs k ≡ Some b → slice_get ys k ≡ Some b) → (rest : List ℕ) × (ys ≡ xs ++ rest)
+pub front_of : (xs ys : List ℕ) → ((k b : ℕ) → slice_get xs k ≡ Some b → slice_get ys k ≡ Some b) → (rest : List ℕ) × (ys ≡ xs ++ rest)
 front_of [] ys f = (ys, refl)
 front_of (x ∷ xs) [] f = absurd (let wrong : ◌≡◌ {A = Option ℕ} None (Some x) = f zero x refl in cc)
 front_of (x ∷ xs) (y ∷ ys) f =
@@ -211,10 +211,10 @@ front_of (x ∷ xs) (y ∷ ys) f =
 abbrev half_packet : List ℕ
 half_packet = carrying_crypto Client 0 first_half
 
-same_frame : (from : ℕ) (payload : List ℕ) → crypto_frame 0 first_half ≡ crypto_frame from payload → (from ≡ 0) × (payload ≡ first_half)
-same_frame from payload e =
-    let values : Num 0 ∷ Text first_half ∷ [] ≡ Num from ∷ Text payload ∷ [] = ap (λ (z : QuicFrame). z.values) e in
-    (let start : from ≡ 0 = cc in start, let bytes : payload ≡ first_half = cc in bytes)
+pub same_frame : (bytes : List ℕ) (from : ℕ) (payload : List ℕ) → crypto_frame 0 bytes ≡ crypto_frame from payload → (from ≡ 0) × (payload ≡ bytes)
+same_frame bytes from payload e =
+    let values : Num 0 ∷ Text bytes ∷ [] ≡ Num from ∷ Text payload ∷ [] = ap (λ (z : QuicFrame). z.values) e in
+    (let start : from ≡ 0 = cc in start, let same : payload ≡ bytes = cc in same)
 
 half_at : (offset byte : ℕ) → CarriesHello 8 (half_packet ∷ []) Client offset byte → slice_get first_half offset ≡ Some byte
 half_at offset byte c =
@@ -224,7 +224,7 @@ half_at offset byte c =
           = only_packet Client 0 first_half c.has.of.packet (omega arith) (omega arith) (subst (λ (z : List ℕ). HasPacket 8 c.has.of.packet z) (sym e) c.has.of.has) in
           elim (subst (λ (z : Packet). In (crypto_frame c.from c.payload) z.frames) same c.has.frame_among) [
             | inl f ↦
-                let r = same_frame c.from c.payload f in
+                let r = same_frame first_half c.from c.payload f in
                 let start = r.0 in
                 subst (λ (o : ℕ). slice_get first_half o ≡ Some byte) (let back : offset - c.from ≡ offset = omega (arith, start) in back)
                 (subst (λ (z : List ℕ). slice_get z (offset - c.from) ≡ Some byte) r.1 c.byte_is)

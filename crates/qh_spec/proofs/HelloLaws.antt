@@ -7,7 +7,7 @@ use Rattle.qh_spec.specs.declared.sides.Side.TheVariants.{Client, Server}
 use Rattle.qh_spec.specs.Varint.{IsVarint, varint}
 use Rattle.qh_spec.proofs.Cuts.{halves, inner, varints_agree, empty_front}
 use Rattle.qh_spec.proofs.Varints.{varint_spelled, one_form, no_empty_varint}
-use Rattle.qh_spec.specs.Hello.{Parameter, IsParameter, AreParameters, Hello, IsHello, HasSpelling, hello_byte, hello_bytes, parameter_bytes, value_of, SaysNumber, SaysLimits, SaysDatagramSize, FirstLimits}
+use Rattle.qh_spec.specs.Hello.{Parameter, IsParameter, AreParameters, Hello, IsHello, HasSpelling, hello_byte, hello_bytes, parameter_bytes, value_of, SaysNumber, SaysLimits, SaysDatagramSize, SaysResetToken, FirstLimits}
 use Rattle.qh_spec.specs.ParameterIds as parameter_ids
 
 parameters_one : (p q : Parameter) → p.id ≡ q.id → p.value ≡ q.value → p ≡ q
@@ -128,3 +128,6 @@ one_size h (Some m) (Some n) p q =
     let same : p.0 ≡ q.0 = some_same (value_of parameter_ids.max_datagram_frame_size h.parameters) p.0 q.0 p.1 q.1 in
     let e : m ≡ n = (one_form p.0 q.0 [] [] m n p.2 q.2 (ap (λ (z : List ℕ). z ++ []) same)).1 in
     ap (λ (z : ℕ). Some z) e
+
+pub one_token : (h : Hello) (m n : Option (List ℕ)) → SaysResetToken h m → SaysResetToken h n → m ≡ n
+one_token h m n p q = sym p ∙ q

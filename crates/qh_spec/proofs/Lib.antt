@@ -10,6 +10,7 @@ pub mod EventLaws
 pub mod EventRows
 pub mod FrameLaws
 pub mod FrameRows
+pub mod GreatestRows
 pub mod GreetedLaws
 pub mod GreetedRows
 pub mod HandshakeOrderLaws
@@ -21,6 +22,7 @@ pub mod HelloFaultRows
 pub mod HelloLaws
 pub mod HelloNearRows
 pub mod HelloRows
+pub mod HelloSaidRows
 pub mod HelloWritten
 pub mod HelloWrittenRows
 pub mod HttpFrameLaws

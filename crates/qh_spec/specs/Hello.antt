@@ -1,6 +1,6 @@
 -- The hello: what each end says first of itself, in the CRYPTO frames of Initial packets, in the place of a TLS handshake (own; the
 -- parameters are the transport parameters of RFC 9000, section 18).
-use Rattle.std.specs.Prelude.{◌≡◌, ℕ, ◌<◌, ◌≤◌, ◌^◌, ◌==◌, List, [], ◌∷◌, ◌++◌, length, flat_map, Option, Some, None, MatchOption, if◌then◌else◌}
+use Rattle.std.specs.Prelude.{◌≡◌, ℕ, ◌<◌, ◌≤◌, ◌^◌, ◌==◌, min, List, [], ◌∷◌, ◌++◌, length, flat_map, Option, Some, None, MatchOption, if◌then◌else◌}
 use Rattle.std.specs.List.{AllByRecursion}
 use Rattle.qh_spec.specs.declared.sides.Side.{Side}
 use Rattle.qh_spec.specs.declared.sides.Side.TheVariants.{Client, Server}
@@ -115,6 +115,31 @@ SaysDatagramSize h (Some n) = (value : List ℕ) × (value_of parameter_ids.max_
 -- the connection id that it sent its Initial packets from (RFC 9000, section 7.3)
 abbrev pub SaysSourceId : Hello → List ℕ → Type 0
 SaysSourceId h id = value_of parameter_ids.initial_source_connection_id h.parameters ≡ Some id
+
+-- the destination id of the client's first Initial packet, if it says one (RFC 9000, section 7.3)
+abbrev pub SaysOriginalId : Hello → Option (List ℕ) → Type 0
+SaysOriginalId h id = value_of parameter_ids.original_destination_connection_id h.parameters ≡ id
+
+-- the source id of the Retry packet, if it says one (RFC 9000, section 7.3)
+abbrev pub SaysRetryId : Hello → Option (List ℕ) → Type 0
+SaysRetryId h id = value_of parameter_ids.retry_source_connection_id h.parameters ≡ id
+
+-- the token of its stateless resets, if it says one (RFC 9000, sections 10.3 and 18.2)
+abbrev pub SaysResetToken : Hello → Option (List ℕ) → Type 0
+SaysResetToken h token = value_of parameter_ids.stateless_reset_token h.parameters ≡ token
+
+-- the server name, empty if it asks for none (own)
+abbrev pub SaysServerName : Hello → List ℕ → Type 0
+SaysServerName h name = h.server_name ≡ name
+
+-- The idle timeout that is in force at an end, in milliseconds, of the one that it says itself and the one that its peer says, where 0
+-- is none: "the minimum of the two advertised values (or the sole advertised value, if only one endpoint advertises a non-zero value)"
+-- (RFC 9000, section 10.1). None: there is no idle timeout at all. That an end waits three probe timeouts at least isn't in it.
+abbrev pub idle_in_force : (own peer : ℕ) → Option ℕ
+idle_in_force own peer =
+    if own == 0 then (if peer == 0 then None else Some peer)
+    else if peer == 0 then Some own
+    else Some (min own peer)
 
 -- ---- the hello that an end writes (own)
 

@@ -1,5 +1,5 @@
 -- What a step leaves of all that the streams of a connection keep, and of the frames that are out.
-use Rattle.std.proofs.Common.{◌≡◌, ℕ, ◌+◌, ◌≤◌, ◌==◌, nat_lt, Bool, true, false, ◌&&◌, not, length, Option, Some, None, is_some, Result, Ok, Err, if◌then◌else◌, refl, sym, ap, ap₂, ◌∙◌, arith, inl, inr}
+use Rattle.std.proofs.Common.{◌≡◌, ℕ, ◌+◌, ◌≤◌, ◌==◌, nat_lt, Bool, true, false, ◌&&◌, ◌||◌, not, length, Option, Some, None, is_some, Result, Ok, Err, if◌then◌else◌, refl, sym, ap, ap₂, ◌∙◌, arith, inl, inr}
 use Rattle.std.proofs.lemmas.Bool.{false≢true}
 use Rattle.std.proofs.lemmas.Bool.Decides.{eqb_tells}
 use Rattle.qh_halves.specs.declared.counts.StreamCounts.{StreamCounts}
@@ -10,7 +10,7 @@ use Rattle.qh_halves.specs.SendHalves.{PlainSendHalves, send_at, IsStep, IsLast,
 use Rattle.qh_buffers.specs.declared.assembler.Chunk.{Chunk}
 use Rattle.qh_half.specs.declared.fault.ReadFault.{ReadFault}
 use Rattle.qh_half.specs.Recv.{PlainRecv}
-use Rattle.qh_halves.specs.RecvHalves.{PlainRecvHalves, recv_at, unless_done, IsBegunRead, IsRecvStep}
+use Rattle.qh_halves.specs.RecvHalves.{PlainRecvHalves, half_readable_fault, readable_fault_at, recv_at, unless_done, IsBegunRead, IsRecvStep}
 use Rattle.qh_streams.specs.Streams.{PlainStreams, AreStreams, KeepsOut, counts_of, with_counts, counted_closed, is_live, was_opened}
 
 -- what holds if a call went well, and if it didn't
@@ -207,6 +207,15 @@ never true true = refl
 never true false = refl
 never false true = refl
 never false false = refl
+
+-- a stream whose half may be read is live
+half_live : (sending : Bool) (o : Option PlainRecv) (ordered : Bool) → half_readable_fault o ordered ≡ None → true ≡ (sending || is_some o)
+half_live true o ordered e = refl
+half_live false None ordered e = absurd (cc)
+half_live false (Some r) ordered e = refl
+
+pub readable_live : (s : PlainStreams) (id : ℕ) (ordered : Bool) → readable_fault_at s.recv id ordered ≡ None → true ≡ is_live s id
+readable_live s id ordered e = half_live (is_some (send_at s.send id)) (recv_at s.recv id) ordered e
 
 -- if the receiving halves are as they were, no half went
 pub recv_unread : {s new : PlainStreams} (recv : PlainRecvHalves) (id : ℕ) (live : Bool) → new ≡ counted_closed (record s { recv = recv }) id live → recv ≡ s.recv → live ≡ is_live s id → new ≡ s

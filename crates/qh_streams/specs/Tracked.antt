@@ -1,5 +1,5 @@
 -- What is owed is queued or out: whatever a mark says was sent stands in a frame that is out (RFC 9002, section 2).
-use Rattle.std.specs.Prelude.{◌≡◌, ◌⊎◌, ℕ, ℤ, ◌<◌, ◌≤◌, Bool, true, false, List, [], ◌∷◌, Option, Some, None, Result}
+use Rattle.std.specs.Prelude.{◌≡◌, ◌⊎◌, ℕ, ℤ, ◌<◌, ◌≤◌, Bool, true, false, List, [], ◌∷◌, Option, Some, Result}
 use Rattle.qh_buffers.specs.SendBuffer.{mark_at}
 use Rattle.qh_buffers.specs.declared.send_buffer.Mark.TheVariants.{Sent}
 use Rattle.qh_buffers.specs.declared.assembler.Chunk.{Chunk}
@@ -9,7 +9,6 @@ use Rattle.qh_spec.specs.declared.sides.Dir.{Dir}
 use Rattle.qh_streams.specs.declared.frames.SentFrame.{SentFrame}
 use Rattle.qh_streams.specs.declared.frames.SentFrame.TheVariants as sent
 use Rattle.qh_half.specs.declared.send.SendState.TheVariants.{DataSent, ResetSent}
-use Rattle.qh_half.specs.declared.recv.StopFrame.{StopFrame}
 use Rattle.qh_half.specs.Send.{PlainSend, is_reset}
 use Rattle.qh_halves.specs.SendHalves.{PlainSendHalves, send_at, IsStep, Takes, Finishes, IsResetWith, HasPriority, IsStoppedWith, HasLimit}
 use Rattle.qh_half.specs.Recv.{PlainRecv}

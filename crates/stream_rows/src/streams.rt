@@ -74,9 +74,14 @@ impl StreamsEnd {
 
     // A frame comes, and the log keeps what it brings, where it is on.
     fn receive(&mut self, alloc: Global, frame: StreamFrame) -> Result<(), StreamFault> {
-        if !self.log.is_on() {
-            return self.streams.received(alloc, frame);
+        if self.log.is_on() {
+            return self.receive_noted(alloc, frame);
         }
+        self.streams.received(alloc, frame)
+    }
+
+    // The same with the log on.
+    fn receive_noted(&mut self, alloc: Global, frame: StreamFrame) -> Result<(), StreamFault> {
         let before = self.log.len();
         self.streams.note(&frame, &mut self.log)?;
         let received = self.streams.received(alloc, frame);
@@ -438,8 +443,10 @@ pub(crate) fn hand_over(
         let Ok((frame, behind)) = get_frame(rest) else {
             return Ok(());
         };
-        if let Some(frame) = coming(alloc, &frame)? {
-            to.receive(alloc, frame)?;
+        match coming(alloc, &frame)? {
+            Some(frame) if to.log.is_on() => to.receive_noted(alloc, frame)?,
+            Some(frame) => to.streams.received(alloc, frame)?,
+            None => {}
         }
         rest = behind;
     }

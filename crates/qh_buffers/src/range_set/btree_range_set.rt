@@ -205,6 +205,10 @@ fn insert_into(ranges: &mut BTreeMap<u64, u64>, range: Range<u64>) -> Result<(),
     ensures ok { OnOk result (IsAdded (paired ranges.old.entries) (paired ranges.new.entries) (record { start = range.start; end = range.end })) }
     ensures err { OnErr result (ranges.new.entries ≡ ranges.old.entries) }
 {
+    if let Some(last) = last_reaching(ranges, range.start) {
+        set_last_end(ranges, last.end.max(range.end));
+        return Ok(());
+    }
     let Some(earlier) = reaching(ranges, range.start) else {
         ranges.insert(range.start, range.end)?;
         absorb(ranges, range.start, range.end);
@@ -212,6 +216,27 @@ fn insert_into(ranges: &mut BTreeMap<u64, u64>, range: Range<u64>) -> Result<(),
     };
     absorb(ranges, earlier.start, earlier.end.max(range.end));
     Ok(())
+}
+
+/// The last range of all, where it starts at a number or before it and reaches to that number.
+fn last_reaching(ranges: &BTreeMap<u64, u64>, number: u64) -> Option<Range<u64>>
+    ensures { IfSome result (λ r. (front : List (ℕ × ℕ)) × (ranges.now.entries ≡ front ++ (r.start, r.end) ∷ []) × (r.start ≤ number) × (number ≤ r.end)) }
+{
+    let (start, end) = ranges.last_key_value()?;
+    if number < *start || *end < number {
+        return None;
+    }
+    Some(*start..*end)
+}
+
+/// Lets the last range of all end at an end. The others stay as they are.
+fn set_last_end(ranges: &mut BTreeMap<u64, u64>, end: u64)
+    requires { AreApart 0 (paired ranges.old.entries) }
+    ensures { (front : List (ℕ × ℕ)) → (last : ℕ × ℕ) → ranges.old.entries ≡ front ++ last ∷ [] → ranges.new.entries ≡ front ++ (last.0, end) ∷ [] }
+{
+    if let Some(entry) = ranges.last_entry() {
+        *entry.into_mut() = end;
+    }
 }
 
 /// The last range that starts at a number or before it, where it reaches to that number.

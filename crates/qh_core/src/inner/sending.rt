@@ -1,7 +1,7 @@
 ghost use Rattle.std.specs.Prelude.{Bool, nat_lt, if◌then◌else◌, ◌≡◌, ◌+◌, ◌-◌, ◌<◌, ◌≤◌, ◌^◌, ◌++◌, ℕ, List, length, None, Some, true, false, OnOk, OnErr, IfOk, IfSome};
 ghost use Rattle.qh_core.specs.Config.{bounded};
 ghost use Rattle.qh_core.specs.Inner.{IsConnection, IsFailedBy, is_open};
-ghost use Rattle.qh_core.specs.Sending.{AreBytesMade, AreFramesPut, ClosesReadBack, IsDatagramMade, NothingIsSent, close_frame, fault_type, overhead};
+ghost use Rattle.qh_core.specs.Sending.{AreBytesMade, ArePut, BearsNoControl, ClosesReadBack, IsDatagramMade, NothingIsSent, close_frame, fault_type, overhead};
 ghost use Rattle.qh_core.specs.Timers.{sent_at};
 ghost use Rattle.qh_base.specs.declared.time.Moment.{Moment as AMoment};
 ghost use Rattle.qh_core.specs.declared.state.Close.{Close as AClose};
@@ -17,10 +17,10 @@ use qh_packet::{TAG_LEN, put_header};
 use std::alloc::Global;
 
 /// No datagram has more bytes (RFC 9000, section 14).
-const DATAGRAM_SIZE: usize = 1_200;
+pub(super) const DATAGRAM_SIZE: usize = 1_200;
 
 /// Packet numbers are below this one (RFC 9000, section 12.3).
-const PACKET_NUMBERS: u64 = 1 << 62;
+pub(super) const PACKET_NUMBERS: u64 = 1 << 62;
 
 /// The bytes of a header beside the id, and of a tag.
 const OVERHEAD: usize = 5 + TAG_LEN;
@@ -36,6 +36,7 @@ impl<S: Session> Inner<S> {
     ) -> Result<Option<Transmit>, Memory>
         requires { IsConnection self.old }
         ensures some { IfOk result (λ o. IfSome o (λ t. IsDatagramMade (S.sealed self.old.session) now self.old self.new buf.old.items buf.new.items t)) }
+        ensures no_control { IfOk result (λ o. IfSome o (λ t. BearsNoControl (S.sealed self.old.session) now self.old self.new buf.old.items buf.new.items)) }
         ensures read_back { IfOk result (λ o. IfSome o (λ t. ClosesReadBack self.old.state)) }
         ensures tag { IfOk result (λ o. IfSome o (λ t. length (S.sealed self.old.session self.old.side Data self.old.space.next_number) ≡ 32)) }
         ensures none { IfOk result (λ o. o ≡ None → (buf.new.items ≡ buf.old.items) × NothingIsSent self.old self.new) }
@@ -68,6 +69,7 @@ impl<S: Session> Inner<S> {
     ) -> Result<Option<usize>, Memory>
         requires { IsConnection self.old }
         ensures some { IfOk result (λ o. IfSome o (λ size. AreBytesMade (S.sealed self.old.session) now self.old self.new buf.old.items buf.new.items size)) }
+        ensures no_control { IfOk result (λ o. IfSome o (λ size. BearsNoControl (S.sealed self.old.session) now self.old self.new buf.old.items buf.new.items)) }
         ensures read_back { IfOk result (λ o. IfSome o (λ size. ClosesReadBack self.old.state)) }
         ensures tag { IfOk result (λ o. IfSome o (λ size. length (S.sealed self.old.session self.old.side Data self.old.space.next_number) ≡ 32)) }
         ensures none { IfOk result (λ o. o ≡ None → (buf.new.items ≡ buf.old.items) × NothingIsSent self.old self.new) }
@@ -92,7 +94,7 @@ impl<S: Session> Inner<S> {
 
 impl<S> Inner<S> {
     // The bytes of a datagram around its frames.
-    fn overhead(&self) -> usize
+    pub(super) fn overhead(&self) -> usize
         ensures value { result ≡ overhead self.now }
         ensures short { result ≤ 57 }
     {
@@ -110,7 +112,7 @@ impl<S> Inner<S> {
         requires whole { IsConnection self.old }
         requires room { room ≡ 1200 - overhead self.old }
         requires wide { 1143 ≤ room }
-        ensures some { IfOk result (λ some. some ≡ true → AreFramesPut now self.old self.new out.old.items out.new.items) }
+        ensures some { IfOk result (λ some. some ≡ true → ArePut now self.old self.new out.old.items out.new.items) }
         ensures read_back { IfOk result (λ some. some ≡ true → ClosesReadBack self.old.state) }
         ensures none { IfOk result (λ some. some ≡ false → NothingIsSent self.old self.new) }
         ensures rest { self.new ≡ record self.old { space = self.new.space; idle = self.new.idle; state = self.new.state } }
@@ -137,7 +139,7 @@ impl<S> Inner<S> {
         requires open { is_open self.old.state ≡ true }
         requires room { room ≡ 1200 - overhead self.old }
         requires wide { 1143 ≤ room }
-        ensures some { IfOk result (λ some. some ≡ true → AreFramesPut now self.old self.new out.old.items out.new.items) }
+        ensures some { IfOk result (λ some. some ≡ true → ArePut now self.old self.new out.old.items out.new.items) }
         ensures none { IfOk result (λ some. some ≡ false → NothingIsSent self.old self.new) }
         ensures rest { self.new ≡ record self.old { space = self.new.space; idle = self.new.idle } }
         ensures connection { OnOk result (IsConnection self.new) }
@@ -150,7 +152,7 @@ impl<S> Inner<S> {
     }
 
     // The idle time runs from now on, where an ack-eliciting packet is out now beside so many that were.
-    fn restart_idle(&mut self, now: Moment, were_out: usize)
+    pub(super) fn restart_idle(&mut self, now: Moment, were_out: usize)
         ensures { self.new ≡ record self.old { idle = (if nat_lt were_out (length self.old.space.sent) then sent_at now self.old.idle else self.old.idle) } }
     {
         if were_out < self.space.sent.len() {
@@ -163,7 +165,7 @@ impl<S> Inner<S> {
         requires whole { IsConnection self.old }
         requires wide { 1143 ≤ 1200 - overhead self.old }
         requires due { (reason : AClose) × (until : AMoment) × (self.old.state ≡ Closed reason true until) }
-        ensures some { IfOk result (λ some. some ≡ true → (now : AMoment) → AreFramesPut now self.old self.new out.old.items out.new.items) }
+        ensures some { IfOk result (λ some. some ≡ true → (now : AMoment) → ArePut now self.old self.new out.old.items out.new.items) }
         ensures read_back { IfOk result (λ some. some ≡ true → ClosesReadBack self.old.state) }
         ensures none { IfOk result (λ some. some ≡ false → NothingIsSent self.old self.new) }
         ensures rest { self.new ≡ record self.old { space = self.new.space; state = self.new.state } }
@@ -180,7 +182,7 @@ impl<S> Inner<S> {
 }
 
 // Appends a tag, which has 32 bytes.
-fn put_tag(buf: &mut Vec<u8>, tag: &[u8; 32]) -> Result<(), Memory>
+pub(super) fn put_tag(buf: &mut Vec<u8>, tag: &[u8; 32]) -> Result<(), Memory>
     ensures put { OnOk result (buf.new.items ≡ buf.old.items ++ tag.now) }
     ensures size { length tag.now ≡ 32 }
 {
@@ -188,7 +190,7 @@ fn put_tag(buf: &mut Vec<u8>, tag: &[u8; 32]) -> Result<(), Memory>
 }
 
 // Appends bytes. Where memory lacks nothing is appended.
-fn put_bytes(buf: &mut Vec<u8>, bytes: &[u8]) -> Result<(), Memory>
+pub(super) fn put_bytes(buf: &mut Vec<u8>, bytes: &[u8]) -> Result<(), Memory>
     ensures put { OnOk result (buf.new.items ≡ buf.old.items ++ bytes.now) }
     ensures err { OnErr result (buf.new.items ≡ buf.old.items) }
 {

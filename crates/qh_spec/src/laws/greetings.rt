@@ -4,7 +4,7 @@
 ghost use Rattle.std.specs.Prelude.{◌≡◌, ◌≤◌, ◌⊎◌, ◌++◌, ◌∷◌, ℕ, List, [], true, false};
 ghost use Rattle.qh_spec.specs.Announced.{Limit, Connection, Stream, first_limit, Announces, IsAnnounced, IsPermitted};
 ghost use Rattle.qh_spec.specs.Greeted.{GreetsInOrder, SentInOrder, AreBothGreeted, HasGreetedInOrder, HasPacketOf, HasCrypto, IsGreeted, AreAnnouncedFirst};
-ghost use Rattle.qh_spec.specs.GreetedRows.{carrying_crypto, limit_hello, first_half, second_half, hello_limits, carrying_max_data, greeting_events};
+ghost use Rattle.qh_spec.specs.GreetedRows.{carrying_crypto, limit_hello, first_half, second_half, hello_limits, carrying_max_data, carrying_low_max_data, hello_and, greeting_events};
 ghost use Rattle.qh_spec.specs.HandshakeOrder.{Progress, Orders};
 ghost use Rattle.qh_spec.specs.Hello.{FirstLimits};
 ghost use Rattle.qh_spec.specs.Honest.{IsHonest};
@@ -115,4 +115,16 @@ pub fn announced_rows()
     ensures other_sender { (limit : Limit) (n : ℕ) → Announces 8 (carrying_max_data ∷ []) Server limit n → ⊥ }
     ensures streams { (l : FirstLimits) → (first_limit Client l (Stream 4) ≡ l.bidi_local) × (first_limit Client l (Stream 5) ≡ l.bidi_remote)
         × (first_limit Client l (Stream 7) ≡ l.uni) × (first_limit Server l (Stream 4) ≡ l.bidi_remote) × (first_limit Server l (Stream 5) ≡ l.bidi_local) × (first_limit Server l (Stream 6) ≡ l.uni) }
+{}
+
+/// Of a hello's limit and a MAX frame's the greatest is announced, whichever has it: the frame raises the hello's limit, and can't lower
+/// it.
+pub fn greatest_rows()
+    ensures raised { IsAnnounced 8 (hello_and carrying_max_data) Client Connection 5000 }
+    ensures near_raised { IsAnnounced 8 (hello_and carrying_max_data) Client Connection 1000 → ⊥ }
+    ensures kept { IsAnnounced 8 (hello_and carrying_low_max_data) Client Connection 1000 }
+    ensures near_kept { IsAnnounced 8 (hello_and carrying_low_max_data) Client Connection 50 → ⊥ }
+    ensures lower { Announces 8 (hello_and carrying_low_max_data) Client Connection 50 }
+    ensures all_values { (n : ℕ) → Announces 8 (hello_and carrying_low_max_data) Client Connection n → (n ≡ 1000) ⊎ (n ≡ 50) }
+    ensures permitted { (amount : ℕ) → IsPermitted 8 (hello_and carrying_low_max_data) Client Connection amount → amount ≤ 1000 }
 {}

@@ -1,7 +1,7 @@
 //! Laws of the hello: it has one reading, what is written is read back, what it says, and when it is refused.
 
-ghost use Rattle.std.specs.Prelude.{◌≡◌, ◌++◌, ◌<◌, ◌⊎◌, ℕ, List, [], ◌∷◌, length, Option, Some, None};
-ghost use Rattle.qh_spec.specs.Hello.{Hello, IsHello, IsHelloOf, HasSpelling, hello_bytes, SaysNumber, FirstLimits, SaysLimits, SaysIdleTimeout, SaysIdLimit, SaysDatagramSize, SaysSourceId, Greeting, hello_of, IsSayable};
+ghost use Rattle.std.specs.Prelude.{◌≡◌, ◌++◌, ◌<◌, ◌≤◌, ◌⊎◌, ℕ, min, List, [], ◌∷◌, length, codes, Option, Some, None};
+ghost use Rattle.qh_spec.specs.Hello.{Hello, IsHello, IsHelloOf, HasSpelling, hello_bytes, SaysNumber, FirstLimits, SaysLimits, SaysIdleTimeout, SaysIdLimit, SaysDatagramSize, SaysSourceId, SaysOriginalId, SaysRetryId, SaysResetToken, SaysServerName, idle_in_force, Greeting, hello_of, IsSayable};
 ghost use Rattle.qh_spec.specs.HelloFaults.{IdsUsed, HelloFault, NotAHello, LongName, RepeatedId, ServerOnly, NotANumber, OtherId, TokenLength, OutOfRange, IsAcceptable, HasHelloFault, IsHelloFault};
 ghost use Rattle.qh_spec.specs.HelloRows.{full_greeting, full_bytes, plain_greeting, plain_bytes, client_hello_bytes, client_hello, client_limits, client_ids, short_hello, plain_hello, source_bytes, source, original_bytes, original, least_ids, most_streams, known_at_server, known_at_client, short_token};
 ghost use Rattle.qh_spec.specs.declared.sides.Side.TheVariants.{Client, Server};
@@ -14,11 +14,12 @@ pub fn reading()
     ensures read_back { (h g : Hello) (a x y : List ℕ) → HasSpelling h → IsHello a g → hello_bytes h ++ x ≡ a ++ y → g ≡ h }
 {}
 
-/// A hello says one number of each parameter, one set of limits, and one size of DATAGRAM frames.
+/// A hello says one number of each parameter, one set of limits, one size of DATAGRAM frames and one reset token.
 pub fn saying()
     ensures one_number { (id default m n : ℕ) (h : Hello) → SaysNumber id default h m → SaysNumber id default h n → m ≡ n }
     ensures one_limits { (h : Hello) (l m : FirstLimits) → SaysLimits h l → SaysLimits h m → l ≡ m }
     ensures one_size { (h : Hello) (m n : Option ℕ) → SaysDatagramSize h m → SaysDatagramSize h n → m ≡ n }
+    ensures one_token { (h : Hello) (m n : Option (List ℕ)) → SaysResetToken h m → SaysResetToken h n → m ≡ n }
 {}
 
 /// The hello of a greeting has a spelling, and says what the greeting has.
@@ -28,7 +29,37 @@ pub fn greeting()
     ensures idle { (g : Greeting) → IsSayable g → SaysIdleTimeout (hello_of g) g.idle }
     ensures id_limit { (g : Greeting) → IsSayable g → SaysIdLimit (hello_of g) g.id_limit }
     ensures source_id { (g : Greeting) → SaysSourceId (hello_of g) g.source_id }
+    ensures original_id { (g : Greeting) → SaysOriginalId (hello_of g) g.original_id }
+    ensures retry_id { (g : Greeting) → SaysRetryId (hello_of g) g.retry_id }
+    ensures reset_token { (g : Greeting) → SaysResetToken (hello_of g) g.reset_token }
+    ensures server_name { (g : Greeting) → SaysServerName (hello_of g) g.server_name }
     ensures datagram { (g : Greeting) → IsSayable g → SaysDatagramSize (hello_of g) g.datagram }
+{}
+
+/// The idle timeout that is in force between two ends: none if neither says one, the only one, or the lesser. Both ends have the same,
+/// and it is no longer than what an end said.
+pub fn idle_times()
+    ensures neither { idle_in_force 0 0 ≡ None }
+    ensures own_alone { (own : ℕ) → 0 < own → idle_in_force own 0 ≡ Some own }
+    ensures peer_alone { (peer : ℕ) → 0 < peer → idle_in_force 0 peer ≡ Some peer }
+    ensures lesser { (own peer : ℕ) → 0 < own → 0 < peer → idle_in_force own peer ≡ Some (min own peer) }
+    ensures same_at_both { (own peer : ℕ) → idle_in_force own peer ≡ idle_in_force peer own }
+    ensures none { (own peer : ℕ) → idle_in_force own peer ≡ None → (own ≡ 0) × (peer ≡ 0) }
+    ensures within { (own peer n : ℕ) → idle_in_force own peer ≡ Some n → (0 < n) × (0 < own → n ≤ own) × (0 < peer → n ≤ peer) }
+{}
+
+/// The idle timeouts in force between ends of which neither, one or both say one. It is not the greater of two, nor none where only one
+/// says none.
+pub fn idle_rows()
+    ensures neither { idle_in_force 0 0 ≡ None }
+    ensures peer_alone { idle_in_force 0 30000 ≡ Some 30000 }
+    ensures own_alone { idle_in_force 30000 0 ≡ Some 30000 }
+    ensures peer_less { idle_in_force 30000 20000 ≡ Some 20000 }
+    ensures own_less { idle_in_force 20000 30000 ≡ Some 20000 }
+    ensures equal { idle_in_force 30000 30000 ≡ Some 30000 }
+    ensures near_greater { idle_in_force 30000 20000 ≡ Some 30000 → ⊥ }
+    ensures near_zero { (idle_in_force 0 30000 ≡ Some 0 → ⊥) × (idle_in_force 30000 0 ≡ Some 0 → ⊥) × (idle_in_force 0 0 ≡ Some 0 → ⊥) }
+    ensures near_none { (idle_in_force 0 30000 ≡ None → ⊥) × (idle_in_force 30000 0 ≡ None → ⊥) }
 {}
 
 /// Bytes have a fault or are acceptable, and not both; of several faults the first is one. What an end writes is acceptable to a
@@ -57,6 +88,22 @@ pub fn rows()
     ensures server { IsAcceptable Server known_at_client (short_hello Server (source_bytes ++ original_bytes)) (plain_hello Server (source ∷ original ∷ [])) }
     ensures at_bounds { IsAcceptable Client known_at_server (short_hello Client (source_bytes ++ 14 ∷ 1 ∷ 2 ∷ 9 ∷ 8 ∷ 208 ∷ 0 ∷ 0 ∷ 0 ∷ 0 ∷ 0 ∷ 0 ∷ 0 ∷ []))
         (plain_hello Client (source ∷ least_ids ∷ most_streams ∷ [])) }
+{}
+
+/// The hello of a server that says all that it may has its ids and its token, and that of a client that says as little as it may has
+/// none of them; both have their numbers.
+pub fn said_rows()
+    ensures full { SaysOriginalId (hello_of full_greeting) (Some (208 ∷ 1 ∷ [])) × SaysRetryId (hello_of full_greeting) (Some (193 ∷ []))
+        × SaysResetToken (hello_of full_greeting) (Some (short_token ++ 16 ∷ [])) × SaysServerName (hello_of full_greeting) [] }
+    ensures plain { SaysOriginalId (hello_of plain_greeting) None × SaysRetryId (hello_of plain_greeting) None
+        × SaysResetToken (hello_of plain_greeting) None × SaysServerName (hello_of plain_greeting) (codes "a.test") }
+    ensures numbers { SaysIdleTimeout (hello_of full_greeting) 30000 × SaysIdLimit (hello_of full_greeting) 8 × SaysDatagramSize (hello_of full_greeting) (Some 1200)
+        × SaysIdleTimeout (hello_of plain_greeting) 0 × SaysIdLimit (hello_of plain_greeting) 2 × SaysDatagramSize (hello_of plain_greeting) None }
+    ensures near_full { (SaysResetToken (hello_of full_greeting) None → ⊥) × (SaysResetToken (hello_of full_greeting) (Some short_token) → ⊥)
+        × (SaysOriginalId (hello_of full_greeting) None → ⊥) × (SaysRetryId (hello_of full_greeting) (Some (208 ∷ 1 ∷ [])) → ⊥) }
+    ensures near_plain { (bytes : List ℕ) → (SaysResetToken (hello_of plain_greeting) (Some bytes) → ⊥) × (SaysOriginalId (hello_of plain_greeting) (Some bytes) → ⊥)
+        × (SaysRetryId (hello_of plain_greeting) (Some bytes) → ⊥) }
+    ensures near_name { SaysServerName (hello_of plain_greeting) [] → ⊥ }
 {}
 
 /// What a server writes that says all that it may, and what a client writes that says as little as it may, byte by byte.

@@ -139,9 +139,8 @@ impl Streams {
         ensures value { self.new ≡ counted_closed (record self.old { recv = self.new.recv }) id.0 (is_live self.old id.0) }
         ensures keeps_out { KeepsOut self.old self.new }
     {
-        let was_live = self.is_live(id);
         let result = self.recv.next(id.0, max_length);
-        self.count_closed(id, was_live);
+        self.count_closed(id, true);
         result
     }
 
@@ -167,9 +166,8 @@ impl Streams {
         ensures value { self.new ≡ counted_closed (record self.old { recv = self.new.recv }) id.0 (is_live self.old id.0) }
         ensures keeps_out { KeepsOut self.old self.new }
     {
-        let was_live = self.is_live(id);
         let result = self.recv.read(id.0, max_length, ordered);
-        self.count_closed(id, was_live);
+        self.count_closed(id, true);
         result
     }
 

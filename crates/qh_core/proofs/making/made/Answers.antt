@@ -1,5 +1,5 @@
 use Rattle.qh_core.proofs.MadeCalls.{accept_made, concurrent_made, finish_made, open_made, priority_made, read_made, receive_window_made, received_reset_made, reset_made, send_window_made, stop_made, write_chunks_made, write_made}
-use Rattle.qh_core.proofs.MadeEnds.{close_made, endpoint_made, event_made, poll_made, timeout_made, transmit_made}
+use Rattle.qh_core.proofs.MadeEnds.{close_made, control_made, endpoint_made, event_made, poll_made, timeout_made, transmit_made}
 use Rattle.qh_core.proofs.making.made.Goals as goal
 
 pub returns-clause-event : goal.returns-clause-event
@@ -7,6 +7,9 @@ returns-clause-event g c = event_made
 
 pub returns-clause-transmit : goal.returns-clause-transmit
 returns-clause-transmit g c = transmit_made
+
+pub returns-clause-control : goal.returns-clause-control
+returns-clause-control g c = control_made
 
 pub returns-clause-timeout : goal.returns-clause-timeout
 returns-clause-timeout g c = timeout_made

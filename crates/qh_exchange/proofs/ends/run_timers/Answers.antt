@@ -1,6 +1,7 @@
-use Rattle.std.proofs.Common.{◌≡◌, ◌⊎◌, inl, inr, Some}
+use Rattle.std.proofs.Common.{◌≡◌, ◌⊎◌, inl, inr, [], Some}
 use Rattle.qh_base.specs.declared.connection_error.ConnectionError.TheVariants as lost
 use Rattle.qh_exchange.specs.EndCalls.{HasWaited}
+use Rattle.qh_exchange.specs.Pair.{plain_accepts, plain_sealed}
 use Rattle.qh_exchange.proofs.EndSounds.{timed_session}
 use Rattle.qh_exchange.proofs.EndTicks.{idle_passed, memory_stays}
 use Rattle.qh_exchange.proofs.ends.run_timers.Goals as goal
@@ -21,5 +22,6 @@ returns c =
       failed = memory_stays c.args.now.0 c.args.end.now c.handle_timeout.new.self c.is_owed.ensures.open done;
       kept = kept.kept;
       due = done;
-      behaves = λ t b. c.behaves.ensures.timeout _ _ _ t done c.handle_timeout.ensures.same_end (c.handle_timeout.ensures.follows t b.follows) b;
+      made = c.made_together.ensures.local plain_accepts plain_sealed _ _ [] (c.made_together.ensures.one_local _ _ []
+          (c.made.ensures.timeout c.args.now.0 _ _ done kept c.handle_timeout.ensures.follows c.handle_timeout.ensures.same_end));
     }

@@ -1,12 +1,12 @@
-use Rattle.std.proofs.Common.{◌≡◌, refl, ◌∙◌, ap, subst, Bool, Ok, ℕ, List, ◌∷◌, [], ◌++◌, append-nil, ◌+◌, arith, inr, Some, true, false}
+use Rattle.std.proofs.Common.{◌≡◌, refl, ◌∙◌, ap, subst, Bool, Ok, ℕ, List, ◌∷◌, [], append-nil, ◌+◌, arith, inr, Some, true, false}
 use Rattle.std.proofs.lemmas.Result.{err_from_is_err_and}
-use Rattle.qh_conduct.specs.Behaves.{Behaves}
 use Rattle.qh_conduct.specs.Calls.{ToldTheSame}
 use Rattle.qh_spec.specs.Link.{told}
 use Rattle.qh_spec.specs.Turns.{IsOutput}
 use Rattle.qh_spec.specs.declared.link.Event.TheVariants.{Sent}
 use Rattle.qh_exchange.specs.EndCalls.{AreSent, polled_acts}
 use Rattle.qh_exchange.specs.Full.{IsSentOut}
+use Rattle.qh_exchange.specs.Pair.{IsMadeBy}
 use Rattle.qh_exchange.proofs.ClockSteps.{counts_link_fault, is_link_error}
 use Rattle.qh_exchange.proofs.EndCounts.{sent_none, sent_more, sent_all, sent_full, counts_more, told_same, told_trans}
 use Rattle.qh_exchange.proofs.EndSounds.{sound_failed, sound_sent, sound_ungiven}
@@ -24,7 +24,7 @@ returns-in_err-found-clause-step g c =
     rw p.1
     (end_step false c.args.now c.args.side _ _ _ _ (λ more. Unit {0}) c.is_owed.ensures.open
     (end_fails c.args.now c.args.side _ _ _ _ _ _ _ (λ more. Unit {0}) c.loop-datagram.invariant.step
-    (end_still false c.args.now c.args.side _ _ _ (λ more. Unit {0}) tt next.same_end next.undisturbed next.behaves (sound_failed _ _ _ _ _))))
+    (end_still false c.args.now c.args.side _ _ _ (λ more. Unit {0}) tt next.same_end next.undisturbed next.made (sound_failed _ _ _ _ _))))
 
 pub returns-then-not-found-clause-step : goal.returns-then-not-found-clause-step
 returns-then-not-found-clause-step g c =
@@ -32,7 +32,7 @@ returns-then-not-found-clause-step g c =
     end_step true c.args.now c.args.side _ _ _ _ _ c.is_owed.ensures.open
     (end_trans true c.args.now c.args.side _ _ _ _ _ _ _ (λ more. more ≡ []) (λ more. IsOutput c.args.side more × IsSentOut c.args.side (Some c.has_next.new.end) more × ToldTheSame c.args.end.now.space.streams c.has_next.new.end.space.streams) c.loop-datagram.invariant.step
     (end_still true c.args.now c.args.side _ _ _ (λ more. more ≡ []) refl next.same_end next.undisturbed
-    (λ t f. subst (λ (b : Bool). Behaves c.has_next.new.end (t ++ polled_acts c.has_next.new.datagram.items (Ok b))) c.if-not-found.true (next.behaves t f))
+    (subst (λ (b : Bool). IsMadeBy c.loop-datagram.end c.has_next.new.end (polled_acts c.has_next.new.datagram.items (Ok b))) c.if-not-found.true next.made)
     (sound_ungiven c.args.now c.args.side _ _ [] next.same_end next.session (λ _. next.open) (λ up _. c.is_owed-in-loop-datagram.ensures.open up) refl (λ datagram is i. absurd i)))
     (λ x y k m. (rw (m, append-nil) (sent_all c.args.side c.loop-datagram._datagram x (omega arith) k), inr (c.loop-datagram.end, next.none c.if-not-found.true), told_trans c.args.end.now.space.streams c.loop-datagram.end.space.streams c.has_next.new.end.space.streams c.loop-datagram.invariant.told next.told)))
 
@@ -44,7 +44,7 @@ returns-in_err-send-clause-step g c =
     (end_step false c.args.now c.args.side _ _ _ _ (λ more. Unit {0}) c.is_owed.ensures.open
     (end_fails c.args.now c.args.side _ _ _ _ _ _ _ (λ more. Unit {0}) c.loop-datagram.invariant.step
     (end_unsent c.args.now c.args.side _ _ _ _ c.has_next.new.datagram.items c.in_err-send.field-0.0 (λ more. Unit {0}) c.in_err-send.ensures.events tt next.same_end next.undisturbed
-    (λ t f. subst (λ (b : Bool). Behaves c.has_next.new.end (t ++ polled_acts c.has_next.new.datagram.items (Ok b))) c.if-not-found.false (next.behaves t f)))))
+    (subst (λ (b : Bool). IsMadeBy c.loop-datagram.end c.has_next.new.end (polled_acts c.has_next.new.datagram.items (Ok b))) c.if-not-found.false next.made))))
 
 pub returns-in_err-send-clause-cause : goal.returns-in_err-send-clause-cause
 returns-in_err-send-clause-cause g c =
@@ -71,7 +71,7 @@ loop-datagram-preserved g c =
     record {
       step = end_trans true c.args.now c.args.side _ _ _ _ _ _ _ (λ more. more ≡ Sent c.args.side datagram ∷ []) (AreSent c.args.side (c.loop-datagram._datagram + 1)) c.loop-datagram.invariant.step
           (end_sent c.args.now c.args.side _ _ _ _ datagram (λ more. more ≡ Sent c.args.side datagram ∷ []) sent refl next.same_end next.undisturbed
-          (λ t f. subst (λ (b : Bool). Behaves c.has_next.new.end (t ++ polled_acts datagram (Ok b))) c.if-not-found.false (next.behaves t f))
+          (subst (λ (b : Bool). IsMadeBy c.loop-datagram.end c.has_next.new.end (polled_acts datagram (Ok b))) c.if-not-found.false next.made)
           (sound_sent c.args.now c.args.side _ _ datagram next.same_end next.session next.open c.is_owed-in-loop-datagram.ensures.open (next.sealed c.if-not-found.false)))
           (λ x y k m. rw m (sent_more c.args.side c.loop-datagram._datagram datagram x k));
       up = next.open;

@@ -56,7 +56,7 @@ returns-in_err-hand_in-clause-step g c =
     rw p.1
     (end_step false c.args.now c.args.side _ _ _ _ (λ more. Unit {0}) c.is_owed.ensures.open
     (end_fails c.args.now c.args.side _ _ _ _ _ _ _ (λ more. Unit {0}) c.loop-datagram.invariant.step
-    (end_ungiven c.args.now c.args.side _ _ _ _ (take c.in-Some.len c.take.new.buf) (λ more. Unit {0}) given tt c.in_err-hand_in.ensures.same_end c.in_err-hand_in.ensures.undisturbed c.in_err-hand_in.ensures.behaves)))
+    (end_ungiven c.args.now c.args.side _ _ _ _ (take c.in-Some.len c.take.new.buf) (λ more. Unit {0}) given tt c.in_err-hand_in.ensures.same_end c.in_err-hand_in.ensures.undisturbed c.in_err-hand_in.ensures.made)))
 
 pub loop-datagram-preserved : goal.loop-datagram-preserved
 loop-datagram-preserved g c =
@@ -65,7 +65,7 @@ loop-datagram-preserved g c =
     let handed = c.in_ok-hand_in.ensures in
     record {
       step = end_trans true c.args.now c.args.side _ _ _ _ _ _ _ (λ more. more ≡ Given c.args.side (take c.in-Some.len c.take.new.buf) ∷ []) (AreGiven c.args.side (c.loop-datagram._datagram + 1)) c.loop-datagram.invariant.step
-          (end_given c.args.now c.args.side _ _ _ _ (take c.in-Some.len c.take.new.buf) (λ more. more ≡ Given c.args.side (take c.in-Some.len c.take.new.buf) ∷ []) given refl handed.same_end handed.undisturbed handed.behaves handed.sound)
+          (end_given c.args.now c.args.side _ _ _ _ (take c.in-Some.len c.take.new.buf) (λ more. more ≡ Given c.args.side (take c.in-Some.len c.take.new.buf) ∷ []) given refl handed.same_end handed.undisturbed handed.made handed.sound)
           (λ x y k m. rw m (given_more c.args.side c.loop-datagram._datagram (take c.in-Some.len c.take.new.buf) x k));
       moments = c.in_ok-len.ensures.moments ∙ c.loop-datagram.invariant.moments;
       faults = c.in_ok-len.ensures.cause.still refl ∙ c.loop-datagram.invariant.faults;

@@ -25,3 +25,6 @@ returns-clause-undisturbed g c =
 
 pub returns-clause-read_back : goal.returns-clause-read_back
 returns-clause-read_back g c = rw (← c.self.view_is) c.poll_transmit.ensures.read_back
+
+pub returns-clause-no_control : goal.returns-clause-no_control
+returns-clause-no_control g c = rw (← c.self.view_is) c.poll_transmit.ensures.no_control

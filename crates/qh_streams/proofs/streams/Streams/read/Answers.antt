@@ -1,5 +1,6 @@
-use Rattle.std.proofs.Common.{refl}
-use Rattle.qh_streams.proofs.StreamsKept.{recv_kept, recv_read, recv_stays_out, recv_unread}
+use Rattle.std.proofs.Common.{◌≡◌, refl, subst, sym, true}
+use Rattle.qh_streams.specs.Streams.{PlainStreams, is_live}
+use Rattle.qh_streams.proofs.StreamsKept.{readable_live, recv_kept, recv_read, recv_stays_out, recv_unread}
 use Rattle.qh_streams.proofs.streams.Streams.read.Goals as goal
 
 pub invariant_of-self : goal.invariant_of-self
@@ -10,8 +11,8 @@ returns-clause-answer c = rw (c.count_closed.ensures.halves.1, ← c.self.view_i
 
 pub returns-clause-memory : goal.returns-clause-memory
 returns-clause-memory c = λ wanting.
-    let live = rw (← c.self.view_is) at c.is_live-was_live.ensures in
-    rw (← c.self.view_is) (recv_unread c.read-result.new.self c.args.id.0 c.is_live-was_live.result c.count_closed.ensures.value (c.read-result.ensures.memory wanting) live)
+    let live = subst (λ (s : PlainStreams). true ≡ is_live s c.args.id.0) (sym c.self.view_is) (readable_live c.args.self.now c.args.id.0 c.args.ordered c.requires) in
+    rw (← c.self.view_is) (recv_unread c.read-result.new.self c.args.id.0 true c.count_closed.ensures.value (c.read-result.ensures.memory wanting) live)
 
 pub returns-clause-lacks : goal.returns-clause-lacks
 returns-clause-lacks c = rw (← c.self.view_is) c.read-result.ensures.lacks
