@@ -1,14 +1,33 @@
 //! The bytes that came and wait to be read.
-use crate::put_count;
+use crate::say::{Line, Row, read, shared};
 use bytes::Bytes;
-use qh_base::Memory;
 use qh_buffers::{Assembler, Chunk};
-use row_text::{RowFault, Words, put_bytes, put_number, put_text};
+use row_text::Words;
 use std::alloc::Global;
 use std::mem;
 
 // Bytes in these rows end before this offset.
 const END: u64 = 1 << 32;
+
+// What is done to pieces.
+#[derive(Clone, Copy)]
+enum Call {
+    New,
+    Insert,
+    Many,
+    Clear,
+    Ordered,
+    Pieces,
+}
+
+const CALLS: [(&str, Call, u8); 6] = [
+    ("new", Call::New, 0),
+    ("insert", Call::Insert, 0),
+    ("many", Call::Many, 2),
+    ("clear", Call::Clear, 0),
+    ("ordered", Call::Ordered, 1),
+    ("pieces", Call::Pieces, 1),
+];
 
 /// The pieces of a stream that came.
 #[derive(Drop)]
@@ -24,91 +43,113 @@ impl Pieces {
     }
 
     /// Answers a row of `assembler`.
-    pub(crate) fn answer(
-        &mut self,
-        alloc: Global,
-        words: &mut Words<'_>,
-        out: &mut Vec<u8>,
-    ) -> Result<(), RowFault> {
-        match words.next() {
-            "new" => drop(mem::replace(self, Pieces::new(alloc))),
-            "insert" => self.insert_all(alloc, words)?,
-            "many" => self.insert_many(alloc, words)?,
-            "clear" => self.assembler.clear(),
-            "ordered" => return self.read_all(words, true, out),
-            "pieces" => return self.read_all(words, false, out),
-            _ => return Err(RowFault::Form),
+    pub(crate) fn answer(&mut self, alloc: Global, words: &mut Words<'_>, out: &mut Line) {
+        let Some(row) = read(&CALLS, words) else {
+            return out.refuse();
+        };
+        match row.call {
+            Call::New => drop(mem::replace(self, Pieces::new(alloc))),
+            Call::Insert => self.insert_all(alloc, words, out),
+            Call::Many => self.insert_many(alloc, row, words, out),
+            Call::Clear => self.assembler.clear(),
+            Call::Ordered => return self.read_all(row.first, true, out),
+            Call::Pieces => return self.read_all(row.first, false, out),
         }
-        put_count(out, "read to ", self.assembler.read_to())?;
-        put_count(out, ", bytes read ", self.assembler.bytes_read())?;
-        Ok(())
+        let numbers = [self.assembler.read_to(), self.assembler.bytes_read()];
+        out.put_form("read to #, bytes read #", &numbers);
     }
 
     // OFFSET BYTES, so often: pieces come.
-    fn insert_all(&mut self, alloc: Global, words: &mut Words<'_>) -> Result<(), RowFault> {
+    fn insert_all(&mut self, alloc: Global, words: &mut Words<'_>, out: &mut Line) {
         for _piece in 0..u64::MAX {
-            if words.is_at_end() {
+            if words.is_at_end() || out.has_fault() {
                 break;
             }
-            let offset = words.number()?;
-            self.insert(offset, Bytes::from_vec(words.bytes(alloc)?)?)?;
+            self.insert_next(alloc, words, out);
         }
-        Ok(())
+    }
+
+    fn insert_next(&mut self, alloc: Global, words: &mut Words<'_>, out: &mut Line) {
+        let Ok(offset) = words.number() else {
+            return out.refuse();
+        };
+        match shared(alloc, words) {
+            Ok(bytes) => self.insert(offset, bytes, out),
+            Err(fault) => out.fail(fault),
+        }
     }
 
     // COUNT STEP BYTES: so many pieces of these bytes come, each that much behind the one before it.
-    fn insert_many(&mut self, alloc: Global, words: &mut Words<'_>) -> Result<(), RowFault> {
-        let count = words.number()?;
-        let step = words.number()?;
-        let bytes = Bytes::from_vec(words.bytes(alloc)?)?;
-        for place in 0..count {
-            self.insert(place.saturating_mul(step), bytes.clone()?)?;
-        }
-        Ok(())
-    }
-
-    fn insert(&mut self, offset: u64, bytes: Bytes) -> Result<(), RowFault> {
-        if offset >= END || bytes.len() as u64 >= END {
-            return Err(RowFault::Form);
-        }
-        self.assembler.insert(offset, bytes)?;
-        Ok(())
-    }
-
-    // MOST: reads at most so many bytes at a time until nothing is given.
-    fn read_all(
+    fn insert_many(
         &mut self,
+        alloc: Global,
+        row: Row<Call>,
         words: &mut Words<'_>,
-        ordered: bool,
-        out: &mut Vec<u8>,
-    ) -> Result<(), RowFault> {
-        let most = words.number()? as usize;
-        for piece in 0..u64::MAX {
-            match self.read(most, ordered)? {
-                Some(chunk) => {
-                    let told = put_chunk(out, piece, &chunk);
-                    drop(chunk);
-                    told?;
-                }
-                None if piece == 0 => return Ok(put_text(out, "nothing")?),
-                None => return Ok(()),
+        out: &mut Line,
+    ) {
+        match shared(alloc, words) {
+            Ok(bytes) => self.repeat(row.first, row.second, &bytes, out),
+            Err(fault) => out.fail(fault),
+        }
+    }
+
+    fn repeat(&mut self, count: u64, step: u64, bytes: &Bytes, out: &mut Line) {
+        for place in 0..count {
+            match bytes.clone() {
+                Ok(bytes) => self.insert(place.saturating_mul(step), bytes, out),
+                Err(_) => out.lack(),
             }
         }
-        Ok(())
     }
 
-    fn read(&mut self, most: usize, ordered: bool) -> Result<Option<Chunk>, RowFault> {
-        if most == 0 {
-            return Err(RowFault::Form);
+    fn insert(&mut self, offset: u64, bytes: Bytes, out: &mut Line) {
+        if offset >= END || bytes.len() as u64 >= END {
+            return out.refuse();
         }
-        Ok(self.assembler.read(most, ordered)?)
+        out.note(self.assembler.insert(offset, bytes));
+    }
+
+    // Reads at most so many bytes at a time until nothing is given.
+    fn read_all(&mut self, most: u64, ordered: bool, out: &mut Line) {
+        for piece in 0..u64::MAX {
+            if !self.tell_next(most as usize, ordered, piece, out) {
+                break;
+            }
+        }
+    }
+
+    // Reads once, and appends what is given. Whether something is.
+    fn tell_next(&mut self, most: usize, ordered: bool, piece: u64, out: &mut Line) -> bool {
+        if most == 0 {
+            out.refuse();
+            return false;
+        }
+        match self.assembler.read(most, ordered) {
+            Ok(given) => put_given(given, piece, out),
+            Err(_) => {
+                out.lack();
+                false
+            }
+        }
     }
 }
 
-// Appends a piece that was read, which isn't the first one but if its place is 0.
-fn put_chunk(out: &mut Vec<u8>, place: u64, chunk: &Chunk) -> Result<(), Memory> {
-    put_text(out, if place == 0 { "" } else { ", " })?;
-    put_number(out, chunk.offset)?;
-    put_text(out, " ")?;
-    put_bytes(out, &chunk.bytes)
+// Appends what a read gave, the first of them if its place is 0. Whether it gave something.
+fn put_given(given: Option<Chunk>, place: u64, out: &mut Line) -> bool {
+    match given {
+        Some(chunk) => {
+            put_chunk(place, &chunk, out);
+            true
+        }
+        None => {
+            out.put_either(place == 0, "nothing", "");
+            false
+        }
+    }
+}
+
+fn put_chunk(place: u64, chunk: &Chunk, out: &mut Line) {
+    out.put_either(place == 0, "", ", ");
+    out.put_form("# ", &[chunk.offset]);
+    out.put_hex(&chunk.bytes);
 }

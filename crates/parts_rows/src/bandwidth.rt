@@ -1,10 +1,36 @@
 //! The greatest of measurements, and the bandwidth.
 ghost use Rattle.std.specs.Prelude.{◌≤◌};
 
-use crate::{put_count, put_some};
+use crate::say::{Line, Row, read};
 use qh_base::{Moment, Span};
 use qh_parts::{BandwidthEstimation, MinMax};
-use row_text::{RowFault, Words, put_number};
+use row_text::Words;
+
+// What is done to a greatest measurement, or to a bandwidth.
+#[derive(Clone, Copy)]
+enum Call {
+    New,
+    Add,
+    Reset,
+    Sent,
+    Acked,
+    End,
+    Rate,
+}
+
+const GREATEST_CALLS: [(&str, Call, u8); 3] = [
+    ("new", Call::New, 0),
+    ("add", Call::Add, 2),
+    ("reset", Call::Reset, 0),
+];
+
+const BANDWIDTH_CALLS: [(&str, Call, u8); 5] = [
+    ("new", Call::New, 0),
+    ("sent", Call::Sent, 2),
+    ("acked", Call::Acked, 3),
+    ("end", Call::End, 0),
+    ("rate", Call::Rate, 2),
+];
 
 /// The greatest measurement of the last rounds.
 #[derive(Drop)]
@@ -24,28 +50,25 @@ impl Greatest {
     }
 
     /// Answers a row of `max`.
-    pub(crate) fn answer(
-        &mut self,
-        words: &mut Words<'_>,
-        out: &mut Vec<u8>,
-    ) -> Result<(), RowFault> {
-        match words.next() {
-            "new" => *self = Greatest::new(),
-            "add" => self.add(words.number()?, words.number()?)?,
-            "reset" => self.filter.reset(),
-            _ => return Err(RowFault::Form),
+    pub(crate) fn answer(&mut self, words: &mut Words<'_>, out: &mut Line) {
+        let Some(row) = read(&GREATEST_CALLS, words) else {
+            return out.refuse();
+        };
+        match row.call {
+            Call::New => *self = Greatest::new(),
+            Call::Add => self.add(row.first, row.second, out),
+            _ => self.filter.reset(),
         }
-        Ok(put_number(out, self.filter.get())?)
+        out.put_number(self.filter.get());
     }
 
-    fn add(&mut self, round: u64, measurement: u64) -> Result<(), RowFault> {
+    fn add(&mut self, round: u64, measurement: u64, out: &mut Line) {
         if round < self.round {
-            return Err(RowFault::Form);
+            return out.refuse();
         }
         let mut filter = self.filter;
         filter.update_max(round, measurement);
         *self = Greatest { filter, round };
-        Ok(())
     }
 }
 
@@ -73,62 +96,54 @@ impl Bandwidth {
     }
 
     /// Answers a row of `bandwidth`.
-    pub(crate) fn answer(
-        &mut self,
-        words: &mut Words<'_>,
-        out: &mut Vec<u8>,
-    ) -> Result<(), RowFault> {
-        match words.next() {
-            "new" => *self = Bandwidth::new(),
-            "sent" => self.send(words)?,
-            "acked" => self.ack(words)?,
-            "end" => self.estimation.end_acks(),
-            "rate" => {
-                let rate = BandwidthEstimation::bw_from_delta(
-                    words.number()?,
-                    Span(words.number()?),
-                );
-                return Ok(put_some(out, rate)?);
+    pub(crate) fn answer(&mut self, words: &mut Words<'_>, out: &mut Line) {
+        let Some(row) = read(&BANDWIDTH_CALLS, words) else {
+            return out.refuse();
+        };
+        match row.call {
+            Call::New => *self = Bandwidth::new(),
+            Call::Sent => self.send(row, out),
+            Call::Acked => self.ack(row, words.next() == "limited", out),
+            Call::End => self.estimation.end_acks(),
+            _ => {
+                let rate = BandwidthEstimation::bw_from_delta(row.first, Span(row.second));
+                return out.put_some("", rate);
             }
-            _ => return Err(RowFault::Form),
         }
-        put_number(out, self.estimation.get_estimate())?;
-        put_count(out, ", window ", self.estimation.bytes_acked_this_window())?;
-        Ok(())
+        let window = self.estimation.bytes_acked_this_window();
+        out.put_form("#, window #", &[self.estimation.get_estimate(), window]);
     }
 
-    fn send(&mut self, words: &mut Words<'_>) -> Result<(), RowFault> {
-        let now = Moment(words.number()?);
-        let bytes = words.number()?;
-        let sent = self.sent.checked_add(bytes).ok_or(RowFault::Form)?;
+    // NOW BYTES
+    fn send(&mut self, row: Row<Call>, out: &mut Line) {
+        let Some(sent) = self.sent.checked_add(row.second) else {
+            return out.refuse();
+        };
         let mut estimation = self.estimation;
-        estimation.on_sent(now, bytes);
+        estimation.on_sent(Moment(row.first), row.second);
         *self = Bandwidth {
             estimation,
             sent,
             acked: self.acked,
             round: self.round,
         };
-        Ok(())
     }
 
-    fn ack(&mut self, words: &mut Words<'_>) -> Result<(), RowFault> {
-        let now = Moment(words.number()?);
-        let bytes = words.number()?;
-        let round = words.number()?;
-        let is_limited = words.next() == "limited";
-        let acked = self.acked.checked_add(bytes).ok_or(RowFault::Form)?;
-        if round < self.round {
-            return Err(RowFault::Form);
+    // NOW BYTES ROUND
+    fn ack(&mut self, row: Row<Call>, is_limited: bool, out: &mut Line) {
+        let Some(acked) = self.acked.checked_add(row.second) else {
+            return out.refuse();
+        };
+        if row.third < self.round {
+            return out.refuse();
         }
         let mut estimation = self.estimation;
-        estimation.on_ack(now, bytes, round, is_limited);
+        estimation.on_ack(Moment(row.first), row.second, row.third, is_limited);
         *self = Bandwidth {
             estimation,
             sent: self.sent,
             acked,
-            round,
+            round: row.third,
         };
-        Ok(())
     }
 }

@@ -1,7 +1,7 @@
 //! Sources and sinks in memory.
-use crate::put_count;
+use crate::say::Line;
 use qh_base::{MemSink, MemSource, Memory, Sink, Source};
-use row_text::{RowFault, Words, put_bytes};
+use row_text::Words;
 use std::alloc::Global;
 
 // How many bytes are read and written at once.
@@ -11,18 +11,25 @@ const PIECE: usize = 4;
 const CALLS: u8 = 100;
 
 /// A source of these bytes that fails at this call (0: never) is read four bytes at a time, up to its end: `source FAILS BYTES`.
-pub(crate) fn answer_source(
-    alloc: Global,
-    words: &mut Words<'_>,
-    out: &mut Vec<u8>,
-) -> Result<(), RowFault> {
-    let fails = words.number()?;
-    let mut source = MemSource::new(words.bytes(alloc)?, Some(fails));
+pub(crate) fn answer_source(alloc: Global, fails: u64, words: &mut Words<'_>, out: &mut Line) {
+    match words.bytes(alloc) {
+        Ok(bytes) => tell_source(alloc, fails, bytes, out),
+        Err(fault) => out.fail(fault),
+    }
+}
+
+fn tell_source(alloc: Global, fails: u64, bytes: Vec<u8>, out: &mut Line) {
+    let mut source = MemSource::new(bytes, Some(fails));
     let mut bytes = Vec::new(alloc);
-    let failed = read_all(&mut source, &mut bytes)?;
-    put_bytes(out, &bytes)?;
-    put_count(out, ", failed ", failed)?;
-    Ok(())
+    match read_all(&mut source, &mut bytes) {
+        Ok(failed) => put_found(&bytes, failed, out),
+        Err(_) => out.lack(),
+    }
+}
+
+fn put_found(bytes: &[u8], failed: u64, out: &mut Line) {
+    out.put_hex(bytes);
+    out.put_form(", failed #", &[failed]);
 }
 
 // Reads to the end, and counts the calls that failed.
@@ -43,17 +50,25 @@ fn read_all<S: Source>(source: &mut S, bytes: &mut Vec<u8>) -> Result<u64, Memor
 /// `sink ROOM FAILS BYTES`.
 pub(crate) fn answer_sink(
     alloc: Global,
+    room: u64,
+    fails: u64,
     words: &mut Words<'_>,
-    out: &mut Vec<u8>,
-) -> Result<(), RowFault> {
-    let room = words.number()? as usize;
-    let fails = words.number()?;
-    let bytes = words.bytes(alloc)?;
-    let mut sink = MemSink::new(alloc, room, Some(fails))?;
-    let failed = write_all(&mut sink, &bytes);
-    put_bytes(out, sink.bytes())?;
-    put_count(out, ", failed ", failed)?;
-    Ok(())
+    out: &mut Line,
+) {
+    match words.bytes(alloc) {
+        Ok(bytes) => tell_sink(alloc, room, fails, &bytes, out),
+        Err(fault) => out.fail(fault),
+    }
+}
+
+fn tell_sink(alloc: Global, room: u64, fails: u64, bytes: &[u8], out: &mut Line) {
+    match MemSink::new(alloc, room as usize, Some(fails)) {
+        Ok(mut sink) => {
+            let failed = write_all(&mut sink, bytes);
+            put_found(sink.bytes(), failed, out);
+        }
+        Err(_) => out.lack(),
+    }
 }
 
 // Writes all that the sink takes, and counts the calls that failed.

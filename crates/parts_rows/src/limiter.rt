@@ -1,13 +1,27 @@
 //! The limiter of work.
 ghost use Rattle.std.specs.Prelude.{◌≤◌, IsSome};
 
-use crate::put_count;
+use crate::say::{Line, Row, read};
 use qh_base::{Moment, Span};
 use qh_parts::WorkLimiter;
-use row_text::{RowFault, Words};
+use row_text::Words;
 
 // The most batches that a cycle does.
 const MAX_BATCHES: u64 = 1_000;
+
+// What is done to a limiter.
+#[derive(Clone, Copy)]
+enum Call {
+    New,
+    Cycles,
+    Work,
+}
+
+const CALLS: [(&str, Call, u8); 3] = [
+    ("new", Call::New, 1),
+    ("cycles", Call::Cycles, 3),
+    ("work", Call::Work, 2),
+];
 
 /// A limiter, whose cycles begin when the ones before them end.
 #[derive(Drop)]
@@ -35,51 +49,49 @@ impl Limiter {
     }
 
     /// Answers a row of `limiter`.
-    pub(crate) fn answer(
-        &mut self,
-        words: &mut Words<'_>,
-        out: &mut Vec<u8>,
-    ) -> Result<(), RowFault> {
+    pub(crate) fn answer(&mut self, words: &mut Words<'_>, out: &mut Line) {
+        let Some(row) = read(&CALLS, words) else {
+            return out.refuse();
+        };
         let mut batches = 0u64;
-        match words.next() {
-            "new" => *self = Limiter::new(words.number()?),
-            "cycles" => batches = self.do_cycles(words)?,
-            "work" => {
-                self.start();
-                self.record(words.number()? as usize)?;
-                self.finish(words.number()?);
-            }
-            _ => return Err(RowFault::Form),
+        match row.call {
+            Call::New => *self = Limiter::new(row.first),
+            Call::Cycles => batches = self.do_cycles(row, out),
+            Call::Work => self.work(row, out),
         }
-        put_count(out, "batches ", batches)?;
-        put_count(out, ", allowed ", self.limiter.allowed() as u64)?;
-        Ok(())
+        let allowed = self.limiter.allowed() as u64;
+        out.put_form("batches #, allowed #", &[batches, allowed]);
+    }
+
+    // ITEMS NANOS: a cycle in which so many items take so long.
+    fn work(&mut self, row: Row<Call>, out: &mut Line) {
+        self.start();
+        self.record(row.first as usize, out);
+        self.finish(row.second);
     }
 
     // COUNT ITEMS NANOS: does so many cycles, and answers how many batches.
-    fn do_cycles(&mut self, words: &mut Words<'_>) -> Result<u64, RowFault> {
-        let count = words.number()?;
-        let items = words.number()? as usize;
-        let nanos = words.number()?;
+    fn do_cycles(&mut self, row: Row<Call>, out: &mut Line) -> u64 {
         let mut batches = 0u64;
-        for _cycle in 0..count {
-            batches = batches.saturating_add(self.do_cycle(items, nanos)?);
+        for _cycle in 0..row.first {
+            let done = self.do_cycle(row.second as usize, row.third, out);
+            batches = batches.saturating_add(done);
         }
-        Ok(batches)
+        batches
     }
 
     // Does batches of so many items while the cycle allows it, and answers how many.
-    fn do_cycle(&mut self, items: usize, nanos: u64) -> Result<u64, RowFault> {
+    fn do_cycle(&mut self, items: usize, nanos: u64, out: &mut Line) -> u64 {
         self.start();
         for batches in 0..MAX_BATCHES {
             if !self.limiter.allow_work(self.now) {
                 self.finish(0);
-                return Ok(batches);
+                return batches;
             }
-            self.record(items)?;
+            self.record(items, out);
             self.now = self.now.plus(Span(nanos));
         }
-        Ok(MAX_BATCHES)
+        MAX_BATCHES
     }
 
     fn start(&mut self) {
@@ -87,11 +99,12 @@ impl Limiter {
         self.done = 0;
     }
 
-    fn record(&mut self, items: usize) -> Result<(), RowFault> {
-        let done = self.done.checked_add(items).ok_or(RowFault::Form)?;
+    fn record(&mut self, items: usize, out: &mut Line) {
+        let Some(done) = self.done.checked_add(items) else {
+            return out.refuse();
+        };
         self.done = done;
         self.limiter.record_work(items);
-        Ok(())
     }
 
     // Ends the cycle so many nanoseconds later.

@@ -1,11 +1,53 @@
 //! The link in memory that follows a schedule.
-use crate::{put_count, put_some};
+use crate::say::{Line, find, read, shared};
 use bytes::Bytes;
-use qh_base::{Memory, Side};
+use qh_base::Side;
 use qh_link::{Event, Link, LinkFault, MAX_DATAGRAM, ScriptLink, Select, Upset, is_valid_upset};
-use row_text::{RowFault, Words, put_text};
+use row_text::{RowFault, Words};
 use std::alloc::Global;
 use std::mem;
+
+// What is done to a link.
+#[derive(Clone, Copy)]
+enum Call {
+    New,
+    Play,
+    Round,
+    Send,
+    Take,
+    Lose,
+    Twice,
+    Late,
+    Fail,
+    Forge,
+}
+
+const CALLS: [(&str, Call, u8); 10] = [
+    ("new", Call::New, 1),
+    ("play", Call::Play, 0),
+    ("round", Call::Round, 0),
+    ("send", Call::Send, 0),
+    ("take", Call::Take, 0),
+    ("lose", Call::Lose, 0),
+    ("twice", Call::Twice, 0),
+    ("late", Call::Late, 0),
+    ("fail", Call::Fail, 1),
+    ("forge", Call::Forge, 1),
+];
+
+// Which sends are meant.
+#[derive(Clone, Copy)]
+enum Which {
+    All,
+    Each,
+    One,
+}
+
+const SELECTS: [(&str, Which); 3] = [
+    ("all", Which::All),
+    ("each", Which::Each),
+    ("one", Which::One),
+];
 
 /// A link.
 #[derive(Drop)]
@@ -22,101 +64,118 @@ impl Way {
     }
 
     /// Answers a row of `link`.
-    pub(crate) fn answer(
-        &mut self,
-        alloc: Global,
-        words: &mut Words<'_>,
-        out: &mut Vec<u8>,
-    ) -> Result<(), RowFault> {
-        match words.next() {
-            "new" => {
-                let way = Way::new(alloc, words.number()?);
-                drop(mem::replace(self, way));
-                Ok(put_text(out, "new")?)
-            }
-            "play" => self.play(alloc, words.rest(), out),
-            "round" => self.begin(alloc, out),
-            "send" => self.send(alloc, &words.bytes(alloc)?, out),
-            "take" => self.take(alloc, out),
-            kind => {
-                let upset = upset_of(alloc, kind, words)?;
-                Ok(put_text(out, self.disturb(upset)?)?)
-            }
+    pub(crate) fn answer(&mut self, alloc: Global, words: &mut Words<'_>, out: &mut Line) {
+        let Some(row) = read(&CALLS, words) else {
+            return out.refuse();
+        };
+        match row.call {
+            Call::New => self.renew(alloc, row.first, out),
+            Call::Play => self.play(alloc, words.rest(), out),
+            Call::Round => self.begin(alloc, out),
+            Call::Send => self.send(alloc, words, out),
+            Call::Take => self.take(alloc, out),
+            kind => match upset_of(alloc, kind, row.first, words) {
+                Ok(upset) => self.disturb(upset, out),
+                Err(fault) => out.fail(fault),
+            },
         }
+    }
+
+    fn renew(&mut self, alloc: Global, step: u64, out: &mut Line) {
+        drop(mem::replace(self, Way::new(alloc, step)));
+        out.put("new");
     }
 
     // An entry of the schedule, where it is in range.
-    fn disturb(&mut self, upset: Upset) -> Result<&'static str, RowFault> {
+    fn disturb(&mut self, upset: Upset, out: &mut Line) {
         if !is_valid_upset(&upset) {
-            return Ok("out of range");
+            return out.put("out of range");
         }
         if !self.link.events().is_empty() {
-            return Err(RowFault::Form);
+            return out.refuse();
         }
-        self.link.upset(upset)?;
-        Ok("taken")
+        out.note(self.link.upset(upset));
+        out.put("taken");
     }
 
-    fn begin(&mut self, alloc: Global, out: &mut Vec<u8>) -> Result<(), RowFault> {
+    fn begin(&mut self, alloc: Global, out: &mut Line) {
         match self.link.next_round(alloc) {
-            Ok(moment) => Ok(put_count(out, "moment ", moment.0)?),
+            Ok(moment) => out.put_form("moment #", &[moment.0]),
             Err(fault) => put_fault(fault, out),
         }
     }
 
     // The client sends bytes.
-    fn send(&mut self, alloc: Global, bytes: &[u8], out: &mut Vec<u8>) -> Result<(), RowFault> {
+    fn send(&mut self, alloc: Global, words: &mut Words<'_>, out: &mut Line) {
+        match words.bytes(alloc) {
+            Ok(bytes) => self.send_bytes(alloc, &bytes, out),
+            Err(fault) => out.fail(fault),
+        }
+    }
+
+    fn send_bytes(&mut self, alloc: Global, bytes: &[u8], out: &mut Line) {
         match self.link.send(alloc, Side::Client, bytes) {
-            Ok(()) => Ok(put_text(out, "sent")?),
+            Ok(()) => out.put("sent"),
             Err(fault) => put_fault(fault, out),
         }
     }
 
     // The server takes what is ready for it.
-    fn take(&mut self, alloc: Global, out: &mut Vec<u8>) -> Result<(), RowFault> {
+    fn take(&mut self, alloc: Global, out: &mut Line) {
         let mut buf = [0; MAX_DATAGRAM];
         match self.link.take(alloc, Side::Server, &mut buf) {
-            Ok(len) => Ok(put_some(out, len.map(|len| len as u64))?),
+            Ok(Some(len)) => out.put_number(len as u64),
+            Ok(None) => out.put("none"),
             Err(fault) => put_fault(fault, out),
         }
     }
 
     // Does what each letter says, and appends the events.
-    fn play(&mut self, alloc: Global, letters: &str, out: &mut Vec<u8>) -> Result<(), RowFault> {
+    fn play(&mut self, alloc: Global, letters: &str, out: &mut Line) {
         let mut digit = b'0';
         for letter in letters.as_bytes() {
             if *letter == b'c' || *letter == b's' {
                 digit = digit.saturating_add(1);
             }
             if let Err(LinkFault::Memory) = self.act(alloc, *letter, digit) {
-                return Err(RowFault::Memory);
+                return out.lack();
             }
         }
-        Ok(put_events(self.link.events(), out)?)
+        put_events(self.link.events(), out);
     }
 
     fn act(&mut self, alloc: Global, letter: u8, digit: u8) -> Result<(), LinkFault> {
-        let mut buf = [0; MAX_DATAGRAM];
         match letter {
             b'c' => self.link.send(alloc, Side::Client, &[digit]),
             b's' => self.link.send(alloc, Side::Server, &[digit]),
-            b'+' => self.link.next_round(alloc).map(|_| ()),
-            b'C' => self.link.take(alloc, Side::Client, &mut buf).map(|_| ()),
-            _ => self.link.take(alloc, Side::Server, &mut buf).map(|_| ()),
+            b'+' => match self.link.next_round(alloc) {
+                Ok(_) => Ok(()),
+                Err(fault) => Err(fault),
+            },
+            b'C' => self.receive(alloc, Side::Client),
+            _ => self.receive(alloc, Side::Server),
+        }
+    }
+
+    fn receive(&mut self, alloc: Global, side: Side) -> Result<(), LinkFault> {
+        let mut buf = [0; MAX_DATAGRAM];
+        match self.link.take(alloc, side, &mut buf) {
+            Ok(_) => Ok(()),
+            Err(fault) => Err(fault),
         }
     }
 }
 
-fn put_fault(fault: LinkFault, out: &mut Vec<u8>) -> Result<(), RowFault> {
+fn put_fault(fault: LinkFault, out: &mut Line) {
     match fault {
-        LinkFault::Failed => Ok(put_text(out, "failed")?),
-        LinkFault::Memory => Err(RowFault::Memory),
+        LinkFault::Failed => out.put("failed"),
+        LinkFault::Memory => out.lack(),
     }
 }
 
 // Appends the events, each as a letter: the first byte of what was sent or given, `.` where nothing was ready, `+` for a round
 // and `!` for a fault.
-fn put_events(events: &[Event], out: &mut Vec<u8>) -> Result<(), Memory> {
+fn put_events(events: &[Event], out: &mut Line) {
     for event in events {
         let letter = match event {
             Event::Sent { datagram, .. } | Event::Given { datagram, .. } => first_of(datagram),
@@ -124,9 +183,8 @@ fn put_events(events: &[Event], out: &mut Vec<u8>) -> Result<(), Memory> {
             Event::Round { .. } => b'+',
             Event::Fault => b'!',
         };
-        out.push(letter)?;
+        out.put_byte(letter);
     }
-    Ok(())
 }
 
 fn first_of(datagram: &Bytes) -> u8 {
@@ -134,28 +192,51 @@ fn first_of(datagram: &Bytes) -> u8 {
 }
 
 // An entry of a schedule.
-fn upset_of(alloc: Global, kind: &str, words: &mut Words<'_>) -> Result<Upset, RowFault> {
+fn upset_of(
+    alloc: Global,
+    kind: Call,
+    number: u64,
+    words: &mut Words<'_>,
+) -> Result<Upset, RowFault> {
     match kind {
-        "lose" => Ok(Upset::Lose(select_of(words)?)),
-        "twice" => Ok(Upset::Twice(select_of(words)?)),
-        "late" => Ok(Upset::Late(select_of(words)?, words.number()?)),
-        "fail" => Ok(Upset::Fail(words.number()?)),
-        "forge" => Ok(Upset::Forge {
-            round: words.number()?,
-            side: side_of(words.next())?,
-            bytes: Bytes::from_vec(words.bytes(alloc)?)?,
-        }),
-        _ => Err(RowFault::Form),
+        Call::Fail => Ok(Upset::Fail(number)),
+        Call::Forge => forge_of(alloc, number, words),
+        _ => loss_of(kind, words),
+    }
+}
+
+// An entry that meets sends.
+fn loss_of(kind: Call, words: &mut Words<'_>) -> Result<Upset, RowFault> {
+    let Ok(which) = select_of(words) else {
+        return Err(RowFault::Form);
+    };
+    match kind {
+        Call::Lose => Ok(Upset::Lose(which)),
+        Call::Twice => Ok(Upset::Twice(which)),
+        _ => match words.number() {
+            Ok(rounds) => Ok(Upset::Late(which, rounds)),
+            Err(fault) => Err(fault),
+        },
+    }
+}
+
+fn forge_of(alloc: Global, round: u64, words: &mut Words<'_>) -> Result<Upset, RowFault> {
+    let Ok(side) = side_of(words.next()) else {
+        return Err(RowFault::Form);
+    };
+    match shared(alloc, words) {
+        Ok(bytes) => Ok(Upset::Forge { round, side, bytes }),
+        Err(fault) => Err(fault),
     }
 }
 
 // Which sends are meant: `all`, `each N` or `one N`.
 fn select_of(words: &mut Words<'_>) -> Result<Select, RowFault> {
-    match words.next() {
-        "all" => Ok(Select::All),
-        "each" => Ok(Select::Each(words.number()?)),
-        "one" => Ok(Select::One(words.number()?)),
-        _ => Err(RowFault::Form),
+    match find(&SELECTS, words.next()) {
+        Some(Which::All) => Ok(Select::All),
+        Some(Which::Each) => Ok(Select::Each(words.number()?)),
+        Some(Which::One) => Ok(Select::One(words.number()?)),
+        None => Err(RowFault::Form),
     }
 }
 

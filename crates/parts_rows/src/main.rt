@@ -12,6 +12,7 @@ mod numbers;
 mod packets;
 mod paths;
 mod ranges;
+mod say;
 mod script;
 mod sender;
 mod settings;
@@ -25,9 +26,10 @@ use log::Log;
 use numbers::Numbers;
 use packets::Packets;
 use paths::Paths;
-use qh_base::{Memory, StdSink, StdSource};
+use qh_base::{StdSink, StdSource};
 use ranges::Ranges;
 use row_text::{RowFault, Table, Words, run};
+use say::{Line, find, read_at};
 use sender::Sender;
 use std::alloc::Global;
 use std::process::ExitCode;
@@ -38,27 +40,50 @@ fn main(rt: HostRuntime) -> ExitCode {
     let mut source = StdSource::new(rt.stdin());
     let mut sink = StdSink::new(rt.stdout());
     let mut parts = Parts {
-        estimators: Estimators {
-            log: Log::new(),
-            greatest: Greatest::new(),
-            bandwidth: Bandwidth::new(),
-            limiter: Limiter::new(0),
-            paths: Paths::new(),
-        },
-        buffers: Buffers {
-            whole: Whole::new(alloc, 0),
-            ranges: Ranges::new(alloc),
-            sender: Sender::new(alloc),
-            pieces: Pieces::new(alloc),
-        },
-        wires: Wires {
-            numbers: Numbers::new(alloc),
-            packets: Packets::new(alloc),
-            way: Way::new(alloc, 10),
-        },
+        estimators: Estimators::new(),
+        buffers: Buffers::new(alloc),
+        wires: Wires::new(alloc),
     };
-    ExitCode::from(run(alloc, &mut source, &mut sink, &mut parts))
+    let status = run(alloc, &mut source, &mut sink, &mut parts);
+    drop(parts);
+    ExitCode::from(status)
 }
+
+// The word of a part.
+#[derive(Clone, Copy)]
+enum Part {
+    Log,
+    Greatest,
+    Bandwidth,
+    Limiter,
+    Rtt,
+    Window,
+    Whole,
+    Ranges,
+    Send,
+    Assembler,
+    Dedup,
+    Acks,
+    Sent,
+    Link,
+}
+
+const PART_WORDS: [(&str, Part); 14] = [
+    ("log", Part::Log),
+    ("max", Part::Greatest),
+    ("bandwidth", Part::Bandwidth),
+    ("limiter", Part::Limiter),
+    ("rtt", Part::Rtt),
+    ("window", Part::Window),
+    ("whole", Part::Whole),
+    ("ranges", Part::Ranges),
+    ("send", Part::Send),
+    ("assembler", Part::Assembler),
+    ("dedup", Part::Dedup),
+    ("acks", Part::Acks),
+    ("sent", Part::Sent),
+    ("link", Part::Link),
+];
 
 /// One of each part. A row says to which it speaks.
 #[derive(Drop)]
@@ -71,38 +96,67 @@ struct Parts {
 impl Table for Parts {
     fn answer(&mut self, alloc: Global, row: &str, out: &mut Vec<u8>) -> Result<(), RowFault> {
         let mut words = Words::new(row);
-        let part = words.next();
-        match part {
-            "log" | "max" | "bandwidth" | "limiter" | "rtt" | "window" => {
-                self.estimators.answer(alloc, part, &mut words, out)
-            }
-            "whole" | "ranges" | "send" | "assembler" => {
-                self.buffers.answer(alloc, part, &mut words, out)
-            }
-            "dedup" | "acks" | "sent" | "link" => self.wires.answer(alloc, part, &mut words, out),
-            _ => answer_alone(alloc, part, &mut words, out),
+        let mut line = Line::new(alloc);
+        self.answer_row(alloc, &mut words, &mut line);
+        line.end(out)
+    }
+}
+
+impl Parts {
+    fn answer_row(&mut self, alloc: Global, words: &mut Words<'_>, out: &mut Line) {
+        let word = words.next();
+        match find(&PART_WORDS, word) {
+            Some(Part::Log) => self.estimators.log.answer(alloc, words, out),
+            Some(Part::Greatest) => self.estimators.greatest.answer(words, out),
+            Some(Part::Bandwidth) => self.estimators.bandwidth.answer(words, out),
+            Some(Part::Limiter) => self.estimators.limiter.answer(words, out),
+            Some(Part::Rtt) => self.estimators.paths.answer_rtt(words, out),
+            Some(Part::Window) => self.estimators.paths.answer_window(words, out),
+            Some(Part::Whole) => self.buffers.whole.answer(alloc, words, out),
+            Some(Part::Ranges) => self.buffers.ranges.answer(alloc, words, out),
+            Some(Part::Send) => self.buffers.sender.answer(alloc, words, out),
+            Some(Part::Assembler) => self.buffers.pieces.answer(alloc, words, out),
+            Some(Part::Dedup) => self.wires.numbers.answer_dedup(alloc, words, out),
+            Some(Part::Acks) => self.wires.numbers.answer_acks(alloc, words, out),
+            Some(Part::Sent) => self.wires.packets.answer(alloc, words, out),
+            Some(Part::Link) => self.wires.way.answer(alloc, words, out),
+            None => answer_alone(alloc, word, words, out),
         }
     }
 }
 
+// The word of a row of a part of which nothing is kept.
+#[derive(Clone, Copy)]
+enum Alone {
+    Best,
+    Bulk,
+    Source,
+    Sink,
+    Fits,
+    Command,
+}
+
+const ALONE_WORDS: [(&str, Alone, u8); 6] = [
+    ("k", Alone::Best, 2),
+    ("bulk", Alone::Bulk, 0),
+    ("source", Alone::Source, 1),
+    ("sink", Alone::Sink, 2),
+    ("fits", Alone::Fits, 0),
+    ("command", Alone::Command, 0),
+];
+
 // Answers a row of a part of which nothing is kept.
-fn answer_alone(
-    alloc: Global,
-    part: &str,
-    words: &mut Words<'_>,
-    out: &mut Vec<u8>,
-) -> Result<(), RowFault> {
-    match part {
-        "k" => log::answer_best(words, out),
-        "bulk" => log::answer_bulk(alloc, words, out),
-        "source" => io::answer_source(alloc, words, out),
-        "sink" => io::answer_sink(alloc, words, out),
-        "config" | "fixed" | "schedule" | "enough" | "commands" | "report" | "entries" => {
-            script::answer(alloc, part, words, out)
-        }
-        "fits" => settings::answer_fits(alloc, words, out),
-        "command" => settings::answer_command(alloc, words, out),
-        _ => Err(RowFault::Form),
+fn answer_alone(alloc: Global, word: &str, words: &mut Words<'_>, out: &mut Line) {
+    let Some(row) = read_at(&ALONE_WORDS, word, words) else {
+        return script::answer(alloc, word, words, out);
+    };
+    match row.call {
+        Alone::Best => log::answer_best(row.first, row.second, out),
+        Alone::Bulk => log::answer_bulk(alloc, words, out),
+        Alone::Source => io::answer_source(alloc, row.first, words, out),
+        Alone::Sink => io::answer_sink(alloc, row.first, row.second, words, out),
+        Alone::Fits => settings::answer_fits(alloc, words, out),
+        Alone::Command => settings::answer_command(alloc, words, out),
     }
 }
 
@@ -117,20 +171,13 @@ struct Estimators {
 }
 
 impl Estimators {
-    fn answer(
-        &mut self,
-        alloc: Global,
-        part: &str,
-        words: &mut Words<'_>,
-        out: &mut Vec<u8>,
-    ) -> Result<(), RowFault> {
-        match part {
-            "log" => self.log.answer(alloc, words, out),
-            "max" => self.greatest.answer(words, out),
-            "bandwidth" => self.bandwidth.answer(words, out),
-            "limiter" => self.limiter.answer(words, out),
-            "rtt" => self.paths.answer_rtt(words, out),
-            _ => self.paths.answer_window(words, out),
+    fn new() -> Estimators {
+        Estimators {
+            log: Log::new(),
+            greatest: Greatest::new(),
+            bandwidth: Bandwidth::new(),
+            limiter: Limiter::new(0),
+            paths: Paths::new(),
         }
     }
 }
@@ -145,18 +192,12 @@ struct Buffers {
 }
 
 impl Buffers {
-    fn answer(
-        &mut self,
-        alloc: Global,
-        part: &str,
-        words: &mut Words<'_>,
-        out: &mut Vec<u8>,
-    ) -> Result<(), RowFault> {
-        match part {
-            "whole" => self.whole.answer(alloc, words, out),
-            "ranges" => self.ranges.answer(alloc, words, out),
-            "send" => self.sender.answer(alloc, words, out),
-            _ => self.pieces.answer(alloc, words, out),
+    fn new(alloc: Global) -> Buffers {
+        Buffers {
+            whole: Whole::new(alloc, 0),
+            ranges: Ranges::new(alloc),
+            sender: Sender::new(alloc),
+            pieces: Pieces::new(alloc),
         }
     }
 }
@@ -170,43 +211,11 @@ struct Wires {
 }
 
 impl Wires {
-    fn answer(
-        &mut self,
-        alloc: Global,
-        part: &str,
-        words: &mut Words<'_>,
-        out: &mut Vec<u8>,
-    ) -> Result<(), RowFault> {
-        match part {
-            "dedup" => self.numbers.answer_dedup(alloc, words, out),
-            "acks" => self.numbers.answer_acks(alloc, words, out),
-            "sent" => self.packets.answer(alloc, words, out),
-            _ => self.way.answer(alloc, words, out),
+    fn new(alloc: Global) -> Wires {
+        Wires {
+            numbers: Numbers::new(alloc),
+            packets: Packets::new(alloc),
+            way: Way::new(alloc, 10),
         }
     }
-}
-
-/// Appends a word and a number behind it.
-pub(crate) fn put_count(out: &mut Vec<u8>, word: &str, count: u64) -> Result<(), Memory> {
-    row_text::put_text(out, word)?;
-    row_text::put_number(out, count)
-}
-
-/// Appends a number, or `none`.
-pub(crate) fn put_some(out: &mut Vec<u8>, number: Option<u64>) -> Result<(), Memory> {
-    match number {
-        Some(number) => row_text::put_number(out, number),
-        None => row_text::put_text(out, "none"),
-    }
-}
-
-/// Appends the ends of a range, as in `2..4`.
-pub(crate) fn put_range(out: &mut Vec<u8>, start: u64, end: u64) -> Result<(), Memory> {
-    row_text::put_number(out, start)?;
-    put_count(out, "..", end)
-}
-
-/// Appends `yes` or `no`.
-pub(crate) fn put_yes(out: &mut Vec<u8>, is_so: bool) -> Result<(), Memory> {
-    row_text::put_text(out, if is_so { "yes" } else { "no" })
 }

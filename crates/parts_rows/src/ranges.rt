@@ -1,12 +1,33 @@
 //! Sets of ranges.
-use crate::{put_count, put_range, put_some, put_yes};
-use qh_base::Memory;
+use crate::say::{Line, read};
 use qh_buffers::ArrayRangeSet;
-use row_text::{RowFault, Words, put_text};
+use row_text::Words;
 use std::alloc::Global;
 
 // A set with more ranges is told by their number.
 const MAX_RANGES: usize = 20;
+
+// What is done to a set.
+#[derive(Clone, Copy)]
+enum Call {
+    New,
+    Insert,
+    Remove,
+    Apart,
+    Has,
+    Ends,
+    Pop,
+}
+
+const CALLS: [(&str, Call, u8); 7] = [
+    ("new", Call::New, 0),
+    ("insert", Call::Insert, 2),
+    ("remove", Call::Remove, 2),
+    ("apart", Call::Apart, 1),
+    ("has", Call::Has, 1),
+    ("ends", Call::Ends, 0),
+    ("pop", Call::Pop, 0),
+];
 
 /// A set of numbers.
 #[derive(Drop)]
@@ -22,65 +43,55 @@ impl Ranges {
     }
 
     /// Answers a row of `ranges`.
-    pub(crate) fn answer(
-        &mut self,
-        alloc: Global,
-        words: &mut Words<'_>,
-        out: &mut Vec<u8>,
-    ) -> Result<(), RowFault> {
-        match words.next() {
-            "new" => self.set = ArrayRangeSet::new(alloc),
-            "insert" => self.set.insert(words.number()?..words.number()?)?,
-            "remove" => self.set.remove(words.number()?..words.number()?)?,
-            "apart" => self.insert_apart(words.number()?)?,
-            "has" => return Ok(put_yes(out, self.set.contains(words.number()?))?),
-            "ends" => return self.put_ends(out),
-            "pop" => return self.pop(out),
-            _ => return Err(RowFault::Form),
+    pub(crate) fn answer(&mut self, alloc: Global, words: &mut Words<'_>, out: &mut Line) {
+        let Some(row) = read(&CALLS, words) else {
+            return out.refuse();
+        };
+        match row.call {
+            Call::New => self.set = ArrayRangeSet::new(alloc),
+            Call::Insert => out.note(self.set.insert(row.first..row.second)),
+            Call::Remove => out.note(self.set.remove(row.first..row.second)),
+            Call::Apart => self.insert_apart(row.first, out),
+            Call::Has => return out.put_yes(self.set.contains(row.first)),
+            Call::Ends => return self.put_ends(out),
+            Call::Pop => return self.pop(out),
         }
-        Ok(put_ranges(&self.set, out)?)
+        put_ranges(&self.set, out);
     }
 
     // Inserts so many ranges of one number each, a number apart.
-    fn insert_apart(&mut self, count: u64) -> Result<(), Memory> {
+    fn insert_apart(&mut self, count: u64, out: &mut Line) {
         for place in 0..count {
             let start = place.saturating_mul(2);
-            self.set.insert(start..start.saturating_add(1))?;
+            out.note(self.set.insert(start..start.saturating_add(1)));
         }
-        Ok(())
     }
 
-    fn put_ends(&self, out: &mut Vec<u8>) -> Result<(), RowFault> {
-        put_count(out, "front ", self.set.front())?;
-        put_text(out, ", least ")?;
-        put_some(out, self.set.min())?;
-        put_text(out, ", greatest ")?;
-        put_some(out, self.set.max())?;
-        Ok(())
+    fn put_ends(&self, out: &mut Line) {
+        out.put_form("front #", &[self.set.front()]);
+        out.put_some(", least ", self.set.min());
+        out.put_some(", greatest ", self.set.max());
     }
 
-    fn pop(&mut self, out: &mut Vec<u8>) -> Result<(), RowFault> {
+    fn pop(&mut self, out: &mut Line) {
         match self.set.pop_min() {
-            Some(range) => put_range(out, range.start, range.end)?,
-            None => put_text(out, "none")?,
+            Some(range) => out.put_range("", range.start, range.end),
+            None => out.put("none"),
         }
-        Ok(())
     }
 }
 
 // Appends the ranges of a set, or how many there are.
-fn put_ranges(set: &ArrayRangeSet, out: &mut Vec<u8>) -> Result<(), Memory> {
+fn put_ranges(set: &ArrayRangeSet, out: &mut Line) {
     if set.is_empty() {
-        return put_text(out, "none");
+        return out.put("none");
     }
     if set.len() > MAX_RANGES {
-        return put_count(out, "ranges ", set.len() as u64);
+        return out.put_form("ranges #", &[set.len() as u64]);
     }
     for index in 0..set.len() {
         if let Some(range) = set.get(index) {
-            put_text(out, if index == 0 { "" } else { " " })?;
-            put_range(out, range.start, range.end)?;
+            out.put_range(if index == 0 { "" } else { " " }, range.start, range.end);
         }
     }
-    Ok(())
 }

@@ -1,14 +1,37 @@
 //! The buffer of bytes that are sent, and sent again.
-use crate::{put_count, put_range};
+use crate::say::{Line, read, shared};
 use bytes::Bytes;
 use qh_buffers::SendBuffer;
-use row_text::{RowFault, Words, put_bytes, put_text};
+use row_text::Words;
 use std::alloc::Global;
 use std::mem;
-use std::ops::Range;
 
 // What a buffer takes in these rows ends before this offset.
 const END: u64 = 1 << 32;
+
+// What is done to a buffer.
+#[derive(Clone, Copy)]
+enum Call {
+    New,
+    Write,
+    Writes,
+    Out,
+    Acked,
+    Lost,
+    Give,
+    Held,
+}
+
+const CALLS: [(&str, Call, u8); 8] = [
+    ("new", Call::New, 0),
+    ("write", Call::Write, 0),
+    ("writes", Call::Writes, 1),
+    ("out", Call::Out, 1),
+    ("acked", Call::Acked, 1),
+    ("lost", Call::Lost, 1),
+    ("give", Call::Give, 2),
+    ("held", Call::Held, 0),
+];
 
 /// A buffer of what is sent.
 #[derive(Drop)]
@@ -35,124 +58,86 @@ impl Sender {
     }
 
     /// Answers a row of `send`.
-    pub(crate) fn answer(
-        &mut self,
-        alloc: Global,
-        words: &mut Words<'_>,
-        out: &mut Vec<u8>,
-    ) -> Result<(), RowFault> {
-        match words.next() {
-            "new" => drop(mem::replace(self, Sender::new(alloc))),
-            "write" => self.write(alloc, 1, words)?,
-            "writes" => {
-                let count = words.number()?;
-                self.write(alloc, count, words)?;
-            }
-            "out" => return self.answer_out(words, Fate::Out, out),
-            "acked" => return self.answer_out(words, Fate::Acked, out),
-            "lost" => return self.answer_out(words, Fate::Lost, out),
-            "give" => return self.answer_give(alloc, words, out),
-            "held" => return self.answer_held(alloc, out),
-            _ => return Err(RowFault::Form),
+    pub(crate) fn answer(&mut self, alloc: Global, words: &mut Words<'_>, out: &mut Line) {
+        let Some(row) = read(&CALLS, words) else {
+            return out.refuse();
+        };
+        match row.call {
+            Call::New => drop(mem::replace(self, Sender::new(alloc))),
+            Call::Write => self.write(alloc, 1, words, out),
+            Call::Writes => self.write(alloc, row.first, words, out),
+            Call::Out => return self.hand_out(row.first, Fate::Out, out),
+            Call::Acked => return self.hand_out(row.first, Fate::Acked, out),
+            Call::Lost => return self.hand_out(row.first, Fate::Lost, out),
+            Call::Give => return self.put_between(alloc, row.first, row.second, out),
+            Call::Held => return self.put_held(alloc, out),
         }
-        self.put_state(out)
-    }
-
-    fn put_state(&self, out: &mut Vec<u8>) -> Result<(), RowFault> {
-        put_count(out, "taken to ", self.buffer.offset())?;
-        put_count(out, ", held ", self.buffer.unacked())?;
-        put_text(
-            out,
-            if self.buffer.has_unsent_data() {
-                ", some to send"
-            } else {
-                ", none to send"
-            },
-        )?;
-        Ok(())
+        let numbers = [self.buffer.offset(), self.buffer.unacked()];
+        out.put_form("taken to #, held #", &numbers);
+        out.put_either(
+            self.buffer.has_unsent_data(),
+            ", some to send",
+            ", none to send",
+        );
     }
 
     // Takes bytes so many times.
-    fn write(&mut self, alloc: Global, count: u64, words: &mut Words<'_>) -> Result<(), RowFault> {
-        let payload = Bytes::from_vec(words.bytes(alloc)?)?;
+    fn write(&mut self, alloc: Global, count: u64, words: &mut Words<'_>, out: &mut Line) {
+        match shared(alloc, words) {
+            Ok(payload) => self.take_often(count, &payload, out),
+            Err(fault) => out.fail(fault),
+        }
+    }
+
+    fn take_often(&mut self, count: u64, payload: &Bytes, out: &mut Line) {
         for _ in 0..count {
-            self.take(payload.clone()?)?;
+            match payload.clone() {
+                Ok(payload) => self.take(payload, out),
+                Err(_) => out.lack(),
+            }
         }
-        Ok(())
     }
 
-    fn take(&mut self, payload: Bytes) -> Result<(), RowFault> {
+    fn take(&mut self, payload: Bytes, out: &mut Line) {
         if self.buffer.offset() >= END || payload.len() as u64 >= END {
-            return Err(RowFault::Form);
+            return out.refuse();
         }
-        self.buffer.write(payload)?;
-        Ok(())
+        out.note(self.buffer.write(payload));
     }
 
-    // ROOM: hands out what comes next.
-    fn answer_out(
-        &mut self,
-        words: &mut Words<'_>,
-        fate: Fate,
-        out: &mut Vec<u8>,
-    ) -> Result<(), RowFault> {
-        let room = words.number()? as usize;
+    // Hands out what comes next, at most so many bytes.
+    fn hand_out(&mut self, room: u64, fate: Fate, out: &mut Line) {
+        let room = room as usize;
         if room == 0 {
-            return Err(RowFault::Form);
+            return out.refuse();
         }
-        match self.hand_out(room, fate)? {
-            Some(range) => put_range(out, range.start, range.end)?,
-            None => put_text(out, "nothing")?,
+        match self.buffer.poll_transmit(room) {
+            Ok(Some(range)) => {
+                out.put_range("", range.start, range.end);
+                match fate {
+                    Fate::Out => {}
+                    Fate::Acked => self.buffer.ack(range),
+                    Fate::Lost => self.buffer.retransmit(range),
+                }
+            }
+            Ok(None) => out.put("nothing"),
+            Err(_) => out.lack(),
         }
-        Ok(())
     }
 
-    fn hand_out(&mut self, room: usize, fate: Fate) -> Result<Option<Range<u64>>, RowFault> {
-        if room == 0 {
-            return Err(RowFault::Form);
-        }
-        let Some(range) = self.buffer.poll_transmit(room)? else {
-            return Ok(None);
-        };
-        match fate {
-            Fate::Out => {}
-            Fate::Acked => self.buffer.ack(range.start..range.end),
-            Fate::Lost => self.buffer.retransmit(range.start..range.end),
-        }
-        Ok(Some(range))
-    }
-
-    // START END: gives the bytes between these offsets.
-    fn answer_give(
-        &mut self,
-        alloc: Global,
-        words: &mut Words<'_>,
-        out: &mut Vec<u8>,
-    ) -> Result<(), RowFault> {
-        let start = words.number()?;
-        let end = words.number()?;
-        self.put_between(alloc, start, end, out)
-    }
-
-    fn answer_held(&mut self, alloc: Global, out: &mut Vec<u8>) -> Result<(), RowFault> {
+    fn put_held(&self, alloc: Global, out: &mut Line) {
         let end = self.buffer.offset();
-        self.put_between(alloc, end.saturating_sub(self.buffer.unacked()), end, out)
+        self.put_between(alloc, end.saturating_sub(self.buffer.unacked()), end, out);
     }
 
-    fn put_between(
-        &self,
-        alloc: Global,
-        start: u64,
-        end: u64,
-        out: &mut Vec<u8>,
-    ) -> Result<(), RowFault> {
+    // Gives the bytes between these offsets.
+    fn put_between(&self, alloc: Global, start: u64, end: u64, out: &mut Line) {
         let least = self.buffer.offset().saturating_sub(self.buffer.unacked());
         if start < least || end < start || end > self.buffer.offset() {
-            return Err(RowFault::Form);
+            return out.refuse();
         }
         let mut bytes = Vec::new(alloc);
-        self.buffer.put(start..end, &mut bytes)?;
-        put_bytes(out, &bytes)?;
-        Ok(())
+        out.note(self.buffer.put(start..end, &mut bytes));
+        out.put_hex(&bytes);
     }
 }

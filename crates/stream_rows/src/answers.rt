@@ -1,43 +1,54 @@
 //! How each answer is told: words, numbers and bytes with a blank between them.
 use crate::settings::name_of_dir;
-use qh_base::{ConnectionError, TransportErrorCode};
+use qh_base::{ConnectionClose, ConnectionError, Dir, TransportErrorCode};
 use qh_core::Event;
 use qh_streams::{StreamEvent, StreamFault};
 use row_text::{RowFault, put_bytes, put_hex_number, put_number};
 
-/// A part of an answer.
-#[derive(Clone, Copy)]
-pub(crate) enum Part<'a> {
-    Text(&'a str),
-    Number(u64),
-    /// A number with its sign.
-    Signed(i32),
-    /// A number where there is one; `none` where there isn't.
-    Maybe(Option<u64>),
-    Bytes(&'a [u8]),
-}
-
-/// Appends the parts of an answer.
-pub(crate) fn put(out: &mut Vec<u8>, parts: &[Part<'_>]) -> Result<(), RowFault> {
-    for (place, part) in parts.iter().enumerate() {
-        if place > 0 {
-            put_text(out, " ")?;
+/// What stands beside a word in a table.
+pub(crate) fn find<T: Copy>(table: &[(&str, T)], word: &str) -> Option<T> {
+    for (known, value) in table {
+        if *known == word {
+            return Some(*value);
         }
-        put_part(out, part)?;
+    }
+    None
+}
+
+/// Appends a text in which each `#` stands for the next of these numbers.
+pub(crate) fn put_form(out: &mut Vec<u8>, form: &str, numbers: &[u64]) -> Result<(), RowFault> {
+    let mut left = numbers;
+    for byte in form.as_bytes() {
+        match left {
+            [number, rest @ ..] if *byte == b'#' => {
+                put_number(out, *number)?;
+                left = rest;
+            }
+            _ => out.push(*byte)?,
+        }
     }
     Ok(())
 }
 
-fn put_part(out: &mut Vec<u8>, part: &Part<'_>) -> Result<(), RowFault> {
-    match part {
-        Part::Text(text) => row_text::put_text(out, text)?,
-        Part::Number(n) => put_number(out, *n)?,
-        Part::Signed(n) => return put_signed(out, *n),
-        Part::Maybe(Some(n)) => put_number(out, *n)?,
-        Part::Maybe(None) => row_text::put_text(out, "none")?,
-        Part::Bytes(bytes) => put_bytes(out, bytes)?,
-    }
+/// Appends a text, and bytes behind it.
+pub(crate) fn put_named(out: &mut Vec<u8>, name: &str, bytes: &[u8]) -> Result<(), RowFault> {
+    row_text::put_text(out, name)?;
+    put_bytes(out, bytes)?;
     Ok(())
+}
+
+/// Appends a word, and the word for a direction behind it.
+pub(crate) fn put_dir(out: &mut Vec<u8>, word: &str, dir: Dir) -> Result<(), RowFault> {
+    put_text(out, word)?;
+    put_text(out, name_of_dir(dir))
+}
+
+/// Appends a number where there is one; `none` where there isn't.
+pub(crate) fn put_maybe(out: &mut Vec<u8>, number: Option<u64>) -> Result<(), RowFault> {
+    match number {
+        Some(number) => put_form(out, "#", &[number]),
+        None => put_text(out, "none"),
+    }
 }
 
 /// Appends a text.
@@ -46,12 +57,20 @@ pub(crate) fn put_text(out: &mut Vec<u8>, text: &str) -> Result<(), RowFault> {
     Ok(())
 }
 
-fn put_signed(out: &mut Vec<u8>, n: i32) -> Result<(), RowFault> {
-    if n < 0 {
-        put_text(out, "-")?;
-    }
-    put_number(out, u64::from(n.unsigned_abs()))?;
-    Ok(())
+/// Appends one text or another.
+pub(crate) fn put_either(
+    out: &mut Vec<u8>,
+    is_so: bool,
+    yes: &str,
+    no: &str,
+) -> Result<(), RowFault> {
+    put_text(out, if is_so { yes } else { no })
+}
+
+/// Appends a number with its sign.
+pub(crate) fn put_signed(out: &mut Vec<u8>, n: i32) -> Result<(), RowFault> {
+    put_either(out, n < 0, "-", "")?;
+    put_form(out, "#", &[u64::from(n.unsigned_abs())])
 }
 
 /// Appends that nothing is to be told but that it was done.
@@ -63,34 +82,26 @@ pub(crate) fn put_ok(out: &mut Vec<u8>) -> Result<(), RowFault> {
 pub(crate) fn put_event(out: &mut Vec<u8>, event: &Option<Event>) -> Result<(), RowFault> {
     match event {
         None => put_text(out, "none"),
-        Some(Event::ConnectionLost { reason }) => {
-            put_text(out, "lost ")?;
-            put_reason(out, reason)
-        }
+        Some(Event::ConnectionLost { reason }) => put_lost(out, reason),
         Some(Event::Stream(event)) => put_stream_event(out, *event),
     }
 }
 
+fn put_lost(out: &mut Vec<u8>, reason: &ConnectionError) -> Result<(), RowFault> {
+    put_text(out, "lost ")?;
+    put_reason(out, reason)
+}
+
 fn put_stream_event(out: &mut Vec<u8>, event: StreamEvent) -> Result<(), RowFault> {
     match event {
-        StreamEvent::Opened { dir } => {
-            put(out, &[Part::Text("opened"), Part::Text(name_of_dir(dir))])
+        StreamEvent::Opened { dir } => put_dir(out, "opened ", dir),
+        StreamEvent::Available { dir } => put_dir(out, "available ", dir),
+        StreamEvent::Readable { id } => put_form(out, "readable #", &[id.0]),
+        StreamEvent::Writable { id } => put_form(out, "writable #", &[id.0]),
+        StreamEvent::Finished { id } => put_form(out, "finished #", &[id.0]),
+        StreamEvent::Stopped { id, code } => {
+            put_form(out, "stopped # #", &[id.0, code.into_inner()])
         }
-        StreamEvent::Available { dir } => put(
-            out,
-            &[Part::Text("available"), Part::Text(name_of_dir(dir))],
-        ),
-        StreamEvent::Readable { id } => put(out, &[Part::Text("readable"), Part::Number(id.0)]),
-        StreamEvent::Writable { id } => put(out, &[Part::Text("writable"), Part::Number(id.0)]),
-        StreamEvent::Finished { id } => put(out, &[Part::Text("finished"), Part::Number(id.0)]),
-        StreamEvent::Stopped { id, code } => put(
-            out,
-            &[
-                Part::Text("stopped"),
-                Part::Number(id.0),
-                Part::Number(code.into_inner()),
-            ],
-        ),
     }
 }
 
@@ -98,25 +109,26 @@ fn put_stream_event(out: &mut Vec<u8>, event: StreamEvent) -> Result<(), RowFaul
 pub(crate) fn put_reason(out: &mut Vec<u8>, reason: &ConnectionError) -> Result<(), RowFault> {
     match reason {
         ConnectionError::TransportError(error) => put_fault(out, error.code, error.frame),
-        ConnectionError::ConnectionClosed(close) => {
-            put_text(out, "closed by the peer ")?;
-            put_fault(out, close.code, close.frame)?;
-            put_text(out, " ")?;
-            put(out, &[Part::Bytes(close.reason.bytes())])
+        ConnectionError::ConnectionClosed(close) => put_closed(out, close),
+        ConnectionError::ApplicationClosed(close) => {
+            put_form(
+                out,
+                "closed by the application # ",
+                &[close.error_code.into_inner()],
+            )?;
+            put_named(out, "", close.reason.bytes())
         }
-        ConnectionError::ApplicationClosed(close) => put(
-            out,
-            &[
-                Part::Text("closed by the application"),
-                Part::Number(close.error_code.into_inner()),
-                Part::Bytes(close.reason.bytes()),
-            ],
-        ),
         ConnectionError::TimedOut => put_text(out, "timed out"),
         ConnectionError::LocallyClosed => put_text(out, "closed by this end"),
         ConnectionError::Memory => put_text(out, "memory"),
         _ => put_text(out, "another reason"),
     }
+}
+
+fn put_closed(out: &mut Vec<u8>, close: &ConnectionClose) -> Result<(), RowFault> {
+    put_text(out, "closed by the peer ")?;
+    put_fault(out, close.code, close.frame)?;
+    put_named(out, " ", close.reason.bytes())
 }
 
 /// Appends what became of a frame that came: `ok`, or the fault for which it is refused.
@@ -139,13 +151,15 @@ fn put_fault(
 ) -> Result<(), RowFault> {
     put_text(out, name_of(code))?;
     match frame {
-        Some(kind) => {
-            put_text(out, " frame ")?;
-            put_hex_number(out, kind)?;
-            Ok(())
-        }
+        Some(kind) => put_frame_type(out, kind),
         None => Ok(()),
     }
+}
+
+fn put_frame_type(out: &mut Vec<u8>, kind: u64) -> Result<(), RowFault> {
+    put_text(out, " frame ")?;
+    put_hex_number(out, kind)?;
+    Ok(())
 }
 
 // The name of a code in RFC 9000, section 20.1.

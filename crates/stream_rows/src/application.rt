@@ -1,17 +1,73 @@
 //! The rows of an application: what it does with the streams of an end, with a connection or without one.
-use crate::answers::{Part, put, put_event, put_ok, put_text};
+use crate::answers::{
+    find, put_either, put_event, put_form, put_maybe, put_named, put_ok, put_signed, put_text,
+};
 use crate::calls::StreamCalls;
 use crate::settings::{dir_of, stream_of, varint_of};
 use bytes::Bytes;
 use qh_base::{StreamId, VarInt};
 use qh_buffers::Chunk;
-use qh_core::TakeFault;
+use qh_core::{Event, TakeFault};
 use qh_streams::{ClosedStream, FinishFault, ReadFault, ReadableFault, WriteFault, Written};
 use row_text::{RowFault, Words};
 use std::alloc::Global;
 
 // So many pieces are read at most, and so many events taken, by one row.
 const MANY: u32 = 1_000_000;
+
+// The word of a row of an application's.
+#[derive(Clone, Copy)]
+enum Call {
+    Open,
+    OpenMany,
+    Accept,
+    AcceptMany,
+    Event,
+    Events,
+    CountEvents,
+    Write,
+    WriteMany,
+    Chunks,
+    Finish,
+    Reset,
+    Prefer,
+    Stopped,
+    Priority,
+    TakeReset,
+    Read,
+    ReadAny,
+    ReadAll,
+    Stop,
+    SetStreams,
+    SetSend,
+    SetReceive,
+}
+
+const CALLS: [(&str, Call); 23] = [
+    ("open", Call::Open),
+    ("open-many", Call::OpenMany),
+    ("accept", Call::Accept),
+    ("accept-many", Call::AcceptMany),
+    ("event", Call::Event),
+    ("events", Call::Events),
+    ("count-events", Call::CountEvents),
+    ("write", Call::Write),
+    ("write-many", Call::WriteMany),
+    ("chunks", Call::Chunks),
+    ("finish", Call::Finish),
+    ("reset", Call::Reset),
+    ("prefer", Call::Prefer),
+    ("stopped", Call::Stopped),
+    ("priority", Call::Priority),
+    ("take-reset", Call::TakeReset),
+    ("read", Call::Read),
+    ("read-any", Call::ReadAny),
+    ("read-all", Call::ReadAll),
+    ("stop", Call::Stop),
+    ("set-streams", Call::SetStreams),
+    ("set-send", Call::SetSend),
+    ("set-receive", Call::SetReceive),
+];
 
 /// Answers a row of an application's, if it is one. Whether it is.
 pub(crate) fn answer<E: StreamCalls>(
@@ -21,35 +77,58 @@ pub(crate) fn answer<E: StreamCalls>(
     words: &mut Words<'_>,
     out: &mut Vec<u8>,
 ) -> Result<bool, RowFault> {
-    Ok(
-        begin(alloc, end, word, words, out)?
-            || send(alloc, end, word, words, out)?
-            || ask(end, word, words, out)?
-            || take(alloc, end, word, words, out)?
-            || limit(end, word, words, out)?,
-    )
+    match find(&CALLS, word) {
+        Some(call) => answer_call(alloc, end, call, words, out)?,
+        None => return Ok(false),
+    }
+    Ok(true)
 }
 
-// The rows that open streams, and those that tell what happened.
-fn begin<E: StreamCalls>(
+fn answer_call<E: StreamCalls>(
     alloc: Global,
     end: &mut E,
-    word: &str,
+    call: Call,
     words: &mut Words<'_>,
     out: &mut Vec<u8>,
-) -> Result<bool, RowFault> {
-    let answered = match word {
-        "open" => open(alloc, end, words, out),
-        "open-many" => open_many(alloc, end, words, out),
-        "accept" => accept(end, words, out),
-        "accept-many" => accept_many(end, words, out),
-        "event" => put_event(out, &end.poll()),
-        "events" => put_events(alloc, end, out),
-        "count-events" => put_count(end, out),
-        _ => return Ok(false),
-    };
-    answered?;
-    Ok(true)
+) -> Result<(), RowFault> {
+    match call {
+        Call::Open => open(alloc, end, words, out),
+        Call::OpenMany => open_many(alloc, end, words, out),
+        Call::Accept => accept(end, words, out),
+        Call::AcceptMany => accept_many(end, words, out),
+        Call::Event => put_event(out, &end.poll()),
+        Call::Events => put_events(alloc, end, out),
+        Call::CountEvents => put_count(end, out),
+        Call::Write => write(alloc, end, words, out),
+        Call::WriteMany => write_many(alloc, end, words, out),
+        Call::Chunks => write_chunks(alloc, end, words, out),
+        Call::Finish => finish(end, words, out),
+        Call::Reset => reset(end, words, out),
+        Call::Prefer => prefer(end, words, out),
+        _ => answer_other(alloc, end, call, words, out),
+    }
+}
+
+// The rows that ask for something of a stream, read it, or set limits.
+fn answer_other<E: StreamCalls>(
+    alloc: Global,
+    end: &mut E,
+    call: Call,
+    words: &mut Words<'_>,
+    out: &mut Vec<u8>,
+) -> Result<(), RowFault> {
+    match call {
+        Call::Stopped => put_whether_stopped(out, end.stopped(stream_of(words)?)),
+        Call::Priority => put_priority(out, end.priority(stream_of(words)?)),
+        Call::TakeReset => put_whether_reset(out, end.received_reset(stream_of(words)?)),
+        Call::Read => read(end, words, out, true),
+        Call::ReadAny => read(end, words, out, false),
+        Call::ReadAll => read_all(alloc, end, words, out),
+        Call::Stop => stop(end, words, out),
+        Call::SetStreams => set_streams(end, words, out),
+        Call::SetSend => set_send(end, words, out),
+        _ => set_receive(end, words, out),
+    }
 }
 
 fn open<E: StreamCalls>(
@@ -74,7 +153,7 @@ fn accept<E: StreamCalls>(
 /// Appends a stream, `none` where there is none.
 pub(crate) fn put_stream(out: &mut Vec<u8>, id: Option<StreamId>) -> Result<(), RowFault> {
     match id {
-        Some(id) => put(out, &[Part::Text("stream"), Part::Number(id.0)]),
+        Some(id) => put_form(out, "stream #", &[id.0]),
         None => put_text(out, "none"),
     }
 }
@@ -86,8 +165,12 @@ fn open_many<E: StreamCalls>(
     words: &mut Words<'_>,
     out: &mut Vec<u8>,
 ) -> Result<(), RowFault> {
-    let dir = dir_of(words)?;
-    let count = words.number()?;
+    let Ok(dir) = dir_of(words) else {
+        return Err(RowFault::Form);
+    };
+    let Ok(count) = words.number() else {
+        return Err(RowFault::Form);
+    };
     let mut opened = 0u64;
     let mut last = None;
     for _ in 0..count {
@@ -106,8 +189,12 @@ fn accept_many<E: StreamCalls>(
     words: &mut Words<'_>,
     out: &mut Vec<u8>,
 ) -> Result<(), RowFault> {
-    let dir = dir_of(words)?;
-    let count = words.number()?;
+    let Ok(dir) = dir_of(words) else {
+        return Err(RowFault::Form);
+    };
+    let Ok(count) = words.number() else {
+        return Err(RowFault::Form);
+    };
     let mut accepted = 0u64;
     let mut last = None;
     for _ in 0..count {
@@ -122,14 +209,8 @@ fn accept_many<E: StreamCalls>(
 
 // Appends how many streams there were, and the last of them.
 fn put_many(out: &mut Vec<u8>, count: u64, last: Option<StreamId>) -> Result<(), RowFault> {
-    put(
-        out,
-        &[
-            Part::Number(count),
-            Part::Text("streams, the last"),
-            Part::Maybe(last.map(|id| id.0)),
-        ],
-    )
+    put_form(out, "# streams, the last ", &[count])?;
+    put_maybe(out, last.map(|id| id.0))
 }
 
 // Takes all that happened, and appends how many events that are.
@@ -141,7 +222,7 @@ fn put_count<E: StreamCalls>(end: &mut E, out: &mut Vec<u8>) -> Result<(), RowFa
         }
         count = count.saturating_add(1);
     }
-    put(out, &[Part::Number(count), Part::Text("events")])
+    put_form(out, "# events", &[count])
 }
 
 // Appends how many events there were, and each.
@@ -152,8 +233,12 @@ fn put_events<E: StreamCalls>(
 ) -> Result<(), RowFault> {
     let mut list = Vec::new(alloc);
     let count = list_events(end, &mut list)?;
-    put(out, &[Part::Number(count)])?;
-    out.extend_from_slice(&list)?;
+    put_listed(out, count, &list)
+}
+
+fn put_listed(out: &mut Vec<u8>, count: u64, list: &[u8]) -> Result<(), RowFault> {
+    put_form(out, "#", &[count])?;
+    out.extend_from_slice(list)?;
     Ok(())
 }
 
@@ -161,35 +246,21 @@ fn put_events<E: StreamCalls>(
 fn list_events<E: StreamCalls>(end: &mut E, list: &mut Vec<u8>) -> Result<u64, RowFault> {
     let mut count = 0u64;
     for _ in 0..MANY {
-        let event = end.poll();
-        if event.is_none() {
+        if !list_event(list, count, &end.poll())? {
             break;
         }
-        put_text(list, if count == 0 { ": " } else { ", " })?;
-        put_event(list, &event)?;
         count = count.saturating_add(1);
     }
     Ok(count)
 }
 
-// The rows that send on a stream.
-fn send<E: StreamCalls>(
-    alloc: Global,
-    end: &mut E,
-    word: &str,
-    words: &mut Words<'_>,
-    out: &mut Vec<u8>,
-) -> Result<bool, RowFault> {
-    let answered = match word {
-        "write" => write(alloc, end, words, out),
-        "write-many" => write_many(alloc, end, words, out),
-        "chunks" => write_chunks(alloc, end, words, out),
-        "finish" => finish(end, words, out),
-        "reset" => reset(end, words, out),
-        "prefer" => prefer(end, words, out),
-        _ => return Ok(false),
-    };
-    answered?;
+// Appends an event behind a sign, if there is one. Whether there is.
+fn list_event(list: &mut Vec<u8>, place: u64, event: &Option<Event>) -> Result<bool, RowFault> {
+    if event.is_none() {
+        return Ok(false);
+    }
+    put_either(list, place == 0, ": ", ", ")?;
+    put_event(list, event)?;
     Ok(true)
 }
 
@@ -199,7 +270,9 @@ fn write<E: StreamCalls>(
     words: &mut Words<'_>,
     out: &mut Vec<u8>,
 ) -> Result<(), RowFault> {
-    let id = stream_of(words)?;
+    let Ok(id) = stream_of(words) else {
+        return Err(RowFault::Form);
+    };
     let payload = words.bytes(alloc)?;
     put_write(out, end.write(alloc, id, &payload))
 }
@@ -218,8 +291,12 @@ fn reset<E: StreamCalls>(
     words: &mut Words<'_>,
     out: &mut Vec<u8>,
 ) -> Result<(), RowFault> {
-    let id = stream_of(words)?;
-    let code = varint_of(words)?;
+    let Ok(id) = stream_of(words) else {
+        return Err(RowFault::Form);
+    };
+    let Ok(code) = varint_of(words) else {
+        return Err(RowFault::Form);
+    };
     put_done(out, end.reset(id, code))
 }
 
@@ -228,7 +305,9 @@ fn prefer<E: StreamCalls>(
     words: &mut Words<'_>,
     out: &mut Vec<u8>,
 ) -> Result<(), RowFault> {
-    let id = stream_of(words)?;
+    let Ok(id) = stream_of(words) else {
+        return Err(RowFault::Form);
+    };
     let Ok(priority) = words.next().parse::<i32>() else {
         return Err(RowFault::Form);
     };
@@ -241,7 +320,7 @@ pub(crate) fn put_write(
     written: Result<usize, WriteFault>,
 ) -> Result<(), RowFault> {
     match written {
-        Ok(count) => put(out, &[Part::Text("taken"), Part::Number(count as u64)]),
+        Ok(count) => put_form(out, "taken #", &[count as u64]),
         Err(fault) => put_write_fault(out, fault),
     }
 }
@@ -262,18 +341,30 @@ fn write_many<E: StreamCalls>(
     words: &mut Words<'_>,
     out: &mut Vec<u8>,
 ) -> Result<(), RowFault> {
-    let first = words.number()?;
-    let count = words.number()?;
+    let Ok(first) = words.number() else {
+        return Err(RowFault::Form);
+    };
+    let Ok(count) = words.number() else {
+        return Err(RowFault::Form);
+    };
     let payload = words.bytes(alloc)?;
+    let taken = write_on_each(alloc, end, first, count, &payload);
+    put_write(out, taken)
+}
+
+fn write_on_each<E: StreamCalls>(
+    alloc: Global,
+    end: &mut E,
+    first: u64,
+    count: u64,
+    payload: &[u8],
+) -> Result<usize, WriteFault> {
     let mut taken = 0usize;
     for index in 0..count {
         let id = StreamId(first.saturating_add(index.saturating_mul(4)));
-        match end.write(alloc, id, &payload) {
-            Ok(written) => taken = taken.saturating_add(written),
-            Err(fault) => return put_write_fault(out, fault),
-        }
+        taken = taken.saturating_add(end.write(alloc, id, payload)?);
     }
-    put_write(out, Ok(taken))
+    Ok(taken)
 }
 
 // Writes the chunks of a row, and tells what is left in each.
@@ -283,7 +374,9 @@ fn write_chunks<E: StreamCalls>(
     words: &mut Words<'_>,
     out: &mut Vec<u8>,
 ) -> Result<(), RowFault> {
-    let id = stream_of(words)?;
+    let Ok(id) = stream_of(words) else {
+        return Err(RowFault::Form);
+    };
     let mut chunks = Vec::new(alloc);
     push_chunks(alloc, words, &mut chunks)?;
     let written = end.write_chunks(alloc, id, &mut chunks);
@@ -300,10 +393,14 @@ fn push_chunks(
         if words.is_at_end() {
             break;
         }
-        let payload = words.bytes(alloc)?;
-        chunks.push(Bytes::copy_from_slice(alloc, &payload)?)?;
+        chunks.push(chunk_of(alloc, words)?)?;
     }
     Ok(())
+}
+
+fn chunk_of(alloc: Global, words: &mut Words<'_>) -> Result<Bytes, RowFault> {
+    let payload = words.bytes(alloc)?;
+    Ok(Bytes::copy_from_slice(alloc, &payload)?)
 }
 
 fn put_written(
@@ -312,27 +409,16 @@ fn put_written(
     chunks: &[Bytes],
 ) -> Result<(), RowFault> {
     match written {
-        Ok(written) => {
-            put(
-                out,
-                &[
-                    Part::Text("taken"),
-                    Part::Number(written.bytes as u64),
-                    Part::Text("chunks"),
-                    Part::Number(written.chunks as u64),
-                    Part::Text("left"),
-                ],
-            )?;
-            put_chunks(out, chunks)
-        }
+        Ok(written) => put_left(out, written, chunks),
         Err(fault) => put_write_fault(out, fault),
     }
 }
 
-fn put_chunks(out: &mut Vec<u8>, chunks: &[Bytes]) -> Result<(), RowFault> {
+fn put_left(out: &mut Vec<u8>, written: Written, chunks: &[Bytes]) -> Result<(), RowFault> {
+    let numbers = [written.bytes as u64, written.chunks as u64];
+    put_form(out, "taken # chunks # left", &numbers)?;
     for chunk in chunks {
-        put_text(out, " ")?;
-        put(out, &[Part::Bytes(chunk.as_slice())])?;
+        put_named(out, " ", chunk.as_slice())?;
     }
     Ok(())
 }
@@ -368,24 +454,8 @@ fn put_closed(out: &mut Vec<u8>) -> Result<(), RowFault> {
 }
 
 fn put_code(out: &mut Vec<u8>, word: &str, code: VarInt) -> Result<(), RowFault> {
-    put(out, &[Part::Text(word), Part::Number(code.into_inner())])
-}
-
-// The rows that ask for something of a stream.
-fn ask<E: StreamCalls>(
-    end: &mut E,
-    word: &str,
-    words: &mut Words<'_>,
-    out: &mut Vec<u8>,
-) -> Result<bool, RowFault> {
-    let answered = match word {
-        "stopped" => put_whether_stopped(out, end.stopped(stream_of(words)?)),
-        "priority" => put_priority(out, end.priority(stream_of(words)?)),
-        "take-reset" => put_whether_reset(out, end.received_reset(stream_of(words)?)),
-        _ => return Ok(false),
-    };
-    answered?;
-    Ok(true)
+    put_text(out, word)?;
+    put_form(out, " #", &[code.into_inner()])
 }
 
 fn put_whether_stopped(
@@ -401,9 +471,14 @@ fn put_whether_stopped(
 
 fn put_priority(out: &mut Vec<u8>, priority: Result<i32, ClosedStream>) -> Result<(), RowFault> {
     match priority {
-        Ok(priority) => put(out, &[Part::Text("priority"), Part::Signed(priority)]),
+        Ok(priority) => put_priority_of(out, priority),
         Err(ClosedStream) => put_closed(out),
     }
+}
+
+fn put_priority_of(out: &mut Vec<u8>, priority: i32) -> Result<(), RowFault> {
+    put_text(out, "priority ")?;
+    put_signed(out, priority)
 }
 
 fn put_whether_reset(
@@ -417,32 +492,17 @@ fn put_whether_reset(
     }
 }
 
-// The rows that read a stream.
-fn take<E: StreamCalls>(
-    alloc: Global,
-    end: &mut E,
-    word: &str,
-    words: &mut Words<'_>,
-    out: &mut Vec<u8>,
-) -> Result<bool, RowFault> {
-    let answered = match word {
-        "read" => read(end, words, out, true),
-        "read-any" => read(end, words, out, false),
-        "read-all" => read_all(alloc, end, words, out),
-        "stop" => stop(end, words, out),
-        _ => return Ok(false),
-    };
-    answered?;
-    Ok(true)
-}
-
 fn stop<E: StreamCalls>(
     end: &mut E,
     words: &mut Words<'_>,
     out: &mut Vec<u8>,
 ) -> Result<(), RowFault> {
-    let id = stream_of(words)?;
-    let code = varint_of(words)?;
+    let Ok(id) = stream_of(words) else {
+        return Err(RowFault::Form);
+    };
+    let Ok(code) = varint_of(words) else {
+        return Err(RowFault::Form);
+    };
     put_done(out, end.stop(id, code))
 }
 
@@ -452,7 +512,9 @@ fn read<E: StreamCalls>(
     out: &mut Vec<u8>,
     ordered: bool,
 ) -> Result<(), RowFault> {
-    let id = stream_of(words)?;
+    let Ok(id) = stream_of(words) else {
+        return Err(RowFault::Form);
+    };
     let max_length = words.number()? as usize;
     put_read(out, &end.read(id, max_length, ordered))
 }
@@ -463,18 +525,16 @@ pub(crate) fn put_read(
     given: &Result<Option<Chunk>, TakeFault>,
 ) -> Result<(), RowFault> {
     match given {
-        Ok(Some(chunk)) => put(
-            out,
-            &[
-                Part::Text("bytes"),
-                Part::Number(chunk.offset),
-                Part::Bytes(chunk.bytes.as_slice()),
-            ],
-        ),
+        Ok(Some(chunk)) => put_bytes_read(out, chunk.offset, chunk.bytes.as_slice()),
         Ok(None) => put_text(out, "end"),
         Err(TakeFault::Read(fault)) => put_read_fault(out, *fault),
         Err(TakeFault::Readable(fault)) => put_readable_fault(out, *fault),
     }
+}
+
+fn put_bytes_read(out: &mut Vec<u8>, offset: u64, bytes: &[u8]) -> Result<(), RowFault> {
+    put_form(out, "bytes # ", &[offset])?;
+    put_named(out, "", bytes)
 }
 
 fn put_read_fault(out: &mut Vec<u8>, fault: ReadFault) -> Result<(), RowFault> {
@@ -500,13 +560,23 @@ fn read_all<E: StreamCalls>(
     words: &mut Words<'_>,
     out: &mut Vec<u8>,
 ) -> Result<(), RowFault> {
-    let id = stream_of(words)?;
+    let Ok(id) = stream_of(words) else {
+        return Err(RowFault::Form);
+    };
     let mut bytes = Vec::new(alloc);
+    put_gathered(alloc, end, id, &mut bytes, out)
+}
+
+fn put_gathered<E: StreamCalls>(
+    alloc: Global,
+    end: &mut E,
+    id: StreamId,
+    bytes: &mut Vec<u8>,
+    out: &mut Vec<u8>,
+) -> Result<(), RowFault> {
     let mut last = Vec::new(alloc);
-    let reads = gather(end, id, &mut bytes, &mut last)?;
-    put_all(out, reads, &bytes)?;
-    out.extend_from_slice(&last)?;
-    Ok(())
+    let reads = gather(end, id, bytes, &mut last)?;
+    put_all(out, reads, bytes, &last)
 }
 
 // Appends what a stream gives in order, and to another list the first answer that is no bytes. Answers in how many reads.
@@ -518,52 +588,75 @@ fn gather<E: StreamCalls>(
 ) -> Result<u64, RowFault> {
     let mut reads = 0u64;
     for _ in 0..MANY {
-        let given = end.read(id, usize::MAX, true);
-        let Ok(Some(chunk)) = &given else {
-            put_read(last, &given)?;
+        if !gather_next(end, id, bytes, last)? {
             return Ok(reads);
-        };
-        bytes.extend_from_slice(chunk.bytes.as_slice())?;
+        }
         reads = reads.saturating_add(1);
     }
     Err(RowFault::Form)
 }
 
-fn put_all(out: &mut Vec<u8>, reads: u64, bytes: &[u8]) -> Result<(), RowFault> {
-    put(
-        out,
-        &[
-            Part::Number(reads),
-            Part::Text("reads"),
-            Part::Number(bytes.len() as u64),
-            Part::Text("bytes"),
-            Part::Bytes(bytes),
-            Part::Text("then"),
-        ],
-    )?;
-    put_text(out, " ")
+// Reads once. Whether that gives bytes.
+fn gather_next<E: StreamCalls>(
+    end: &mut E,
+    id: StreamId,
+    bytes: &mut Vec<u8>,
+    last: &mut Vec<u8>,
+) -> Result<bool, RowFault> {
+    let given = end.read(id, usize::MAX, true);
+    take_given(&given, bytes, last)
 }
 
-// The rows that set limits.
-fn limit<E: StreamCalls>(
-    end: &mut E,
-    word: &str,
-    words: &mut Words<'_>,
-    out: &mut Vec<u8>,
+fn take_given(
+    given: &Result<Option<Chunk>, TakeFault>,
+    bytes: &mut Vec<u8>,
+    last: &mut Vec<u8>,
 ) -> Result<bool, RowFault> {
-    match word {
-        "set-streams" => set_streams(end, words)?,
-        "set-send" => end.set_send_window(words.number()?),
-        "set-receive" => end.set_receive_window(varint_of(words)?),
-        _ => return Ok(false),
-    }
-    put_ok(out)?;
+    let Ok(Some(chunk)) = given else {
+        put_read(last, given)?;
+        return Ok(false);
+    };
+    bytes.extend_from_slice(chunk.bytes.as_slice())?;
     Ok(true)
 }
 
-fn set_streams<E: StreamCalls>(end: &mut E, words: &mut Words<'_>) -> Result<(), RowFault> {
-    let dir = dir_of(words)?;
-    let count = varint_of(words)?;
-    end.set_max_concurrent(dir, count);
+fn put_all(out: &mut Vec<u8>, reads: u64, bytes: &[u8], last: &[u8]) -> Result<(), RowFault> {
+    put_form(out, "# reads # bytes ", &[reads, bytes.len() as u64])?;
+    put_named(out, "", bytes)?;
+    put_text(out, " then ")?;
+    out.extend_from_slice(last)?;
     Ok(())
+}
+
+fn set_streams<E: StreamCalls>(
+    end: &mut E,
+    words: &mut Words<'_>,
+    out: &mut Vec<u8>,
+) -> Result<(), RowFault> {
+    let Ok(dir) = dir_of(words) else {
+        return Err(RowFault::Form);
+    };
+    let Ok(count) = varint_of(words) else {
+        return Err(RowFault::Form);
+    };
+    end.set_max_concurrent(dir, count);
+    put_ok(out)
+}
+
+fn set_send<E: StreamCalls>(
+    end: &mut E,
+    words: &mut Words<'_>,
+    out: &mut Vec<u8>,
+) -> Result<(), RowFault> {
+    end.set_send_window(words.number()?);
+    put_ok(out)
+}
+
+fn set_receive<E: StreamCalls>(
+    end: &mut E,
+    words: &mut Words<'_>,
+    out: &mut Vec<u8>,
+) -> Result<(), RowFault> {
+    end.set_receive_window(varint_of(words)?);
+    put_ok(out)
 }

@@ -1,5 +1,5 @@
 //! Much that goes over: there and back, and on one of many streams.
-use crate::answers::{Part, put, put_text};
+use crate::answers::{put_form, put_text};
 use crate::calls::{ConnectionEnd, StreamCalls};
 use crate::pair::Pair;
 use crate::settings::{Settings, USUAL};
@@ -92,7 +92,9 @@ pub(crate) fn echo(
     out: &mut Vec<u8>,
 ) -> Result<(), RowFault> {
     let size = words.number()? as usize;
-    let turns = words.number()?;
+    let Ok(turns) = words.number() else {
+        return Err(RowFault::Form);
+    };
     let mut asks = Talk::new(alloc);
     let mut answers = Talk::new(alloc);
     let outcome = exchange(alloc, pair, &mut asks, &mut answers, size, turns)?;
@@ -164,8 +166,12 @@ pub(crate) fn answer(
     out: &mut Vec<u8>,
 ) -> Result<(), RowFault> {
     let kind = words.next();
-    let streams = words.number()?;
-    let total = words.number()?;
+    let Ok(streams) = words.number() else {
+        return Err(RowFault::Form);
+    };
+    let Ok(total) = words.number() else {
+        return Err(RowFault::Form);
+    };
     let settings = settings(streams);
     match kind {
         "connection" => over_connection(alloc, &settings, total, out),
@@ -194,7 +200,9 @@ fn over_connection(
     out: &mut Vec<u8>,
 ) -> Result<(), RowFault> {
     let mut pair = Pair::new(alloc, settings)?;
-    send_over(alloc, &mut pair, settings.limits.max_bidi, total, out)
+    let told = send_over(alloc, &mut pair, settings.limits.max_bidi, total, out);
+    drop(pair);
+    told
 }
 
 fn send_over(
@@ -214,16 +222,10 @@ fn send_over(
 }
 
 fn put_sums(out: &mut Vec<u8>, read: u64, client: u64, server: u64) -> Result<(), RowFault> {
-    put(
+    put_form(
         out,
-        &[
-            Part::Number(read),
-            Part::Text("bytes read, packets:"),
-            Part::Number(client),
-            Part::Text("from the client,"),
-            Part::Number(server),
-            Part::Text("from the server"),
-        ],
+        "# bytes read, packets: # from the client, # from the server",
+        &[read, client, server],
     )
 }
 
@@ -300,14 +302,16 @@ fn over_streams(
     out: &mut Vec<u8>,
 ) -> Result<(), RowFault> {
     let mut pair = StreamsPair::new(alloc, settings);
-    send_between(
+    let told = send_between(
         alloc,
         &mut pair.client,
         &mut pair.server,
         settings.limits.max_bidi,
         total,
         out,
-    )
+    );
+    drop(pair);
+    told
 }
 
 fn send_between(
@@ -382,31 +386,62 @@ fn serve_waiting(
     total: u64,
     out: &mut Vec<u8>,
 ) -> Result<(), RowFault> {
-    let mut end = StreamsPair::new(alloc, settings).client;
+    let mut pair = StreamsPair::new(alloc, settings);
+    let told = tell_waiting(
+        alloc,
+        &mut pair.client,
+        settings.limits.max_bidi,
+        total,
+        out,
+    );
+    drop(pair);
+    told
+}
+
+fn tell_waiting(
+    alloc: Global,
+    end: &mut StreamsEnd,
+    streams: u64,
+    total: u64,
+    out: &mut Vec<u8>,
+) -> Result<(), RowFault> {
+    let ids = open_waiting(alloc, end, streams)?;
+    put_waiting(alloc, end, &ids, total, out)
+}
+
+// Opens so many streams, as far as that is permitted.
+fn open_waiting(
+    alloc: Global,
+    end: &mut StreamsEnd,
+    streams: u64,
+) -> Result<Vec<StreamId>, RowFault> {
     let mut ids = Vec::new(alloc);
-    for _ in 0..settings.limits.max_bidi {
+    for _ in 0..streams {
         if let Some(id) = end.open(alloc, Dir::Bi)? {
             ids.push(id)?;
         }
     }
+    Ok(ids)
+}
+
+fn put_waiting(
+    alloc: Global,
+    end: &mut StreamsEnd,
+    ids: &[StreamId],
+    total: u64,
+    out: &mut Vec<u8>,
+) -> Result<(), RowFault> {
     let mut sent = 0u64;
     let mut packets = 0u64;
     for _ in 0..total {
-        let taken = write_each(alloc, &mut end, &ids);
+        let taken = write_each(alloc, end, ids);
         sent = sent.saturating_add(taken);
-        packets = packets.saturating_add(send_all(alloc, &mut end)?);
+        packets = packets.saturating_add(send_all(alloc, end)?);
         if taken == 0 || sent >= total {
             break;
         }
     }
-    put(
-        out,
-        &[
-            Part::Number(sent),
-            Part::Text("bytes sent, packets:"),
-            Part::Number(packets),
-        ],
-    )
+    put_form(out, "# bytes sent, packets: #", &[sent, packets])
 }
 
 // Writes a byte on each stream. Answers how many were taken.
@@ -424,12 +459,17 @@ fn write_each(alloc: Global, end: &mut StreamsEnd, ids: &[StreamId]) -> u64 {
 fn send_all(alloc: Global, end: &mut StreamsEnd) -> Result<u64, RowFault> {
     let mut packets = 0u64;
     for _ in 0..u32::MAX {
-        let mut packet = Vec::new(alloc);
-        write_acked(alloc, end, ROOM, &mut packet)?;
-        if packet.is_empty() {
+        if !send_one(alloc, end)? {
             break;
         }
         packets = packets.saturating_add(1);
     }
     Ok(packets)
+}
+
+// Sends what is due, acknowledged at once. Whether something is.
+fn send_one(alloc: Global, end: &mut StreamsEnd) -> Result<bool, RowFault> {
+    let mut packet = Vec::new(alloc);
+    write_acked(alloc, end, ROOM, &mut packet)?;
+    Ok(!packet.is_empty())
 }

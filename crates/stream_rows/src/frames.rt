@@ -80,8 +80,12 @@ fn stream_frame_of(
     words: &mut Words<'_>,
     fin: bool,
 ) -> Result<StreamFrame, RowFault> {
-    let id = stream_of(words)?;
-    let offset = varint_of(words)?;
+    let Ok(id) = stream_of(words) else {
+        return Err(RowFault::Form);
+    };
+    let Ok(offset) = varint_of(words) else {
+        return Err(RowFault::Form);
+    };
     let payload = words.bytes(alloc)?;
     Ok(StreamFrame::Stream {
         id,

@@ -17,11 +17,11 @@ mod settings;
 mod space;
 mod streams;
 
-use answers::put_ok;
+use answers::{find, put_form, put_ok};
 use pair::Pair;
 use qh_base::{Side, StdSink, StdSource};
 use role::Role;
-use row_text::{RowFault, Table, Words, put_number, put_text, run};
+use row_text::{RowFault, Table, Words, run};
 use settings::{Settings, USUAL};
 use space::SpacePair;
 use std::alloc::Global;
@@ -36,6 +36,26 @@ enum Kind {
     Streams,
     Spaces,
 }
+
+// The word of a row of both ends.
+#[derive(Clone, Copy)]
+enum Call {
+    New,
+    Streams,
+    Spaces,
+    Echo,
+    Bulk,
+    Serve,
+}
+
+const CALLS: [(&str, Call); 6] = [
+    ("new", Call::New),
+    ("streams", Call::Streams),
+    ("spaces", Call::Spaces),
+    ("echo", Call::Echo),
+    ("bulk", Call::Bulk),
+    ("serve", Call::Serve),
+];
 
 #[derive(Drop)]
 struct Stories {
@@ -73,16 +93,38 @@ impl Stories {
     ) -> Result<bool, RowFault> {
         let word = words.next();
         match self.kind {
-            Kind::Connection => Ok(
-                application::answer(alloc, self.pair.end(side), word, words, out)?
-                    || self.pair.answer_end(alloc, side, word, words, out)?,
-            ),
-            Kind::Streams => Ok(
-                application::answer(alloc, self.streams.end(side), word, words, out)?
-                    || self.streams.answer_end(alloc, side, word, words, out)?,
-            ),
+            Kind::Connection => self.answer_connection(alloc, side, word, words, out),
+            Kind::Streams => self.answer_streams(alloc, side, word, words, out),
             Kind::Spaces => self.spaces.answer_end(alloc, side, word, words, out),
         }
+    }
+
+    fn answer_connection(
+        &mut self,
+        alloc: Global,
+        side: Side,
+        word: &str,
+        words: &mut Words<'_>,
+        out: &mut Vec<u8>,
+    ) -> Result<bool, RowFault> {
+        if application::answer(alloc, self.pair.end(side), word, words, out)? {
+            return Ok(true);
+        }
+        self.pair.answer_end(alloc, side, word, words, out)
+    }
+
+    fn answer_streams(
+        &mut self,
+        alloc: Global,
+        side: Side,
+        word: &str,
+        words: &mut Words<'_>,
+        out: &mut Vec<u8>,
+    ) -> Result<bool, RowFault> {
+        if application::answer(alloc, self.streams.end(side), word, words, out)? {
+            return Ok(true);
+        }
+        self.streams.answer_end(alloc, side, word, words, out)
     }
 
     // Answers a row of both ends, if it is one. Whether it is.
@@ -93,15 +135,16 @@ impl Stories {
         words: &mut Words<'_>,
         out: &mut Vec<u8>,
     ) -> Result<bool, RowFault> {
-        match word {
-            "new" => self.begin(alloc, Kind::Connection, words, out)?,
-            "streams" => self.begin(alloc, Kind::Streams, words, out)?,
-            "spaces" => self.begin(alloc, Kind::Spaces, words, out)?,
-            "echo" => bulk::echo(alloc, &mut self.pair, words, out)?,
-            "bulk" => bulk::answer(alloc, words, out)?,
-            "serve" => self.serve(alloc, out)?,
-            _ => return self.pair.answer(alloc, word, words, out),
-        }
+        let answered = match find(&CALLS, word) {
+            Some(Call::New) => self.begin(alloc, Kind::Connection, words, out),
+            Some(Call::Streams) => self.begin(alloc, Kind::Streams, words, out),
+            Some(Call::Spaces) => self.begin(alloc, Kind::Spaces, words, out),
+            Some(Call::Echo) => bulk::echo(alloc, &mut self.pair, words, out),
+            Some(Call::Bulk) => bulk::answer(alloc, words, out),
+            Some(Call::Serve) => self.serve(alloc, out),
+            None => return self.pair.answer(alloc, word, words, out),
+        };
+        answered?;
         Ok(true)
     }
 
@@ -117,16 +160,22 @@ impl Stories {
         self.kind = kind;
         match kind {
             Kind::Connection => self.connect(alloc, &settings)?,
-            Kind::Streams => {
-                let streams = StreamsPair::new(alloc, &settings);
-                drop(mem::replace(&mut self.streams, streams));
-            }
-            Kind::Spaces => {
-                let spaces = SpacePair::new(alloc, &settings);
-                drop(mem::replace(&mut self.spaces, spaces));
-            }
+            Kind::Streams => self.join(alloc, &settings),
+            Kind::Spaces => self.part(alloc, &settings),
         }
         put_ok(out)
+    }
+
+    // Makes fresh ends with streams alone.
+    fn join(&mut self, alloc: Global, settings: &Settings) {
+        let streams = StreamsPair::new(alloc, settings);
+        drop(mem::replace(&mut self.streams, streams));
+    }
+
+    // Makes fresh ends with spaces alone.
+    fn part(&mut self, alloc: Global, settings: &Settings) {
+        let spaces = SpacePair::new(alloc, settings);
+        drop(mem::replace(&mut self.spaces, spaces));
     }
 
     // Makes fresh ends of a connection.
@@ -140,20 +189,22 @@ impl Stories {
     // Lets the server's role go on.
     fn serve(&mut self, alloc: Global, out: &mut Vec<u8>) -> Result<(), RowFault> {
         let served = self.role.serve(alloc, &mut self.pair.server)?;
-        put_text(out, "served ")?;
-        put_number(out, served)?;
-        Ok(())
+        put_form(out, "served #", &[served])
     }
 }
 
 fn main(rt: HostRuntime) -> ExitCode {
     let alloc = rt.alloc();
-    let Ok(mut stories) = usual_stories(alloc) else {
-        return ExitCode::from(9);
-    };
     let mut source = StdSource::new(rt.stdin());
     let mut sink = StdSink::new(rt.stdout());
-    ExitCode::from(run(alloc, &mut source, &mut sink, &mut stories))
+    match usual_stories(alloc) {
+        Ok(mut stories) => {
+            let status = run(alloc, &mut source, &mut sink, &mut stories);
+            drop(stories);
+            ExitCode::from(status)
+        }
+        Err(_) => ExitCode::from(9),
+    }
 }
 
 // Usual ends of both kinds.

@@ -1,5 +1,5 @@
 //! Packets that are made by hand, and packets as they are told.
-use crate::answers::{Part, put};
+use crate::answers::{put_form, put_named};
 use qh_base::{ConnectionId, Side, Space};
 use qh_core::{PlainSession, Session};
 use row_text::RowFault;
@@ -54,8 +54,15 @@ pub(crate) struct Packet<'a> {
 }
 
 impl Packet<'_> {
-    /// Appends the datagram.
-    pub(crate) fn put(&self, out: &mut Vec<u8>) -> Result<(), RowFault> {
+    /// The datagram.
+    pub(crate) fn datagram(&self, alloc: Global) -> Result<Vec<u8>, RowFault> {
+        let mut datagram = Vec::new(alloc);
+        self.put(&mut datagram)?;
+        Ok(datagram)
+    }
+
+    // Appends the datagram.
+    fn put(&self, out: &mut Vec<u8>) -> Result<(), RowFault> {
         let width = self.width.clamp(1, 4);
         out.push(0x3f + width as u8)?;
         out.extend_from_slice(local_id(self.to))?;
@@ -67,7 +74,8 @@ impl Packet<'_> {
 }
 
 fn tag(sender: Side, number: u64) -> Result<[u8; TAG_LEN], RowFault> {
-    Ok(session()?.tag(sender, Space::Data, number))
+    let session = session()?;
+    Ok(session.tag(sender, Space::Data, number))
 }
 
 /// How many bytes come before the frames of a packet to an end, where its number has four.
@@ -91,29 +99,23 @@ pub(crate) fn put_packet(
         frames,
         sender: peer_of(to),
     };
-    let mut expected = Vec::new(alloc);
-    packet.put(&mut expected)?;
-    if expected.as_slice() == datagram {
-        put_told(out, number, frames)?;
+    if is_written(alloc, &packet, datagram)? {
+        put_told(out, number, frames)
     } else {
-        put(
-            out,
-            &[Part::Text("another datagram"), Part::Bytes(datagram)],
-        )?;
+        put_named(out, "another datagram ", datagram)
     }
-    Ok(())
+}
+
+// Whether a datagram is this packet.
+fn is_written(alloc: Global, packet: &Packet<'_>, datagram: &[u8]) -> Result<bool, RowFault> {
+    let expected = packet.datagram(alloc)?;
+    Ok(expected.as_slice() == datagram)
 }
 
 /// Appends the number and the frames of a packet.
 pub(crate) fn put_told(out: &mut Vec<u8>, number: u64, frames: &[u8]) -> Result<(), RowFault> {
-    put(
-        out,
-        &[
-            Part::Text("packet"),
-            Part::Number(number),
-            Part::Bytes(frames),
-        ],
-    )
+    put_form(out, "packet # ", &[number])?;
+    put_named(out, "", frames)
 }
 
 /// What stands between the head and the tag of a datagram.

@@ -1,11 +1,11 @@
 //! Two ends of a connection with a link between them.
-use crate::answers::{Part, put, put_ok, put_reason, put_text};
+use crate::answers::{find, put_either, put_form, put_maybe, put_ok, put_reason, put_text};
 use crate::calls::{ConnectionEnd, StreamCalls};
 use crate::link::{Fate, Link, TURN};
 use crate::packets::{Packet, TAG_LEN, head_len, id_of, local_id, peer_of, put_packet, session};
 use crate::settings::{Settings, varint_of};
 use bytes::Bytes;
-use qh_base::{ConnectionId, FourTuple, Memory, Moment, Reason, Side};
+use qh_base::{ConnectionError, ConnectionId, FourTuple, Memory, Moment, Reason, Side};
 use qh_core::{ConnectionEvent, EndpointEvent, PlainSession};
 use row_text::{RowFault, Words};
 use std::alloc::Global;
@@ -13,6 +13,76 @@ use std::net::{IpAddr, Ipv4Addr, SocketAddr};
 
 // So many datagrams are sent at most at once, and so many timers run one after another.
 const MANY: u32 = 10_000;
+
+// The word of a row of the link.
+#[derive(Clone, Copy)]
+enum LinkCall {
+    At,
+    Pass,
+    Turn,
+    Turns,
+    Drop,
+    Link,
+    Lose,
+    Twice,
+    Late,
+}
+
+const LINK_CALLS: [(&str, LinkCall); 9] = [
+    ("at", LinkCall::At),
+    ("pass", LinkCall::Pass),
+    ("turn", LinkCall::Turn),
+    ("turns", LinkCall::Turns),
+    ("drop", LinkCall::Drop),
+    ("link", LinkCall::Link),
+    ("lose", LinkCall::Lose),
+    ("twice", LinkCall::Twice),
+    ("late", LinkCall::Late),
+];
+
+// The word of a row of an end that isn't an application's.
+#[derive(Clone, Copy)]
+enum EndCall {
+    Hear,
+    HearForeign,
+    Datagram,
+    HearOthers,
+    Send,
+    SendAll,
+    Due,
+    Timer,
+    RunOut,
+    Close,
+    CloseEvent,
+    State,
+    Stats,
+    Recovery,
+    Window,
+    Threshold,
+    Rtt,
+    Endpoint,
+}
+
+const END_CALLS: [(&str, EndCall); 18] = [
+    ("hear", EndCall::Hear),
+    ("hear-foreign", EndCall::HearForeign),
+    ("datagram", EndCall::Datagram),
+    ("hear-others", EndCall::HearOthers),
+    ("send", EndCall::Send),
+    ("send-all", EndCall::SendAll),
+    ("due", EndCall::Due),
+    ("timer", EndCall::Timer),
+    ("run-out", EndCall::RunOut),
+    ("close", EndCall::Close),
+    ("close-event", EndCall::CloseEvent),
+    ("state", EndCall::State),
+    ("stats", EndCall::Stats),
+    ("recovery", EndCall::Recovery),
+    ("window", EndCall::Window),
+    ("threshold", EndCall::Threshold),
+    ("rtt", EndCall::Rtt),
+    ("endpoint", EndCall::Endpoint),
+];
 
 /// Both ends of a connection, and the link.
 #[derive(Drop)]
@@ -92,14 +162,17 @@ impl Pair {
         words: &mut Words<'_>,
         out: &mut Vec<u8>,
     ) -> Result<bool, RowFault> {
-        let answered = match word {
-            "at" => self.set_clock(words, out),
-            "pass" => self.put_pass(alloc, out),
-            "turn" => self.put_turns(alloc, 1, out),
-            "turns" => self.put_turns(alloc, words.number()?, out),
-            "drop" => put_datagrams(out, self.link.drop_all()),
-            "link" => self.put_link(out),
-            _ => return self.fate(word, words, out),
+        let answered = match find(&LINK_CALLS, word) {
+            Some(LinkCall::At) => self.set_clock(words, out),
+            Some(LinkCall::Pass) => self.put_pass(alloc, out),
+            Some(LinkCall::Turn) => self.put_turns(alloc, 1, out),
+            Some(LinkCall::Turns) => self.put_turns(alloc, words.number()?, out),
+            Some(LinkCall::Drop) => put_datagrams(out, self.link.drop_all()),
+            Some(LinkCall::Link) => self.put_link(out),
+            Some(LinkCall::Lose) => self.set_fate(Fate::Lost, words, out),
+            Some(LinkCall::Twice) => self.set_fate(Fate::Twice, words, out),
+            Some(LinkCall::Late) => self.set_fate(Fate::Late, words, out),
+            None => return Ok(false),
         };
         answered?;
         Ok(true)
@@ -115,33 +188,22 @@ impl Pair {
         put_datagrams(out, count)
     }
 
-    // The rows that say what happens to datagrams.
-    fn fate(
+    // Says what happens to a datagram.
+    fn set_fate(
         &mut self,
-        word: &str,
+        fate: Fate,
         words: &mut Words<'_>,
         out: &mut Vec<u8>,
-    ) -> Result<bool, RowFault> {
-        let fate = match word {
-            "lose" => Fate::Lost,
-            "twice" => Fate::Twice,
-            "late" => Fate::Late,
-            _ => return Ok(false),
-        };
+    ) -> Result<(), RowFault> {
         self.link.set_fate(words.number()?, fate)?;
-        put_ok(out)?;
-        Ok(true)
+        put_ok(out)
     }
 
     fn put_link(&self, out: &mut Vec<u8>) -> Result<(), RowFault> {
-        put(
+        put_form(
             out,
-            &[
-                Part::Text("turns"),
-                Part::Number(self.link.turns),
-                Part::Text("datagrams"),
-                Part::Number(self.link.sent),
-            ],
+            "turns # datagrams #",
+            &[self.link.turns, self.link.sent],
         )
     }
 
@@ -162,6 +224,10 @@ impl Pair {
         let now = self.link.moment();
         run_timer(&mut self.client, now);
         run_timer(&mut self.server, now);
+        self.send_from_both(alloc)
+    }
+
+    fn send_from_both(&mut self, alloc: Global) -> Result<(), RowFault> {
         self.send_all(alloc, Side::Client)?;
         self.send_all(alloc, Side::Server)?;
         Ok(())
@@ -225,39 +291,47 @@ impl Pair {
         words: &mut Words<'_>,
         out: &mut Vec<u8>,
     ) -> Result<bool, RowFault> {
-        Ok(
-            self.come(alloc, side, word, words, out)?
-                || self.go(alloc, side, word, out)?
-                || self.close(side, word, words, out)?
-                || ask(self.end(side), word, out)?,
-        )
-    }
-
-    // The rows by which datagrams come that are made by hand.
-    fn come(
-        &mut self,
-        alloc: Global,
-        side: Side,
-        word: &str,
-        words: &mut Words<'_>,
-        out: &mut Vec<u8>,
-    ) -> Result<bool, RowFault> {
-        let came = match word {
-            "hear" => self.hear(alloc, side, peer_of(side), words),
-            "hear-foreign" => self.hear(alloc, side, side, words),
-            "datagram" => self.take(alloc, side, words),
-            "hear-others" => return self.hear_others(alloc, side, words, out),
-            _ => return Ok(false),
-        };
-        came?;
-        put_state(self.end(side), out)?;
+        match find(&END_CALLS, word) {
+            Some(call) => self.answer_call(alloc, side, call, words, out)?,
+            None => return Ok(false),
+        }
         Ok(true)
     }
 
+    fn answer_call(
+        &mut self,
+        alloc: Global,
+        side: Side,
+        call: EndCall,
+        words: &mut Words<'_>,
+        out: &mut Vec<u8>,
+    ) -> Result<(), RowFault> {
+        match call {
+            EndCall::Hear => self.hear(alloc, side, peer_of(side), words, out),
+            EndCall::HearForeign => self.hear(alloc, side, side, words, out),
+            EndCall::Datagram => self.take(alloc, side, words, out),
+            EndCall::HearOthers => self.hear_others(alloc, side, words, out),
+            EndCall::Send => self.put_sent(alloc, side, out),
+            EndCall::SendAll => self.put_all_sent(alloc, side, out),
+            EndCall::Due => self.put_due(side, out),
+            EndCall::RunOut => self.run_out(alloc, side, out),
+            EndCall::Close => self.close(side, words, out),
+            EndCall::CloseEvent => self.close_event(side, words, out),
+            _ => ask(self.end(side), call, out),
+        }
+    }
+
     // A datagram comes, of the row's bytes.
-    fn take(&mut self, alloc: Global, side: Side, words: &mut Words<'_>) -> Result<(), RowFault> {
+    fn take(
+        &mut self,
+        alloc: Global,
+        side: Side,
+        words: &mut Words<'_>,
+        out: &mut Vec<u8>,
+    ) -> Result<(), RowFault> {
         let bytes = words.bytes(alloc)?;
-        self.hand_in_copy(alloc, side, &bytes)
+        self.hand_in_copy(alloc, side, &bytes)?;
+        put_state(self.end(side), out)
     }
 
     // A datagram comes to an end, of these bytes.
@@ -274,20 +348,29 @@ impl Pair {
         to: Side,
         sender: Side,
         words: &mut Words<'_>,
+        out: &mut Vec<u8>,
     ) -> Result<(), RowFault> {
-        let number = words.number()?;
+        let Ok(number) = words.number() else {
+            return Err(RowFault::Form);
+        };
         let width = words.number()? as usize;
         let frames = words.bytes(alloc)?;
-        let packet = Packet {
-            to,
-            number,
-            width,
-            frames: &frames,
-            sender,
-        };
-        let mut datagram = Vec::new(alloc);
-        packet.put(&mut datagram)?;
-        self.hand_in_copy(alloc, to, &datagram)
+        self.hear_packet(
+            alloc,
+            Packet {
+                to,
+                number,
+                width,
+                frames: &frames,
+                sender,
+            },
+        )?;
+        put_state(self.end(to), out)
+    }
+
+    fn hear_packet(&mut self, alloc: Global, packet: Packet<'_>) -> Result<(), RowFault> {
+        let datagram = packet.datagram(alloc)?;
+        self.hand_in_copy(alloc, packet.to, &datagram)
     }
 
     // A packet comes with each byte changed in turn, and cut before each, but for the bytes of its frames, which no tag covers.
@@ -297,21 +380,27 @@ impl Pair {
         to: Side,
         words: &mut Words<'_>,
         out: &mut Vec<u8>,
-    ) -> Result<bool, RowFault> {
-        let number = words.number()?;
-        let frames = words.bytes(alloc)?;
-        let packet = Packet {
-            to,
-            number,
-            width: 4,
-            frames: &frames,
-            sender: peer_of(to),
+    ) -> Result<(), RowFault> {
+        let Ok(number) = words.number() else {
+            return Err(RowFault::Form);
         };
-        let mut datagram = Vec::new(alloc);
-        packet.put(&mut datagram)?;
-        let count = self.hear_each_other(alloc, to, &datagram)?;
-        put_datagrams(out, count)?;
-        Ok(true)
+        let frames = words.bytes(alloc)?;
+        let count = self.hear_packet_others(
+            alloc,
+            Packet {
+                to,
+                number,
+                width: 4,
+                frames: &frames,
+                sender: peer_of(to),
+            },
+        )?;
+        put_datagrams(out, count)
+    }
+
+    fn hear_packet_others(&mut self, alloc: Global, packet: Packet<'_>) -> Result<u64, RowFault> {
+        let datagram = packet.datagram(alloc)?;
+        self.hear_each_other(alloc, packet.to, &datagram)
     }
 
     // Answers how many datagrams come that differ from this one.
@@ -339,34 +428,15 @@ impl Pair {
         datagram: &[u8],
         place: usize,
     ) -> Result<(), RowFault> {
-        let mut other = Vec::new(alloc);
-        for (i, byte) in datagram.iter().enumerate() {
-            other.push(if i == place { byte ^ 0x10 } else { *byte })?;
-        }
+        let mut other = changed(alloc, datagram, place)?;
         self.hand_in_copy(alloc, to, &other)?;
         other.truncate(place);
         self.hand_in_copy(alloc, to, &other)
     }
 
-    // The rows by which an end sends, and its time goes by.
-    fn go(
-        &mut self,
-        alloc: Global,
-        side: Side,
-        word: &str,
-        out: &mut Vec<u8>,
-    ) -> Result<bool, RowFault> {
+    fn put_due(&mut self, side: Side, out: &mut Vec<u8>) -> Result<(), RowFault> {
         let now = self.link.moment();
-        let answered = match word {
-            "send" => self.put_sent(alloc, side, out),
-            "send-all" => self.put_all_sent(alloc, side, out),
-            "due" => put_due(self.end(side), now, out),
-            "timer" => put_moment(out, self.end(side).poll_timeout()),
-            "run-out" => self.run_out(alloc, side, out),
-            _ => return Ok(false),
-        };
-        answered?;
-        Ok(true)
+        put_either(out, run_timer(self.end(side), now), "done", "nothing")
     }
 
     fn put_all_sent(
@@ -382,8 +452,18 @@ impl Pair {
     // An end sends one datagram, which is told.
     fn put_sent(&mut self, alloc: Global, from: Side, out: &mut Vec<u8>) -> Result<(), RowFault> {
         let mut datagram = Vec::new(alloc);
-        if self.send(alloc, from, &mut datagram)? {
-            put_packet(alloc, peer_of(from), &datagram, out)
+        self.put_next(alloc, from, &mut datagram, out)
+    }
+
+    fn put_next(
+        &mut self,
+        alloc: Global,
+        from: Side,
+        datagram: &mut Vec<u8>,
+        out: &mut Vec<u8>,
+    ) -> Result<(), RowFault> {
+        if self.send(alloc, from, datagram)? {
+            put_packet(alloc, peer_of(from), datagram, out)
         } else {
             put_text(out, "nothing")
         }
@@ -392,62 +472,77 @@ impl Pair {
     // Time goes by to whatever is due at an end, until nothing is. What it sends is lost.
     fn run_out(&mut self, alloc: Global, side: Side, out: &mut Vec<u8>) -> Result<(), RowFault> {
         let mut last = None;
-        let mut datagram = Vec::new(alloc);
         for _ in 0..MANY {
-            let end = self.end(side);
-            let Some(due) = end.poll_timeout() else {
-                break;
-            };
-            end.handle_timeout(due);
-            end.poll_transmit(due, &mut datagram)?;
-            datagram.clear();
-            last = Some(due);
+            match run_due(alloc, self.end(side))? {
+                Some(due) => last = Some(due),
+                None => break,
+            }
         }
         put_moment(out, last)
     }
 
-    // The rows by which an application closes.
+    // The application closes.
     fn close(
         &mut self,
         side: Side,
-        word: &str,
         words: &mut Words<'_>,
         out: &mut Vec<u8>,
-    ) -> Result<bool, RowFault> {
-        if word != "close" && word != "close-event" {
-            return Ok(false);
-        }
-        let error_code = varint_of(words)?;
+    ) -> Result<(), RowFault> {
+        let Ok(error_code) = varint_of(words) else {
+            return Err(RowFault::Form);
+        };
         let reason = Reason::of(words.rest().as_bytes());
         let now = self.link.moment();
-        if word == "close" {
-            self.end(side).close(now, error_code, reason);
-        } else {
-            self.end(side).handle_event(ConnectionEvent::Close {
-                now,
-                error_code,
-                reason,
-            })?;
-        }
-        put_state(self.end(side), out)?;
-        Ok(true)
+        self.end(side).close(now, error_code, reason);
+        put_state(self.end(side), out)
     }
+
+    // The application closes by an event.
+    fn close_event(
+        &mut self,
+        side: Side,
+        words: &mut Words<'_>,
+        out: &mut Vec<u8>,
+    ) -> Result<(), RowFault> {
+        let Ok(error_code) = varint_of(words) else {
+            return Err(RowFault::Form);
+        };
+        let event = ConnectionEvent::Close {
+            now: self.link.moment(),
+            error_code,
+            reason: Reason::of(words.rest().as_bytes()),
+        };
+        self.end(side).handle_event(event)?;
+        put_state(self.end(side), out)
+    }
+}
+
+// A datagram with one byte changed.
+fn changed(alloc: Global, datagram: &[u8], place: usize) -> Result<Vec<u8>, RowFault> {
+    let mut other = datagram.to_vec(alloc)?;
+    if let Some(byte) = other.get_mut(place) {
+        *byte ^= 0x10;
+    }
+    Ok(other)
+}
+
+// Time goes by to what is due next at an end, and what it then sends is lost. Answers that moment.
+fn run_due(alloc: Global, end: &mut ConnectionEnd) -> Result<Option<Moment>, RowFault> {
+    let Some(due) = end.poll_timeout() else {
+        return Ok(None);
+    };
+    end.handle_timeout(due);
+    let mut datagram = Vec::new(alloc);
+    end.poll_transmit(due, &mut datagram)?;
+    Ok(Some(due))
 }
 
 fn put_datagrams(out: &mut Vec<u8>, count: u64) -> Result<(), RowFault> {
-    put(out, &[Part::Number(count), Part::Text("datagrams")])
+    put_form(out, "# datagrams", &[count])
 }
 
 fn put_moment(out: &mut Vec<u8>, moment: Option<Moment>) -> Result<(), RowFault> {
-    put(out, &[Part::Maybe(moment.map(|moment| moment.0))])
-}
-
-fn put_due(end: &mut ConnectionEnd, now: Moment, out: &mut Vec<u8>) -> Result<(), RowFault> {
-    if run_timer(end, now) {
-        put_text(out, "done")
-    } else {
-        put_text(out, "nothing")
-    }
+    put_maybe(out, moment.map(|moment| moment.0))
 }
 
 // Does what is due at an end. Whether something is.
@@ -462,20 +557,17 @@ fn run_timer(end: &mut ConnectionEnd, now: Moment) -> bool {
 }
 
 // The rows that ask for something of an end.
-fn ask(end: &mut ConnectionEnd, word: &str, out: &mut Vec<u8>) -> Result<bool, RowFault> {
-    let state = end.congestion_state();
-    let answered = match word {
-        "state" => put_state(end, out),
-        "stats" => put_stats(end, out),
-        "recovery" => put_recovery(end, out),
-        "window" => put(out, &[Part::Number(state.congestion_window)]),
-        "threshold" => put(out, &[Part::Maybe(state.ssthresh)]),
-        "rtt" => put_rtt(end, out),
-        "endpoint" => put_endpoint_event(end, out),
-        _ => return Ok(false),
-    };
-    answered?;
-    Ok(true)
+fn ask(end: &mut ConnectionEnd, call: EndCall, out: &mut Vec<u8>) -> Result<(), RowFault> {
+    match call {
+        EndCall::Timer => put_moment(out, end.poll_timeout()),
+        EndCall::State => put_state(end, out),
+        EndCall::Stats => put_stats(end, out),
+        EndCall::Recovery => put_recovery(end, out),
+        EndCall::Window => put_form(out, "#", &[end.congestion_state().congestion_window]),
+        EndCall::Threshold => put_maybe(out, end.congestion_state().ssthresh),
+        EndCall::Rtt => put_form(out, "smoothed # least #", &[end.rtt().0, end.min_rtt().0]),
+        _ => put_endpoint_event(end, out),
+    }
 }
 
 fn put_endpoint_event(end: &mut ConnectionEnd, out: &mut Vec<u8>) -> Result<(), RowFault> {
@@ -493,49 +585,32 @@ fn put_state(end: &ConnectionEnd, out: &mut Vec<u8>) -> Result<(), RowFault> {
         (_, true) => "drained",
     };
     put_text(out, state)?;
-    if let Some(reason) = &end.close_reason() {
-        put_text(out, ": ")?;
-        put_reason(out, reason)?;
+    match &end.close_reason() {
+        Some(reason) => put_close_reason(out, reason),
+        None => Ok(()),
     }
-    Ok(())
+}
+
+fn put_close_reason(out: &mut Vec<u8>, reason: &ConnectionError) -> Result<(), RowFault> {
+    put_text(out, ": ")?;
+    put_reason(out, reason)
 }
 
 fn put_stats(end: &ConnectionEnd, out: &mut Vec<u8>) -> Result<(), RowFault> {
     let stats = end.stats();
-    put(
+    put_form(
         out,
+        "sent # # received # #",
         &[
-            Part::Text("sent"),
-            Part::Number(stats.datagrams_sent),
-            Part::Number(stats.bytes_sent),
-            Part::Text("received"),
-            Part::Number(stats.datagrams_received),
-            Part::Number(stats.bytes_received),
+            stats.datagrams_sent,
+            stats.bytes_sent,
+            stats.datagrams_received,
+            stats.bytes_received,
         ],
     )
 }
 
 fn put_recovery(end: &ConnectionEnd, out: &mut Vec<u8>) -> Result<(), RowFault> {
     let stats = end.stats();
-    put(
-        out,
-        &[
-            Part::Text("lost"),
-            Part::Number(stats.packets_lost),
-            Part::Text("probes"),
-            Part::Number(stats.probes),
-        ],
-    )
-}
-
-fn put_rtt(end: &ConnectionEnd, out: &mut Vec<u8>) -> Result<(), RowFault> {
-    put(
-        out,
-        &[
-            Part::Text("smoothed"),
-            Part::Number(end.rtt().0),
-            Part::Text("least"),
-            Part::Number(end.min_rtt().0),
-        ],
-    )
+    put_form(out, "lost # probes #", &[stats.packets_lost, stats.probes])
 }

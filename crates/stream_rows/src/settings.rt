@@ -1,9 +1,46 @@
 //! What ends begin with, and the small words of rows: streams, directions, codes.
+use crate::answers::find;
 use qh_base::{Dir, Span, StreamId, VarInt};
 use qh_core::{ConnConfig, first_limits};
 use qh_space::SpaceConfig;
 use qh_streams::{PeerLimits, StreamLimits};
 use row_text::{RowFault, Words};
+
+// The word of a setting.
+#[derive(Clone, Copy)]
+enum Setting {
+    Receive,
+    Stream,
+    Send,
+    Bidi,
+    Uni,
+    Idle,
+    Rtt,
+    Window,
+    PeerReceive,
+    PeerLocal,
+    PeerRemote,
+    PeerOneWay,
+    PeerBidi,
+    PeerUni,
+}
+
+const WORDS: [(&str, Setting); 14] = [
+    ("receive", Setting::Receive),
+    ("stream", Setting::Stream),
+    ("send", Setting::Send),
+    ("bidi", Setting::Bidi),
+    ("uni", Setting::Uni),
+    ("idle", Setting::Idle),
+    ("rtt", Setting::Rtt),
+    ("window", Setting::Window),
+    ("peer-receive", Setting::PeerReceive),
+    ("peer-local", Setting::PeerLocal),
+    ("peer-remote", Setting::PeerRemote),
+    ("peer-one-way", Setting::PeerOneWay),
+    ("peer-bidi", Setting::PeerBidi),
+    ("peer-uni", Setting::PeerUni),
+];
 
 /// What both ends of a pair begin with.
 #[derive(Clone, Copy)]
@@ -56,29 +93,42 @@ impl Settings {
             if words.is_at_end() {
                 return Ok(settings);
             }
-            let name = words.next();
-            let value = words.number()?;
-            if !settings.limit(name, value) && !settings.peer.limit(name, value) {
-                return Err(RowFault::Form);
-            }
+            settings.set_next(words)?;
         }
         Err(RowFault::Form)
     }
 
-    // Sets one of this end's, and the peer's like it. Whether there is such a word.
-    fn limit(&mut self, name: &str, value: u64) -> bool {
-        match name {
-            "receive" => self.set_receive(value),
-            "stream" => self.set_stream(value),
-            "send" => self.limits.send_window = value,
-            "bidi" => self.set_bidi(value),
-            "uni" => self.set_uni(value),
-            "idle" => self.idle = value,
-            "rtt" => self.rtt = value,
-            "window" => self.window = value,
-            _ => return false,
+    // Sets what the next words name.
+    fn set_next(&mut self, words: &mut Words<'_>) -> Result<(), RowFault> {
+        let setting = find(&WORDS, words.next());
+        let Ok(value) = words.number() else {
+            return Err(RowFault::Form);
+        };
+        match setting {
+            Some(setting) => self.set(setting, value),
+            None => return Err(RowFault::Form),
         }
-        true
+        Ok(())
+    }
+
+    // Sets one of this end's, and the peer's like it, or one of the peer's alone.
+    fn set(&mut self, setting: Setting, value: u64) {
+        match setting {
+            Setting::Receive => self.set_receive(value),
+            Setting::Stream => self.set_stream(value),
+            Setting::Send => self.limits.send_window = value,
+            Setting::Bidi => self.set_bidi(value),
+            Setting::Uni => self.set_uni(value),
+            Setting::Idle => self.idle = value,
+            Setting::Rtt => self.rtt = value,
+            Setting::Window => self.window = value,
+            Setting::PeerReceive => self.peer.data = value,
+            Setting::PeerLocal => self.peer.local = value,
+            Setting::PeerRemote => self.peer.remote = value,
+            Setting::PeerOneWay => self.peer.one_way = value,
+            Setting::PeerBidi => self.peer.bidi = value,
+            Setting::PeerUni => self.peer.uni = value,
+        }
     }
 
     /// So many bytes may come before they are read, at this end and at the peer.
@@ -141,22 +191,6 @@ impl Settings {
             max_bidi: peer.bidi,
             max_uni: peer.uni,
         }
-    }
-}
-
-impl PeerSettings {
-    // Sets one of the peer's alone. Whether there is such a word.
-    fn limit(&mut self, name: &str, value: u64) -> bool {
-        match name {
-            "peer-receive" => self.data = value,
-            "peer-local" => self.local = value,
-            "peer-remote" => self.remote = value,
-            "peer-one-way" => self.one_way = value,
-            "peer-bidi" => self.bidi = value,
-            "peer-uni" => self.uni = value,
-            _ => return false,
-        }
-        true
     }
 }
 

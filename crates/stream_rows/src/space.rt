@@ -2,7 +2,7 @@
 ghost use Rattle.std.specs.Prelude.{IfOk};
 ghost use Rattle.qh_space.specs.Space.{IsSpace};
 
-use crate::answers::{put_ok, put_reason, put_taken, put_text};
+use crate::answers::{find, put_ok, put_reason, put_taken, put_text};
 use crate::application::{put_done, put_finish, put_stream, put_write};
 use crate::items::put_items;
 use crate::packets::put_told;
@@ -23,6 +23,30 @@ const NOW: Moment = Moment(0);
 const ROOM: usize = 1_200;
 
 const OVERHEAD: u64 = 41;
+
+// The word of a row of an end.
+#[derive(Clone, Copy)]
+enum Call {
+    Open,
+    Write,
+    Finish,
+    Reset,
+    Send,
+    Take,
+    Log,
+    Items,
+}
+
+const CALLS: [(&str, Call); 8] = [
+    ("open", Call::Open),
+    ("write", Call::Write),
+    ("finish", Call::Finish),
+    ("reset", Call::Reset),
+    ("send", Call::Send),
+    ("take", Call::Take),
+    ("log", Call::Log),
+    ("items", Call::Items),
+];
 
 /// The space of an end.
 #[derive(Drop)]
@@ -60,16 +84,16 @@ impl SpaceEnd {
         words: &mut Words<'_>,
         out: &mut Vec<u8>,
     ) -> Result<bool, RowFault> {
-        let answered = match word {
-            "open" => self.open(alloc, words, out),
-            "write" => self.write(alloc, words, out),
-            "finish" => self.finish(words, out),
-            "reset" => self.reset(words, out),
-            "send" => self.put_packet(alloc, out),
-            "take" => self.take(alloc, words, out),
-            "log" => self.begin_logged(alloc, out),
-            "items" => self.put_items(alloc, out),
-            _ => return Ok(false),
+        let answered = match find(&CALLS, word) {
+            Some(Call::Open) => self.open(alloc, words, out),
+            Some(Call::Write) => self.write(alloc, words, out),
+            Some(Call::Finish) => self.finish(words, out),
+            Some(Call::Reset) => self.reset(words, out),
+            Some(Call::Send) => self.put_packet(alloc, out),
+            Some(Call::Take) => self.take(alloc, words, out),
+            Some(Call::Log) => self.begin_logged(alloc, out),
+            Some(Call::Items) => self.put_items(alloc, out),
+            None => return Ok(false),
         };
         answered?;
         Ok(true)
@@ -81,7 +105,9 @@ impl SpaceEnd {
         words: &mut Words<'_>,
         out: &mut Vec<u8>,
     ) -> Result<(), RowFault> {
-        let dir = dir_of(words)?;
+        let Ok(dir) = dir_of(words) else {
+            return Err(RowFault::Form);
+        };
         let id = open(&mut self.space, alloc, dir)?;
         put_stream(out, id)
     }
@@ -92,19 +118,27 @@ impl SpaceEnd {
         words: &mut Words<'_>,
         out: &mut Vec<u8>,
     ) -> Result<(), RowFault> {
-        let id = stream_of(words)?;
+        let Ok(id) = stream_of(words) else {
+            return Err(RowFault::Form);
+        };
         let payload = words.bytes(alloc)?;
         put_write(out, write(&mut self.space, alloc, id, &payload))
     }
 
     fn finish(&mut self, words: &mut Words<'_>, out: &mut Vec<u8>) -> Result<(), RowFault> {
-        let id = stream_of(words)?;
+        let Ok(id) = stream_of(words) else {
+            return Err(RowFault::Form);
+        };
         put_finish(out, finish(&mut self.space, id))
     }
 
     fn reset(&mut self, words: &mut Words<'_>, out: &mut Vec<u8>) -> Result<(), RowFault> {
-        let id = stream_of(words)?;
-        let code = varint_of(words)?;
+        let Ok(id) = stream_of(words) else {
+            return Err(RowFault::Form);
+        };
+        let Ok(code) = varint_of(words) else {
+            return Err(RowFault::Form);
+        };
         put_done(out, reset(&mut self.space, id, code))
     }
 
@@ -125,9 +159,16 @@ impl SpaceEnd {
     ) -> Result<Option<u64>, RowFault> {
         let fresh = DataSpace::new(alloc, self.side, self.settings.space());
         let mut space = mem::replace(&mut self.space, fresh);
-        let number = space.write_packet(alloc, NOW, OVERHEAD, ROOM, frames)?;
-        self.space = space;
-        Ok(number)
+        match space.write_packet(alloc, NOW, OVERHEAD, ROOM, frames) {
+            Ok(number) => {
+                drop(mem::replace(&mut self.space, space));
+                Ok(number)
+            }
+            Err(fault) => {
+                drop(space);
+                Err(RowFault::from(fault))
+            }
+        }
     }
 
     // A frame comes, of the row's bytes.
@@ -150,7 +191,8 @@ impl SpaceEnd {
 
     // Begins anew, and keeps a log from then on.
     fn begin_logged(&mut self, alloc: Global, out: &mut Vec<u8>) -> Result<(), RowFault> {
-        self.space = logged_space(alloc, self.side, self.settings.space())?;
+        let space = logged_space(alloc, self.side, self.settings.space())?;
+        drop(mem::replace(&mut self.space, space));
         put_ok(out)
     }
 

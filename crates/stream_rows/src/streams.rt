@@ -1,7 +1,7 @@
 //! Two ends with streams and no connection: frames are handed over directly.
 ghost use Rattle.qh_streams.specs.Streams.{AreAllOut};
 
-use crate::answers::{Part, put, put_ok, put_taken, put_text};
+use crate::answers::{find, put_either, put_form, put_named, put_ok, put_taken, put_text};
 use crate::application::{put_read, put_readable_fault};
 use crate::calls::StreamCalls;
 use crate::frames::{coming, frame_of, piece_of, sent_frame_of};
@@ -19,6 +19,40 @@ use qh_streams::{
 };
 use row_text::{RowFault, Words};
 use std::alloc::Global;
+
+// The word of a row of an end that has no connection.
+#[derive(Clone, Copy)]
+enum Call {
+    Take,
+    TakePieces,
+    Lost,
+    Acked,
+    Again,
+    Log,
+    Items,
+    Begin,
+    BeginAny,
+    Closed,
+    Credit,
+    MaxData,
+    MaxStreams,
+}
+
+const CALLS: [(&str, Call); 13] = [
+    ("take", Call::Take),
+    ("take-pieces", Call::TakePieces),
+    ("lost", Call::Lost),
+    ("acked", Call::Acked),
+    ("again", Call::Again),
+    ("log", Call::Log),
+    ("items", Call::Items),
+    ("begin", Call::Begin),
+    ("begin-any", Call::BeginAny),
+    ("closed", Call::Closed),
+    ("credit", Call::Credit),
+    ("max-data", Call::MaxData),
+    ("max-streams", Call::MaxStreams),
+];
 
 /// The streams of an end.
 #[derive(Drop)]
@@ -47,18 +81,32 @@ impl StreamsEnd {
         words: &mut Words<'_>,
         out: &mut Vec<u8>,
     ) -> Result<bool, RowFault> {
-        let answered = match word {
-            "take" => self.take(alloc, words, out),
-            "take-pieces" => self.take_pieces(alloc, words, out),
-            "lost" => self.lose(words, out),
-            "acked" => self.acknowledge(words, out),
-            "again" => self.send_again(words, out),
-            "log" => self.start_log(alloc, out),
-            "items" => self.put_items(alloc, out),
-            _ => return self.ask(word, words, out),
-        };
-        answered?;
+        match find(&CALLS, word) {
+            Some(call) => self.answer_call(alloc, call, words, out)?,
+            None => return Ok(false),
+        }
         Ok(true)
+    }
+
+    fn answer_call(
+        &mut self,
+        alloc: Global,
+        call: Call,
+        words: &mut Words<'_>,
+        out: &mut Vec<u8>,
+    ) -> Result<(), RowFault> {
+        match call {
+            Call::Take => self.take(alloc, words, out),
+            Call::TakePieces => self.take_pieces(alloc, words, out),
+            Call::Lost => self.lose(words, out),
+            Call::Acked => self.acknowledge(words, out),
+            Call::Again => self.send_again(words, out),
+            Call::Log => self.start_log(alloc, out),
+            Call::Items => self.put_items(alloc, out),
+            Call::Begin => self.put_begun(words, true, out),
+            Call::BeginAny => self.put_begun(words, false, out),
+            _ => self.ask(call, words, out),
+        }
     }
 
     // A frame comes.
@@ -69,7 +117,8 @@ impl StreamsEnd {
         out: &mut Vec<u8>,
     ) -> Result<(), RowFault> {
         let frame = frame_of(alloc, words)?;
-        put_taken(out, &self.receive(alloc, frame))
+        let taken = self.receive(alloc, frame);
+        put_taken(out, &taken)
     }
 
     // A frame comes, and the log keeps what it brings, where it is on.
@@ -143,9 +192,15 @@ impl StreamsEnd {
         words: &mut Words<'_>,
         out: &mut Vec<u8>,
     ) -> Result<(), RowFault> {
-        let id = stream_of(words)?;
-        let count = words.number()?;
-        let step = words.number()?;
+        let Ok(id) = stream_of(words) else {
+            return Err(RowFault::Form);
+        };
+        let Ok(count) = words.number() else {
+            return Err(RowFault::Form);
+        };
+        let Ok(step) = words.number() else {
+            return Err(RowFault::Form);
+        };
         for index in 0..count {
             let offset = index.saturating_mul(step) % count;
             let taken = self.streams.received(alloc, piece_of(alloc, id, offset)?);
@@ -157,37 +212,22 @@ impl StreamsEnd {
     }
 
     // The rows that ask for something.
-    fn ask(
-        &mut self,
-        word: &str,
-        words: &mut Words<'_>,
-        out: &mut Vec<u8>,
-    ) -> Result<bool, RowFault> {
-        let answered = match word {
-            "begin" => self.put_begun(stream_of(words)?, true, out),
-            "begin-any" => self.put_begun(stream_of(words)?, false, out),
-            "closed" => put_answer(out, self.streams.is_closed(stream_of(words)?)),
-            "credit" => put_answer(out, self.streams.is_credit_due(stream_of(words)?)),
-            "max-data" => put(out, &[Part::Number(self.streams.max_data())]),
-            "max-streams" => self.put_max_streams(words, out),
-            _ => return Ok(false),
-        };
-        answered?;
-        Ok(true)
-    }
-
-    fn put_max_streams(&self, words: &mut Words<'_>, out: &mut Vec<u8>) -> Result<(), RowFault> {
-        let count = self.streams.max_streams(dir_of(words)?);
-        put(out, &[Part::Number(count)])
+    fn ask(&self, call: Call, words: &mut Words<'_>, out: &mut Vec<u8>) -> Result<(), RowFault> {
+        match call {
+            Call::Closed => put_answer(out, self.streams.is_closed(stream_of(words)?)),
+            Call::Credit => put_answer(out, self.streams.is_credit_due(stream_of(words)?)),
+            Call::MaxData => put_form(out, "#", &[self.streams.max_data()]),
+            _ => put_form(out, "#", &[self.streams.max_streams(dir_of(words)?)]),
+        }
     }
 
     fn put_begun(
         &mut self,
-        id: StreamId,
+        words: &mut Words<'_>,
         ordered: bool,
         out: &mut Vec<u8>,
     ) -> Result<(), RowFault> {
-        match self.streams.begin_read(id, ordered) {
+        match self.streams.begin_read(stream_of(words)?, ordered) {
             Ok(()) => put_ok(out),
             Err(fault) => put_readable_fault(out, fault),
         }
@@ -195,12 +235,12 @@ impl StreamsEnd {
 }
 
 fn put_answer(out: &mut Vec<u8>, answer: bool) -> Result<(), RowFault> {
-    put_text(out, if answer { "yes" } else { "no" })
+    put_either(out, answer, "yes", "no")
 }
 
 /// Appends whether something is still to be acknowledged.
 pub(crate) fn put_owed(out: &mut Vec<u8>, is_owed: bool) -> Result<(), RowFault> {
-    put_text(out, if is_owed { "owed" } else { "settled" })
+    put_either(out, is_owed, "owed", "settled")
 }
 
 /// Both ends.
@@ -282,20 +322,33 @@ fn write_each(
     words: &mut Words<'_>,
     out: &mut Vec<u8>,
 ) -> Result<(), RowFault> {
-    let id = stream_of(words)?;
-    let count = words.number()?;
+    let Ok(id) = stream_of(words) else {
+        return Err(RowFault::Form);
+    };
+    let Ok(count) = words.number() else {
+        return Err(RowFault::Form);
+    };
     let room = words.number()? as usize;
     let mut packets = 0u64;
-    let mut told = Vec::new(alloc);
     for _ in 0..count {
         let Ok(1) = from.write(alloc, id, b"x") else {
             break;
         };
-        told.clear();
-        send_acked(alloc, from, to, room, &mut told)?;
-        packets = packets.saturating_add(u64::from(told.as_slice() != b"-".as_slice()));
+        packets = packets.saturating_add(send_counted(alloc, from, to, room)?);
     }
-    put(out, &[Part::Number(packets), Part::Text("packets")])
+    put_form(out, "# packets", &[packets])
+}
+
+// Sends what is due. Tells in how many packets, one or none.
+fn send_counted(
+    alloc: Global,
+    from: &mut StreamsEnd,
+    to: &mut StreamsEnd,
+    room: usize,
+) -> Result<u64, RowFault> {
+    let mut told = Vec::new(alloc);
+    send_acked(alloc, from, to, room, &mut told)?;
+    Ok(u64::from(told.as_slice() != b"-".as_slice()))
 }
 
 // Makes a reader of a stream's half, reads by it so many times, and tells each answer, and whether a limit is due then.
@@ -304,9 +357,13 @@ fn read_by_reader(
     words: &mut Words<'_>,
     out: &mut Vec<u8>,
 ) -> Result<(), RowFault> {
-    let id = stream_of(words)?;
+    let Ok(id) = stream_of(words) else {
+        return Err(RowFault::Form);
+    };
     let max_length = words.number()? as usize;
-    let count = words.number()?;
+    let Ok(count) = words.number() else {
+        return Err(RowFault::Form);
+    };
     match end.streams.recv(id).read(true) {
         Ok(reader) => put_reads(reader, max_length, count, out),
         Err(fault) => put_readable_fault(out, fault),
@@ -320,18 +377,19 @@ fn put_reads(
     out: &mut Vec<u8>,
 ) -> Result<(), RowFault> {
     for _ in 0..count {
-        let given = next_of(&mut reader, max_length).map_err(TakeFault::Read);
-        put_read(out, &given)?;
-        put_text(out, "; ")?;
+        put_next(&mut reader, max_length, out)?;
     }
-    put_text(
-        out,
-        if reader.finalize() {
-            "credit"
-        } else {
-            "no credit"
-        },
-    )
+    put_either(out, reader.finalize(), "credit", "no credit")
+}
+
+fn put_next(reader: &mut Chunks<'_>, max_length: usize, out: &mut Vec<u8>) -> Result<(), RowFault> {
+    let given = next_of(reader, max_length).map_err(TakeFault::Read);
+    put_given(&given, out)
+}
+
+fn put_given(given: &Result<Option<Chunk>, TakeFault>, out: &mut Vec<u8>) -> Result<(), RowFault> {
+    put_read(out, given)?;
+    put_text(out, "; ")
 }
 
 // What a reader gives next. Nothing waits where reads of its stream are refused.
@@ -357,7 +415,7 @@ fn send_acked(
 ) -> Result<(), RowFault> {
     let mut packet = Vec::new(alloc);
     write_acked(alloc, from, room, &mut packet)?;
-    put(out, &[Part::Bytes(&packet)])?;
+    put_named(out, "", &packet)?;
     put_handed(alloc, &packet, to, out)
 }
 
@@ -384,7 +442,7 @@ fn send_lost(
 ) -> Result<(), RowFault> {
     let mut packet = Vec::new(alloc);
     write_lost(alloc, &mut from.streams, room, &mut packet)?;
-    put(out, &[Part::Bytes(&packet)])?;
+    put_named(out, "", &packet)?;
     match to {
         Some(to) => put_handed(alloc, &packet, to, out),
         None => Ok(()),
@@ -414,7 +472,7 @@ fn send_out(
     let mut packet = Vec::new(alloc);
     let mut sent = Vec::new(alloc);
     from.streams.write_frames(room, &mut packet, &mut sent)?;
-    put(out, &[Part::Bytes(&packet)])
+    put_named(out, "", &packet)
 }
 
 // The frames of a packet come, and where one is refused that is told.
