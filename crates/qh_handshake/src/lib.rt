@@ -1,25 +1,32 @@
-//! The handshake in the place of TLS: each end says its transport parameters in a hello, and nothing more.
+//! The handshake in the place of TLS: the Initial packet number space, in which each end says its hello in CRYPTO frames
+//! (RFC 9000, sections 7 and 12.3), with Retry and version negotiation, as `quinn-proto` has it in `connection::spaces` and
+//! `connection`.
 //!
-//! It is plain and INSECURE. No key is agreed, nothing is encrypted, and no one shows who it is: whoever sees the bytes can read
-//! them, change them and make up others. It serves to run the transport without TLS, in tests and in closed networks, and no more.
-//!
-//! This crate writes and reads a hello, and keeps the bytes of the peer's as they come, in any order. `qh_spec`'s
-//! `specs/Hello.antt` says what its bytes are, and `specs/HelloFaults.antt` when they are refused. The names of the parameters are
-//! those of RFC 9000, section 18.2, and of `quinn-proto`.
+//! It is plain and INSECURE, as `qh_hello` says.
 #![tactic(auto)]
 
-mod crypto_stream;
-mod front;
-mod hello;
-mod ids;
-mod reading;
-mod rules;
-mod split;
-mod transport_parameters;
-mod walk;
-mod write;
+mod agreeing;
+mod following;
+mod greeting;
+mod handshake;
+mod honest;
+mod incoming;
+mod initial_space;
+mod laws;
+mod moments;
+mod outgoing;
+mod packets;
+mod receiving;
+mod retry;
+mod sending;
+mod settled;
+mod timers;
 
-pub use crypto_stream::{CryptoStream, MAX_CRYPTO};
-pub use front::front_hello;
-pub use hello::{ConnectionIds, HelloError, HelloFault, ReadHello, get_hello, put_hello};
-pub use transport_parameters::TransportParameters;
+pub use agreeing::peers;
+pub use following::follows;
+pub use handshake::Handshake;
+pub use honest::sends;
+pub use initial_space::{HelloFrame, HelloState, InitialSpace};
+pub use laws::{made_frames, written_datagram};
+pub use receiving::SpaceFault;
+pub use sending::MadePacket;

@@ -1,0 +1,58 @@
+-- What a packet does whose tag was accepted.
+use Rattle.std.proofs.Common.{◌≡◌, ◌⊎◌, ℕ, Bool, false, List, [], ◌∷◌, Some, None, refl, inl, inr}
+use Rattle.std.specs.Option.{option_map}
+use Rattle.std.specs.Prelude.{◌||◌, IfErr, OnOk, Result, Ok, Err, is_err}
+use Rattle.qh_base.specs.declared.connection_error.ConnectionError.{ConnectionError}
+use Rattle.qh_base.specs.declared.connection_error.ConnectionError.TheVariants.{Memory as Wanting, TransportError as Fault}
+use Rattle.qh_base.specs.declared.time.Moment.{Moment}
+use Rattle.qh_base.specs.declared.transport_error.TransportError.{TransportError}
+use Rattle.qh_frame.specs.TypeOf.{named}
+use Rattle.qh_frame.specs.declared.frame.FrameFault.{FrameFault}
+use Rattle.qh_handshake.specs.Incoming.{AreFramesTaken, IsAccepted, IsFault, IsNewTo, IsPacketHandled}
+use Rattle.qh_handshake.specs.Incoming.IsPacketHandled.{empty, faulty, taken}
+use Rattle.qh_handshake.specs.Unread.{IsPacketUnread, StopsUnrefused}
+use Rattle.qh_handshake.specs.Unread.IsPacketUnread.{stopped}
+use Rattle.qh_handshake.specs.declared.initial_space.InitialSpace.{InitialSpace}
+use Rattle.qh_packet.specs.Frames.{AreValidFrames, IsFaultyFrame}
+use Rattle.qh_packet.specs.declared.frames.PacketFault.{PacketFault}
+use Rattle.qh_packet.specs.declared.frames.PacketFault.TheVariants as packet_fault
+use Rattle.qh_recovery.specs.Accepted.{Remembers}
+use Rattle.qh_recovery.specs.PendingAcks.{IsJoined}
+use Rattle.qh_spec.specs.Codes as codes
+
+-- its number is noted where memory wasn't wanting for that
+pub noted_by : {E : Type 0} (now : Moment) (number : ℕ) (is_eliciting : Bool) (old mid : InitialSpace) (answer : Result Unit E) → false ≡ is_err answer
+    → OnOk answer ((accepted : List ℕ) → Remembers accepted old.dedup → Remembers (number ∷ accepted) mid.dedup) → OnOk answer ((bound : ℕ) × IsJoined old.acks.ranges mid.acks.ranges number bound)
+    → OnOk answer (mid.acks.is_due ≡ (old.acks.is_due || is_eliciting)) → OnOk answer (mid ≡ record old { dedup = mid.dedup; acks = mid.acks; last_active = now }) → IsAccepted now number is_eliciting old mid
+noted_by now number is_eliciting old mid (Ok done) fine remembers acks due rest = record { remembers = remembers; bound = acks.0; acks = acks.1; due = due; rest_is = rest }
+noted_by now number is_eliciting old mid (Err e) fine remembers acks due rest = absurd (cc)
+
+-- no frame of it is taken
+pub handled_faulty : (now : Moment) (number : ℕ) (frames : List ℕ) (s : InitialSpace) (fault : PacketFault) (e : TransportError) → IsNewTo s number
+    → (fault ≡ packet_fault.Empty → frames ≡ []) → ((f : FrameFault) → fault ≡ packet_fault.Frame f → IsFaultyFrame frames f.frame)
+    → (fault ≡ packet_fault.Empty → IsFault codes.protocol_violation None e) → ((f : FrameFault) → fault ≡ packet_fault.Frame f → IsFault codes.frame_encoding_error (option_map named f.frame) e)
+    → IsPacketHandled now number frames s s (Some (Fault e))
+handled_faulty now number frames s packet_fault.Empty e fresh none frame says_none says_frame = empty e fresh (none refl) (says_none refl) refl
+handled_faulty now number frames s (packet_fault.Frame f) e fresh none frame says_none says_frame = faulty e f.frame fresh (frame f refl) (says_frame f refl) refl
+
+-- its frames are
+pub handled_ok : (now : Moment) (number : ℕ) (frames : List ℕ) (old mid new : InitialSpace) (is_eliciting : Bool) (answer : Result Unit ConnectionError) → IsNewTo old number → AreValidFrames frames is_eliciting
+    → IsAccepted now number is_eliciting old mid → OnOk answer (AreFramesTaken now.0 frames mid new None) → OnOk answer (IsPacketHandled now number frames old new None)
+handled_ok now number frames old mid new is_eliciting (Ok done) fresh valid accepted t = taken mid is_eliciting None fresh valid accepted t
+handled_ok now number frames old mid new is_eliciting (Err e) fresh valid accepted t = tt
+
+-- up to one that ends the connection
+pub handled_err : (now : Moment) (number : ℕ) (frames : List ℕ) (old mid new : InitialSpace) (is_eliciting : Bool) (answer : Result Unit ConnectionError) → IsNewTo old number → AreValidFrames frames is_eliciting
+    → IsAccepted now number is_eliciting old mid → IfErr answer (λ e. (e ≡ Wanting) ⊎ AreFramesTaken now.0 frames mid new (Some e))
+    → IfErr answer (λ e. (e ≡ Wanting) ⊎ IsPacketHandled now number frames old new (Some e))
+handled_err now number frames old mid new is_eliciting (Ok done) fresh valid accepted t = tt
+handled_err now number frames old mid new is_eliciting (Err e) fresh valid accepted t = elim t [
+  | inl wanting ↦ inl wanting
+  | inr taken_so ↦ inr (taken mid is_eliciting (Some e) fresh valid accepted taken_so)
+]
+
+-- memory is wanting for one of its frames
+pub unread_at : (now : Moment) (number : ℕ) (frames : List ℕ) (old mid : InitialSpace) (is_eliciting : Bool) (answer : Result Unit ConnectionError) → IsNewTo old number → AreValidFrames frames is_eliciting
+    → IsAccepted now number is_eliciting old mid → IfErr answer (λ e. e ≡ Wanting → StopsUnrefused now.0 frames mid) → IfErr answer (λ e. e ≡ Wanting → IsPacketUnread now number frames old)
+unread_at now number frames old mid is_eliciting (Ok u) fresh valid accepted t = tt
+unread_at now number frames old mid is_eliciting (Err e) fresh valid accepted t = λ wanting. stopped mid is_eliciting fresh valid accepted (t wanting)

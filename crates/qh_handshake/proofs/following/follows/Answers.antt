@@ -1,0 +1,31 @@
+use Rattle.qh_handshake.proofs.FollowsIn.{lost_follows, taken_follows}
+use Rattle.qh_handshake.proofs.FollowsOn.{close_unsent_follows, discarded_follows, fresh_follows, timed_out_follows, unsent_follows}
+use Rattle.qh_handshake.proofs.FollowsOut.{close_follows, made_follows}
+use Rattle.qh_handshake.proofs.following.follows.Goals as goal
+
+pub returns-clause-fresh : goal.returns-clause-fresh
+returns-clause-fresh c = fresh_follows
+
+pub returns-clause-timed_out : goal.returns-clause-timed_out
+returns-clause-timed_out c = timed_out_follows
+
+pub returns-clause-discarded : goal.returns-clause-discarded
+returns-clause-discarded c = discarded_follows
+
+pub returns-clause-made : goal.returns-clause-made
+returns-clause-made c = made_follows
+
+pub returns-clause-closed : goal.returns-clause-closed
+returns-clause-closed c = close_follows
+
+pub returns-clause-taken : goal.returns-clause-taken
+returns-clause-taken c = λ accepts now datagram rest hello old new retried learned end t names whole taken p. taken_follows accepts now datagram rest hello old new retried learned end t names taken p
+
+pub returns-clause-lost : goal.returns-clause-lost
+returns-clause-lost c = λ accepts now datagram hello old new t names whole lost p. lost_follows accepts now datagram hello old new t names lost p
+
+pub returns-clause-unsent : goal.returns-clause-unsent
+returns-clause-unsent c = unsent_follows
+
+pub returns-clause-close_unsent : goal.returns-clause-close_unsent
+returns-clause-close_unsent c = close_unsent_follows

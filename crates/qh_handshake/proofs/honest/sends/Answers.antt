@@ -1,0 +1,31 @@
+use Rattle.qh_handshake.proofs.SendsIn.{lost_sends, taken_sends}
+use Rattle.qh_handshake.proofs.SendsOn.{close_unsent_sends, discarded_sends, fresh_sends, timed_out_sends, unsent_sends}
+use Rattle.qh_handshake.proofs.SendsOut.{close_sends, made_sends}
+use Rattle.qh_handshake.proofs.honest.sends.Goals as goal
+
+pub returns-clause-fresh : goal.returns-clause-fresh
+returns-clause-fresh c = fresh_sends
+
+pub returns-clause-timed_out : goal.returns-clause-timed_out
+returns-clause-timed_out c = timed_out_sends
+
+pub returns-clause-discarded : goal.returns-clause-discarded
+returns-clause-discarded c = discarded_sends
+
+pub returns-clause-taken : goal.returns-clause-taken
+returns-clause-taken c = λ accepts now datagram rest hello old new retried learned end t names whole taken follows p. taken_sends accepts now datagram rest hello old new retried learned end t names taken p
+
+pub returns-clause-made : goal.returns-clause-made
+returns-clause-made c = made_sends
+
+pub returns-clause-closed : goal.returns-clause-closed
+returns-clause-closed c = λ sealed close before after hello old new size t makes whole made follows p. close_sends sealed close before after hello old new size t makes whole made p
+
+pub returns-clause-lost : goal.returns-clause-lost
+returns-clause-lost c = λ accepts now datagram hello old new t names whole lost p. lost_sends accepts now datagram hello old new t names lost p
+
+pub returns-clause-unsent : goal.returns-clause-unsent
+returns-clause-unsent c = unsent_sends
+
+pub returns-clause-close_unsent : goal.returns-clause-close_unsent
+returns-clause-close_unsent c = close_unsent_sends

@@ -1,0 +1,9 @@
+use Rattle.std.proofs.Common.{length}
+use Rattle.qh_handshake.proofs.FramesCome.{AreTakenUpTo}
+use Rattle.qh_handshake.proofs.packets.take_frames.Given as goal
+
+abbrev pub invariant-loop-frame : goal.invariant-loop-frame
+invariant-loop-frame l = AreTakenUpTo l.now.0 l.frames l.rest l.fn.space l.space
+
+abbrev pub decreases-loop-frame : goal.decreases-loop-frame
+decreases-loop-frame l = length l.rest

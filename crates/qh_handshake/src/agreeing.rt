@@ -1,0 +1,18 @@
+ghost use Rattle.std.specs.Prelude.{◌≡◌, ℕ, List, true, Option, Some};
+ghost use Rattle.qh_base.specs.declared.connection_error.ConnectionError.TheVariants.{TransportError as Fault};
+ghost use Rattle.qh_base.specs.declared.time.Moment.{Moment as AMoment};
+ghost use Rattle.qh_base.specs.declared.transport_error.TransportError.{TransportError as ATransportError};
+ghost use Rattle.qh_handshake.specs.Follows.{NamesTags};
+ghost use Rattle.qh_handshake.specs.Incoming.{AcceptsTag, IsDatagramTaken};
+ghost use Rattle.qh_handshake.specs.Peers.{IsPeer};
+ghost use Rattle.qh_handshake.specs.declared.handshake.Handshake.{Handshake as AHandshake};
+ghost use Rattle.qh_spec.specs.Lists.{In};
+ghost use Rattle.qh_spec.specs.Transcript.{Act, handed_out};
+
+/// Two honest handshakes over an honest link don't refuse one another, with a Retry packet between them too: no datagram that one hands
+/// out is a fault to the other (RFC 9000, sections 7.3 and 12.4).
+pub fn peers()
+    ensures { (accepts : AcceptsTag) (now : AMoment) (datagram rest own_hello peer_hello : List ℕ) (own new peer : AHandshake) (retried learned : Option (List ℕ)) (e : ATransportError) (t u : List Act)
+        → NamesTags accepts → IsPeer own_hello peer_hello own peer t u → In datagram (handed_out u)
+        → IsDatagramTaken accepts now datagram own new rest retried learned (Some (Fault e)) → ⊥ }
+{}

@@ -1,0 +1,94 @@
+ghost use Rattle.std.specs.Prelude.{◌≡◌, ◌⊎◌, ◌<◌, ◌≤◌, ℕ, Some, None, true, false, MatchOption};
+ghost use Rattle.qh_base.specs.declared.time.Moment.{Moment as AMoment};
+ghost use Rattle.qh_handshake.specs.Handshake.{IsHandshake};
+ghost use Rattle.qh_handshake.specs.InitialSpace.{IsInitialSpace};
+ghost use Rattle.qh_handshake.specs.Moments.{AreLostByAge, IsDueAt, IsFirstDue, IsProbeMoment, IsTimedOut, is_awaited};
+ghost use Rattle.qh_handshake.specs.declared.initial_space.InitialSpace.{InitialSpace as ASpace};
+
+use crate::{Handshake, InitialSpace};
+use qh_base::{Moment, Side};
+
+impl Handshake {
+    /// Does what is due by now: what is lost by its age is lost, and a probe is queued (RFC 9002, section 6).
+    pub fn handle_timeout(&mut self, now: Moment)
+        requires { IsHandshake self.old }
+        ensures done { IsTimedOut now.0 self.old self.new }
+        ensures whole { IsHandshake self.new }
+    {
+        let is_limited = self.is_limited();
+        let is_awaited = self.is_awaited();
+        let Some(space) = &mut self.space else {
+            return;
+        };
+        detect_lost(space, now);
+        if !is_limited && is_due(space.probe_at(is_awaited), now) {
+            space.queue_probe();
+        }
+    }
+
+    /// When something is due first, if anything is. A probe of a server's isn't while it may send nothing (RFC 9002, section 6.2.2.1).
+    pub fn poll_timeout(&self) -> Option<Moment>
+        requires { IsHandshake self.now }
+        ensures { MatchOption result ((moment : ℕ) → IsDueAt self.now moment → ⊥) (λ t. IsFirstDue self.now t.0) }
+    {
+        let Some(space) = &self.space else {
+            return None;
+        };
+        earlier(space.loss_at(), self.probe_at(space))
+    }
+
+    // When a probe is due.
+    fn probe_at(&self, space: &InitialSpace) -> Option<Moment>
+        ensures { MatchOption result ((moment : ℕ) → IsProbeMoment self.now space.now moment → ⊥) (λ t. IsProbeMoment self.now space.now t.0 × ((moment : ℕ) → IsProbeMoment self.now space.now moment → moment ≡ t.0)) }
+    {
+        if self.is_limited() {
+            return None;
+        }
+        space.probe_at(self.is_awaited())
+    }
+
+    // Whether it is a client that waits to be greeted.
+    fn is_awaited(&self) -> bool
+        ensures { result ≡ is_awaited self.now }
+    {
+        match self.side {
+            Side::Client => self.peer.is_none(),
+            Side::Server => false,
+        }
+    }
+}
+
+// What is lost by its age is lost.
+fn detect_lost(space: &mut InitialSpace, now: Moment)
+    requires { IsInitialSpace space.old }
+    ensures lost { AreLostByAge now.0 space.old space.new }
+    ensures space { IsInitialSpace space.new }
+{
+    if is_due(space.loss_at(), now) {
+        space.detect_lost(now);
+    }
+}
+
+// Whether there is a moment, and it has come.
+fn is_due(moment: Option<Moment>, now: Moment) -> bool
+    ensures yes { result ≡ true → (t : AMoment) × (moment ≡ Some t) × (t.0 ≤ now.0) }
+    ensures no { result ≡ false → (t : AMoment) → moment ≡ Some t → now.0 < t.0 }
+{
+    match moment {
+        Some(moment) => moment <= now,
+        None => false,
+    }
+}
+
+// The earlier of two moments that may be there.
+fn earlier(a: Option<Moment>, b: Option<Moment>) -> Option<Moment>
+    ensures none { result ≡ None → (a ≡ None) × (b ≡ None) }
+    ensures one { (t : AMoment) → result ≡ Some t → (a ≡ Some t) ⊎ (b ≡ Some t) }
+    ensures first { (t s : AMoment) → result ≡ Some t → (a ≡ Some s) ⊎ (b ≡ Some s) → t.0 ≤ s.0 }
+{
+    match (a, b) {
+        (Some(a), Some(b)) => Some(a.min(b)),
+        (Some(only), None) | (None, Some(only)) => Some(only),
+        (None, None) => None,
+    }
+}

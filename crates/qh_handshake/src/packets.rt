@@ -1,0 +1,107 @@
+ghost use Rattle.std.specs.Prelude.{◌≡◌, ◌⊎◌, ◌<◌, ◌^◌, Some, None, OnOk, IfErr, Bool};
+ghost use Rattle.std.specs.Option.{option_map};
+ghost use Rattle.qh_base.specs.declared.connection_error.ConnectionError.TheVariants.{Memory as Wanting, TransportError as Fault, ConnectionClosed};
+ghost use Rattle.qh_base.specs.declared.connection_error.ConnectionClose.{ConnectionClose as AClose};
+ghost use Rattle.qh_base.specs.declared.transport_error.TransportError.{TransportError as ATransportError};
+ghost use Rattle.qh_frame.specs.TypeOf.{named};
+ghost use Rattle.qh_frame.specs.declared.frame.FrameFault.{FrameFault as AFrameFault};
+ghost use Rattle.qh_handshake.specs.Handshake.{KeepsHello};
+ghost use Rattle.qh_handshake.specs.Incoming.{AreFramesTaken, IsFault, IsPacketHandled};
+ghost use Rattle.qh_handshake.specs.InitialSpace.{IsInitialSpace};
+ghost use Rattle.qh_handshake.specs.Unread.{IsPacketUnread, StopsUnrefused};
+ghost use Rattle.qh_handshake.specs.declared.receiving.SpaceFault.TheVariants.{Transport, Memory as SpaceMemory};
+ghost use Rattle.qh_packet.specs.Frames.{AreValidFrames};
+ghost use Rattle.qh_packet.specs.declared.frames.PacketFault.TheVariants as packet_fault;
+ghost use Rattle.qh_spec.specs.Codes as codes;
+
+use crate::{InitialSpace, SpaceFault};
+use qh_base::{ConnectionError, Moment, Reason, TransportError, TransportErrorCode};
+use qh_frame::get_frame;
+use qh_packet::{PacketFault, validate_frames};
+use std::alloc::Global;
+
+/// A packet came whose tag was accepted. The error is the one that ends the connection by it. After want of memory some of it may have
+/// been taken.
+pub(crate) fn handle_packet(
+    space: &mut InitialSpace,
+    alloc: Global,
+    now: Moment,
+    number: u64,
+    frames: &[u8],
+) -> Result<(), ConnectionError>
+    requires space { IsInitialSpace space.old }
+    requires number { number < 2 ^ 62 }
+    ensures ok { OnOk result (IsPacketHandled now number frames.now space.old space.new None) }
+    ensures err { IfErr result (λ e. (e ≡ Wanting) ⊎ IsPacketHandled now number frames.now space.old space.new (Some e)) }
+    ensures wanting { IfErr result (λ e. e ≡ Wanting → IsPacketUnread now number frames.now space.old) }
+    ensures space { IsInitialSpace space.new }
+    ensures hello { KeepsHello space.old space.new }
+{
+    if !space.dedup.is_new(number) {
+        return Ok(());
+    }
+    let surveyed = match validate_frames(frames) {
+        Ok(surveyed) => surveyed,
+        Err(fault) => return Err(ConnectionError::TransportError(error_of(fault))),
+    };
+    if space
+        .accept(number, surveyed.is_ack_eliciting, now)
+        .is_err()
+    {
+        return Err(ConnectionError::Memory);
+    }
+    take_frames(space, alloc, now, frames)
+}
+
+// Takes the frames of a packet, up to one that closes or is refused.
+fn take_frames(
+    space: &mut InitialSpace,
+    alloc: Global,
+    now: Moment,
+    frames: &[u8],
+) -> Result<(), ConnectionError>
+    requires space { IsInitialSpace space.old }
+    requires surveyed { (is_eliciting : Bool) × AreValidFrames frames.now is_eliciting }
+    ensures ok { OnOk result (AreFramesTaken now.0 frames.now space.old space.new None) }
+    ensures err { IfErr result (λ e. (e ≡ Wanting) ⊎ AreFramesTaken now.0 frames.now space.old space.new (Some e)) }
+    ensures wanting { IfErr result (λ e. e ≡ Wanting → StopsUnrefused now.0 frames.now space.old) }
+    ensures space { IsInitialSpace space.new }
+    ensures hello { KeepsHello space.old space.new }
+{
+    let mut rest = frames;
+    while let Ok((frame, more)) = get_frame(rest) {
+        match space.take_frame(alloc, &frame, now) {
+            Ok(None) => rest = more,
+            Ok(Some(close)) => return Err(ConnectionError::ConnectionClosed(close)),
+            Err(fault) => return Err(error_by(fault)),
+        }
+    }
+    Ok(())
+}
+
+// The error that ends a connection if a frame isn't taken.
+fn error_by(fault: SpaceFault) -> ConnectionError
+    ensures refused { (e : ATransportError) → fault ≡ Transport e → result ≡ Fault e }
+    ensures wanting { fault ≡ SpaceMemory → result ≡ Wanting }
+{
+    match fault {
+        SpaceFault::Transport(error) => ConnectionError::TransportError(error),
+        SpaceFault::Memory => ConnectionError::Memory,
+    }
+}
+
+// The error of a packet of which no frame is taken (RFC 9000, sections 12.4 and 20.1).
+fn error_of(fault: PacketFault) -> TransportError
+    ensures empty { fault ≡ packet_fault.Empty → IsFault codes.protocol_violation None result }
+    ensures frame { (f : AFrameFault) → fault ≡ packet_fault.Frame f → IsFault codes.frame_encoding_error (option_map named f.frame) result }
+{
+    let (code, frame) = match fault {
+        PacketFault::Empty => (TransportErrorCode::PROTOCOL_VIOLATION, None),
+        PacketFault::Frame(fault) => (TransportErrorCode::FRAME_ENCODING_ERROR, fault.frame_type()),
+    };
+    TransportError {
+        code,
+        frame,
+        reason: Reason::of(b""),
+    }
+}
