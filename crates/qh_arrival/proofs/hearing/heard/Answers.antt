@@ -1,3 +1,4 @@
+use Rattle.qh_arrival.proofs.AcceptedOnce.{accepted_once}
 use Rattle.qh_arrival.proofs.HeardCalls.{fresh_heard, limits_heard, made_heard, packets_heard}
 use Rattle.qh_arrival.proofs.hearing.heard.Goals as goal
 
@@ -12,3 +13,6 @@ returns-clause-limits g c = limits_heard
 
 pub returns-clause-packets : goal.returns-clause-packets
 returns-clause-packets g c = packets_heard
+
+pub returns-clause-once : goal.returns-clause-once
+returns-clause-once g c = accepted_once
