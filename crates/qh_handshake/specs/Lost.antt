@@ -15,8 +15,8 @@ pub data AreBegun (accepts : AcceptsTag) (now : Moment) : (bytes : List ℕ) →
 abbrev pub IsLeft : (old new : Handshake) → Type 0
 IsLeft old new = new ≡ record old { remote_id = new.remote_id; knows_peer = new.knows_peer; space = new.space }
 
--- The datagram is counted, and its Initial packets are taken up to the one for which memory is wanting: that one left all but the space and
--- the peer's id alone.
+-- The datagram is counted, some of the Initial packets with which it begins are taken, or none, and behind these nothing changed but the
+-- space and the peer's id.
 pub record IsLost (accepts : AcceptsTag) (now : Moment) (datagram : List ℕ) (old new : Handshake) : Type 0 where
   pub mid : Handshake
   pub begun : AreBegun accepts now datagram (received (length datagram) old) mid

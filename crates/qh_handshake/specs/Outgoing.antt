@@ -61,7 +61,7 @@ pub data IsSilent (h : Handshake) : Type 0 where
   quiet : (s : InitialSpace) → h.space ≡ Some s → IsQuiet s → IsSilent h
   exhausted : (s : InitialSpace) → h.space ≡ Some s → s.next_number ≡ 2 ^ 62 → IsSilent h
 
--- Memory is wanting for a datagram: the handshake is as it was, or a packet counts as sent that wasn't handed out, as one that is lost.
+-- Memory is wanting for a datagram: the handshake is as it was, or a packet counts as in flight that wasn't handed out.
 pub data IsUnsent (now : Moment) (old new : Handshake) : Type 0 where
   same : new ≡ old → IsUnsent now old new
   lost : (space next : InitialSpace) (frames : List ℕ) (is_eliciting : Bool) → old.space ≡ Some space → is_limited old ≡ false → space.next_number < 2 ^ 62

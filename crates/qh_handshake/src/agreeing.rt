@@ -9,8 +9,8 @@ ghost use Rattle.qh_handshake.specs.declared.handshake.Handshake.{Handshake as A
 ghost use Rattle.qh_spec.specs.Lists.{In};
 ghost use Rattle.qh_spec.specs.Transcript.{Act, handed_out};
 
-/// Two honest handshakes over an honest link don't refuse one another, with a Retry packet between them too: no datagram that one hands
-/// out is a fault to the other (RFC 9000, sections 7.3 and 12.4).
+/// No datagram that an honest handshake hands out is a fault of the transport to its honest peer, over an honest link, with a Retry packet
+/// between them too (RFC 9000, sections 7.3 and 12.4).
 pub fn peers()
     ensures { (accepts : AcceptsTag) (now : AMoment) (datagram rest own_hello peer_hello : List ℕ) (own new peer : AHandshake) (retried learned : Option (List ℕ)) (e : ATransportError) (t u : List Act)
         → NamesTags accepts → IsPeer own_hello peer_hello own peer t u → In datagram (handed_out u)

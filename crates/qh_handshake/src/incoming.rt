@@ -17,9 +17,9 @@ use std::alloc::Global;
 impl Handshake {
     /// Takes the Initial packets with which a datagram begins, a Retry packet, or a packet of version negotiation, and answers what
     /// stands behind the Initial packets: a 1-RTT packet, if anything. The error is the one that ends the connection. After a fault the
-    /// packets behind the one at fault aren't taken. After want of memory the datagram is counted, and the Initial packets before the one
-    /// for which memory was wanting are taken; of the space, and of the peer's id, nothing more is said, so the space isn't to be used any
-    /// more: the connection fails, and its handshake is used without a space from then on.
+    /// packets behind the one at fault aren't taken. After want of memory the datagram is counted, and some of its first Initial packets
+    /// may have been taken; of the space, and of the peer's id, nothing more is said, so the space isn't to be used any more: the connection
+    /// fails, and its handshake is used without a space from then on.
     pub fn handle_datagram<'a, S: Session>(
         &mut self,
         alloc: Global,

@@ -19,8 +19,8 @@ const DATAGRAM_SIZE: usize = 1_200;
 
 impl Handshake {
     /// Appends the next datagram, one Initial packet, and answers its size; None if nothing is to be sent, or may be sent (RFC 9000,
-    /// section 8.1). After want of memory nothing is appended. A packet that was counted as sent by then is lost, and what it bore is
-    /// sent again as that of any lost packet is.
+    /// section 8.1). After want of memory nothing is appended. A packet that was counted as sent by then is in flight, as one that
+    /// doesn't arrive.
     pub fn poll_transmit<S: Session>(
         &mut self,
         alloc: Global,
