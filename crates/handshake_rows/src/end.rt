@@ -1,5 +1,5 @@
 //! One end of a handshake.
-ghost use Rattle.std.specs.Prelude.{◌≡◌, ◌≤◌, ℕ, List, [], length, None, IfOk, IfSome, OnOk};
+ghost use Rattle.std.specs.Prelude.{◌≡◌, ◌≤◌, ℕ, List, [], length, None, true, IfOk, IfSome, OnOk};
 ghost use Rattle.qh_handshake.specs.Handshake.{IsHandshake};
 ghost use Rattle.qh_hello.specs.Greetings.{greeting};
 ghost use Rattle.qh_spec.specs.Hello.{IsSayable};
@@ -55,9 +55,10 @@ impl End {
         if name.len() > 255 {
             return Err(RowFault::Form);
         }
+        let session = session(name);
         Ok(End {
-            handshake: client(alloc, name)?,
-            session: session(name),
+            handshake: client(alloc, &session)?,
+            session,
         })
     }
 
@@ -123,7 +124,7 @@ impl End {
 
     /// At a server: the client was sent on by a Retry packet from this id.
     pub(crate) fn set_origin(&mut self, retry_id: ConnectionId, is_validated: bool) {
-        if self.handshake.peer.is_some() {
+        if self.handshake.peer.is_some() || !is_first(&self.handshake) {
             return;
         }
         if let Side::Server = self.handshake.side {
@@ -137,7 +138,10 @@ impl End {
     /// At a client: its packets bear a token.
     pub(crate) fn bear(&mut self, token: Bytes) -> Result<(), RowFault> {
         match self.handshake.side {
-            Side::Client if token.len() <= 512 => {
+            Side::Client
+                if token.len() <= 512
+                    && self.handshake.retry_id.is_none()
+                    && is_first(&self.handshake) => {
                 self.handshake.bear(token);
                 Ok(())
             }
@@ -181,6 +185,13 @@ impl End {
     }
 }
 
+// No datagram came or went.
+fn is_first(handshake: &Handshake) -> bool
+    ensures { result ≡ true → (handshake.now.bytes_received ≡ 0) × (handshake.now.bytes_sent ≡ 0) }
+{
+    handshake.bytes_received == 0 && handshake.bytes_sent == 0
+}
+
 fn id(bytes: &[u8]) -> ConnectionId
     requires { length bytes.now ≤ 20 }
     ensures { length result ≤ 20 }
@@ -219,12 +230,13 @@ fn session(name: &[u8]) -> PlainSession
     PlainSession::new(id(ORIGINAL), name).unwrap()
 }
 
-fn client(alloc: Global, name: &[u8]) -> Result<Handshake, Memory>
-    requires { length name.now ≤ 255 }
+fn client(alloc: Global, session: &PlainSession) -> Result<Handshake, Memory>
     ensures { IfOk result IsHandshake }
 {
+    // Its name is read for the bound alone.
+    let _ = session.server_name();
     let parameters = parameters(id(CLIENT), None);
-    Handshake::client(alloc, name, parameters, id(ORIGINAL), INITIAL_RTT, START)
+    Handshake::client(alloc, session, parameters, id(ORIGINAL), INITIAL_RTT, START)
 }
 
 fn server(alloc: Global) -> Handshake

@@ -112,6 +112,9 @@ fn write_retry(alloc: Global, words: &mut Words<'_>, bytes: &mut Vec<u8>) -> Res
     let source = id(alloc, words)?;
     let original = id(alloc, words)?;
     let token = words.bytes(alloc)?;
+    if token.is_empty() || source.bytes() == original.bytes() {
+        return Err(RowFault::Form);
+    }
     put_retry(bytes, &destination, &source, &token, &original)?;
     Ok(())
 }

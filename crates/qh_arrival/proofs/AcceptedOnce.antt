@@ -1,7 +1,8 @@
 -- Which packets were accepted is told by the datagrams: there is but one list of them.
 use Rattle.std.proofs.Common.{◌≡◌, ℕ, ◌-◌, List, [], ◌∷◌, ◌++◌, length, refl, sym, ap, subst, ◌∙◌, inl, inr, arith}
 use Rattle.std.proofs.lemmas.Bool.{cases_order}
-use Rattle.qh_owing.specs.Owing.{AcceptsTag, AreAccepted, numbers_of}
+use Rattle.qh_owing.specs.Owing.{AreAccepted, numbers_of}
+use Rattle.qh_packet.specs.Session.{AcceptsTag}
 use Rattle.qh_owing.specs.Owing.AreAccepted.{none, taken, repeated, dropped}
 use Rattle.qh_packet.proofs.Packets.{parts_of}
 use Rattle.qh_packet.specs.Packet.{IsOpened}

@@ -19,7 +19,7 @@ use Rattle.qh_owing.proofs.LedgerCalls.{ledger_fresh, ledger_made, ledger_open}
 use Rattle.qh_owing.proofs.LedgerStreams.{hands_none}
 use Rattle.qh_owing.proofs.OwingMade.{made_owes}
 use Rattle.qh_owing.proofs.WhatIsOwed.{fresh, still_owed}
-use Rattle.qh_owing.specs.Owing.{AcceptsTag}
+use Rattle.qh_packet.specs.Session.{AcceptsTag}
 use Rattle.qh_spec.specs.Transcript.{Act, handed_out}
 use Rattle.qh_spec.specs.declared.sides.Side.{Side}
 use Rattle.qh_spec.specs.declared.sides.Space.{Space}

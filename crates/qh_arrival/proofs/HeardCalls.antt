@@ -40,7 +40,8 @@ use Rattle.qh_halves.specs.SendHalves.{half_in}
 use Rattle.qh_owing.proofs.LedgerStreams.{hands_none, only_streams}
 use Rattle.qh_owing.proofs.NumbersKept.{aged_same, frames_same, made_same, probed_same}
 use Rattle.qh_owing.proofs.OwingConnections.{BringsNone, none_come, not_new, one_come, unopened}
-use Rattle.qh_owing.specs.Owing.{AcceptsTag, AreAccepted, numbers_of}
+use Rattle.qh_owing.specs.Owing.{AreAccepted, numbers_of}
+use Rattle.qh_packet.specs.Session.{AcceptsTag}
 use Rattle.qh_owing.specs.Owing.AreAccepted.{none as none_accepted, taken as brings_one}
 use Rattle.qh_recovery.specs.Accepted.{Remembers}
 use Rattle.qh_space.specs.declared.data_space.DataSpace.{DataSpace}

@@ -8,7 +8,8 @@ use Rattle.qh_conduct.specs.Restarting.{AreSealed}
 use Rattle.qh_core.specs.Progress.{NumberedPacket}
 use Rattle.qh_core.specs.declared.inner.Inner.{Inner}
 use Rattle.qh_owing.specs.Ledger.{AreSent, HasLedger, IsLedger}
-use Rattle.qh_owing.specs.Owing.{AcceptsTag, KeepsWhatIsOwed, MakesTags, NamesTags, Owes}
+use Rattle.qh_owing.specs.Owing.{KeepsWhatIsOwed, Owes}
+use Rattle.qh_packet.specs.Session.{AcceptsTag, MakesTags, NamesTags}
 use Rattle.qh_spec.specs.Transcript.{Act, handed_out}
 use Rattle.qh_spec.specs.declared.sides.Side.{Side}
 use Rattle.qh_spec.specs.declared.sides.Space.{Space}

@@ -7,7 +7,8 @@ use Rattle.qh_core.specs.declared.inner.Inner.{Inner}
 use Rattle.qh_frame.specs.Plain.{by_dir}
 use Rattle.qh_half.specs.Send.{PlainSend}
 use Rattle.qh_halves.specs.SendHalves.{send_at}
-use Rattle.qh_owing.specs.Owing.{AcceptsTag, AreAccepted, numbers_of}
+use Rattle.qh_owing.specs.Owing.{AreAccepted, numbers_of}
+use Rattle.qh_packet.specs.Session.{AcceptsTag}
 use Rattle.qh_recovery.specs.Accepted.{Remembers}
 use Rattle.qh_spec.specs.Datagram.{Packet}
 use Rattle.qh_spec.specs.Link.{other}

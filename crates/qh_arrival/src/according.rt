@@ -4,7 +4,7 @@ ghost use Rattle.qh_core.specs.Follows.{Follows};
 ghost use Rattle.qh_core.specs.Inner.{IsNewSpace, is_open};
 ghost use Rattle.qh_core.specs.Made.{AcceptsTags, AreMade, MakesTagsOf};
 ghost use Rattle.qh_core.specs.declared.inner.Inner.{Inner as AnInner};
-ghost use Rattle.qh_owing.specs.Owing.{AcceptsTag};
+ghost use Rattle.qh_packet.specs.Session.{AcceptsTag};
 ghost use Rattle.qh_spec.specs.Transcript.{Act};
 ghost use Rattle.qh_spec.specs.declared.sides.Side.{Side as ASide};
 ghost use Rattle.qh_spec.specs.declared.sides.Space.{Space as ASpace};

@@ -1,10 +1,10 @@
 -- What is spelled as a number is read as it, and what is read is spelled so.
-use Rattle.std.proofs.Common.{◌≡◌, ℕ, ◌+◌, ◌-◌, ◌^◌, ◌<◌, ◌≤◌, nat_lt, true, false, List, [], ◌∷◌, ◌++◌, length, get_or, take, drop, refl, sym, ap, ◌∙◌, arith, inl, inr, Option, Some, None, slice_index, subst}
+use Rattle.std.proofs.Common.{◌≡◌, ℕ, ◌+◌, ◌-◌, ◌^◌, ◌<◌, ◌≤◌, nat_lt, true, false, List, [], ◌∷◌, ◌++◌, length, get_or, take, drop, refl, sym, ap, ◌∙◌, arith, inl, inr, Some, None, slice_index, subst}
 use Rattle.std.specs.Int.{w16, w32, w64, to_be_bytes, from_be_bytes}
 use Rattle.std.proofs.lemmas.Bool.{cases_lt, lt-ltb, le-ltb}
-use Rattle.std.proofs.lemmas.List.{get_or-take, length-take, length-take-le, take_at, get_or_past, take_more, take-append-drop}
+use Rattle.std.proofs.lemmas.List.{get_or-take, length-take, length-take-le, get_or_past, take_more, take-append-drop}
 use Rattle.std.proofs.lemmas.Nat.{be_bytes_2, be_bytes_4, be_bytes_8, from_be_bytes-to_be_bytes_2, from_be_bytes-to_be_bytes_4, from_be_bytes-to_be_bytes_8}
-use Rattle.qh_spec.specs.Varint.{IsVarint, one, two, four, eight, varint}
+use Rattle.qh_spec.specs.Varint.{IsVarint, one, two, four, eight}
 use Rattle.qh_base.specs.Varint.{varint_at, whole}
 
 -- what is spelled so is read, whatever follows

@@ -3,3 +3,4 @@ pub mod ConnectionIdInverse
 pub mod Io
 pub mod Varint
 pub mod Standard
+pub mod TransportFault

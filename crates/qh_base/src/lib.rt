@@ -4,6 +4,7 @@
 
 mod code;
 mod connection_error;
+mod counted;
 mod equality;
 mod frame_type;
 mod io;
@@ -19,6 +20,7 @@ mod varint;
 
 pub use code::Code;
 pub use connection_error::{ApplicationClose, ConnectionClose, ConnectionError};
+pub use counted::{get_counted, get_number};
 pub use equality::equal_means_same;
 pub use frame_type::FrameType;
 pub use io::{Failed, MemSink, MemSource, Sink, Source, StdSink, StdSource};
@@ -29,6 +31,6 @@ pub use qh_spec::{Dir, Side, Space};
 pub use shared::{ConnectionId, ResetToken};
 pub use stream_id::StreamId;
 pub use text::{Name, Reason};
-pub use time::{Moment, Span};
+pub use time::{Moment, Span, earlier, is_due};
 pub use transport_error::{TransportError, TransportErrorCode};
 pub use varint::{VarInt, get_varint, put_varint};

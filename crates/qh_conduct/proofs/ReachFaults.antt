@@ -1,5 +1,6 @@
 -- Why a connection is faulted: the frame of the datagram that its space refuses.
 use Rattle.std.proofs.Common.{◌≡◌, ℕ, Bool, List, [], ◌∷◌, length, Option, Some, None, refl, sym, ap, subst, ◌∙◌, inl, inr}
+use Rattle.qh_base.specs.TransportFault.{IsFault as HasCode}
 use Rattle.std.specs.Option.{option_map}
 use Rattle.qh_base.specs.declared.connection_error.ConnectionError.{ConnectionError}
 use Rattle.qh_base.specs.declared.connection_error.ConnectionError.TheVariants as error
@@ -11,7 +12,7 @@ use Rattle.qh_conduct.specs.Fitting.{HasRefused, IsFaultOf, empty as fault_empty
 use Rattle.qh_conduct.specs.Reached.{AreNamed}
 use Rattle.qh_core.proofs.Ends.{goes_on_space}
 use Rattle.qh_core.specs.Follows.{HasFrame}
-use Rattle.qh_core.specs.Receiving.{AreFramesTaken, GoesOnWith, HasContent, IsDatagramTaken, IsFault as HasCode, IsFaulted, IsOpenedBy, IsPacketHandled}
+use Rattle.qh_core.specs.Receiving.{AreFramesTaken, GoesOnWith, HasContent, IsDatagramTaken, IsFaulted, IsOpenedBy, IsPacketHandled}
 use Rattle.qh_core.specs.Receiving.AreFramesTaken.{none as none_taken, more as more_taken, closed as closed_taken, refused as refused_taken}
 use Rattle.qh_core.specs.Receiving.IsDatagramTaken.{dropped, handled, told_again, closed_too, draining as in_draining, drained as in_drained}
 use Rattle.qh_core.specs.Receiving.IsPacketHandled.{repeated, empty, faulty, unnoted, taken as in_taken}

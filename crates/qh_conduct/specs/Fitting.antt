@@ -1,10 +1,11 @@
 -- Frames that an end doesn't refuse, by what came before (RFC 9000, sections 4.1 and 4.5), and what a connection is faulted for.
 use Rattle.std.specs.Prelude.{◌≡◌, ℕ, ◌<◌, ◌≤◌, ◌^◌, Bool, true, false, List, [], ◌∷◌, length, Option, Some, None}
+use Rattle.qh_base.specs.TransportFault.{IsFault}
 use Rattle.std.specs.Option.{option_map}
 use Rattle.qh_base.specs.declared.transport_error.TransportError.{TransportError}
 use Rattle.qh_conduct.specs.Reached.{CameIn, EndsAt, Reaches}
 use Rattle.qh_core.specs.Follows.{HasFrame}
-use Rattle.qh_core.specs.Receiving.{IsFault, IsOpenedBy}
+use Rattle.qh_core.specs.Receiving.{IsOpenedBy}
 use Rattle.qh_core.specs.declared.inner.Inner.{Inner}
 use Rattle.qh_frame.specs.Plain.{plain_of}
 use Rattle.qh_frame.specs.TypeOf.{named, type_of}

@@ -1,5 +1,6 @@
 -- What a packet does whose tag was accepted, and what holds of the connection behind its frames.
 use Rattle.std.proofs.Common.{◌≡◌, ℕ, Bool, true, false, List, [], ◌∷◌, Option, Some, None, refl, sym, ap, subst, ◌∙◌}
+use Rattle.qh_base.specs.TransportFault.{IsFault}
 use Rattle.std.specs.Option.{option_map}
 use Rattle.std.specs.Prelude.{◌||◌, OnErr, OnOk, Result, Ok, Err, is_err}
 use Rattle.qh_base.specs.declared.connection_error.ConnectionError.{ConnectionError}
@@ -8,7 +9,7 @@ use Rattle.qh_base.specs.declared.memory.Memory.{Memory as OutOfMemory}
 use Rattle.qh_base.specs.declared.time.Moment.{Moment}
 use Rattle.qh_base.specs.declared.transport_error.TransportError.{TransportError}
 use Rattle.qh_core.specs.Inner.{IsConnection, is_open}
-use Rattle.qh_core.specs.Receiving.{AreFramesTaken, GoesOnWith, IsAccepted, IsFault, IsFaulted, IsNewTo, IsPacketHandled, IsPacketUnread, StopsUnrefused}
+use Rattle.qh_core.specs.Receiving.{AreFramesTaken, GoesOnWith, IsAccepted, IsFaulted, IsNewTo, IsPacketHandled, IsPacketUnread, StopsUnrefused}
 use Rattle.qh_core.specs.Receiving.IsPacketHandled.{empty, faulty, taken, unnoted}
 use Rattle.qh_core.specs.Timers.{restarted}
 use Rattle.qh_core.specs.declared.idle.IdleTimer.{IdleTimer}

@@ -1,5 +1,6 @@
 -- What a datagram does that comes (RFC 9000, sections 10.2, 12.2, 12.3 and 12.4).
 use Rattle.std.specs.Prelude.{◌≡◌, ℕ, ◌==◌, Bool, true, ◌||◌, MatchBool, List, [], ◌∷◌, length, Option, Some, None}
+use Rattle.qh_base.specs.TransportFault.{IsFault}
 use Rattle.std.specs.List.{AllByRecursion, list_any}
 use Rattle.std.specs.Option.{option_map}
 use Rattle.qh_base.specs.declared.connection_error.ConnectionError.{ConnectionError}
@@ -91,11 +92,6 @@ pub record IsCloseOf (e : TransportError) (reason : CloseReason) : Type 0 where
   pub code_is : close.code ≡ e.code
   pub frame_is : close.frame ≡ e.frame
   pub text_is : close.reason ≡ e.reason
-
--- the error has the code, and names the type of the frame where one is known
-pub record IsFault (code : ℕ) (frame : Option ℕ) (e : TransportError) : Type 0 where
-  pub code_is : e.code.0 ≡ code
-  pub frame_is : e.frame ≡ frame
 
 module _ {S : Type 0} where
   -- this end closes, and tells the peer; it is drained after three probe timeouts (section 10.2.1)

@@ -1,23 +1,20 @@
 -- An end that calls made another goes on standing to all that was done with it.
 use Rattle.std.proofs.Common.{◌≡◌, ◌≤◌, ℕ, Some, List, ◌++◌, refl, sym, ◌∙◌, ap, subst, length}
-use Rattle.std.proofs.lemmas.Slice.Eq.{bytes_eq-Decides}
 use Rattle.qh_arrival.proofs.AccordsOn.{made_accords}
 use Rattle.qh_arrival.specs.Accord.{Accords, AreTags}
 use Rattle.qh_core.proofs.MadeTogether.{all_same}
 use Rattle.qh_core.specs.Inner.{IsSameEnd}
 use Rattle.qh_core.specs.declared.config.ConnConfig.{ConnConfig}
 use Rattle.qh_packet.specs.Session.{PlainKeys}
-use Rattle.qh_spec.specs.Tag.{tag_bytes}
+use Rattle.qh_packet.proofs.Sessions.{plain_names, plain_makes}
 use Rattle.qh_spec.specs.Transcript.{Act}
 use Rattle.qh_spec.specs.declared.sides.Side.{Side}
-use Rattle.qh_exchange.specs.Pair.{End, EndAccords, IsEndOf, IsMadeBy, Stands, plain_accepts, plain_sealed}
+use Rattle.qh_exchange.specs.Pair.{End, EndAccords, IsEndOf, IsMadeBy, Stands}
+use Rattle.qh_packet.specs.Session.{plain_accepts, plain_sealed}
 
 -- what a plain session takes for tags and what it makes are tags
 plain_are_tags : (keys : PlainKeys) → length keys.key_id ≤ 20 → AreTags (plain_accepts keys) (plain_sealed keys)
-plain_are_tags keys short = record {
-  names = λ from space number tag bound e. record { key_id = keys.key_id; short = short; bound = bound; is = (bytes_eq-Decides tag (tag_bytes keys.key_id from space number)).0 e };
-  makes = λ from space number bound. record { key_id = keys.key_id; short = short; bound = bound; is = refl };
-}
+plain_are_tags keys short = record { names = plain_names keys short; makes = plain_makes keys short }
 
 -- where its key is short, it goes on standing to all that was done with it
 pub accords_on : (c d : End) (t acts : List Act) → length c.session.key_id ≤ 20 → IsMadeBy c d acts → EndAccords c t → EndAccords d (t ++ acts)

@@ -8,7 +8,8 @@ use Rattle.qh_core.specs.Made.{IsMadeLocally}
 use Rattle.qh_core.specs.Made.AreSteps.{none}
 use Rattle.qh_core.specs.declared.event.Event.{Event}
 use Rattle.qh_exchange.specs.EndCalls.{IsPolledOut}
-use Rattle.qh_exchange.specs.Pair.{End, plain_accepts, plain_sealed}
+use Rattle.qh_exchange.specs.Pair.{End}
+use Rattle.qh_packet.specs.Session.{plain_accepts, plain_sealed}
 
 same_session : (old new : End) (told : Option Event) → IsPolledEvent old new told → new.session ≡ old.session
 same_session old new _ (stream_told e polled is) = ap (λ (c : End). c.session) is

@@ -10,7 +10,8 @@ use Rattle.qh_spec.specs.Record.{PlainEntry}
 use Rattle.qh_spec.specs.Transcript.{Act}
 use Rattle.qh_spec.specs.declared.link.Event.{Event}
 use Rattle.qh_spec.specs.declared.sides.Side.TheVariants.{Client, Server}
-use Rattle.qh_exchange.specs.Pair.{End, IsMadeBy, IsRunning, IsSound, PairState, Stands, id_length, plain_accepts, plain_sealed}
+use Rattle.qh_exchange.specs.Pair.{End, IsMadeBy, IsRunning, IsSound, PairState, Stands, id_length}
+use Rattle.qh_packet.specs.Session.{plain_accepts, plain_sealed}
 use Rattle.qh_exchange.specs.Steps.{ClientPolled, HasAcceptedAll, HasOpenedAll, HasRun, IsCounted, IsOnSide, IsStill, PairStep, ServerPolled}
 use Rattle.qh_exchange.specs.Turn.{IsNotLost}
 use Rattle.qh_exchange.proofs.EndMade.{stands_on}

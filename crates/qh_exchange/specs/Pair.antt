@@ -1,12 +1,12 @@
 -- How a pair stands to what happened on its link, and what its service recorded, since it was opened. No object stores
 -- these lists.
-use Rattle.std.specs.Prelude.{◌≡◌, ℕ, ◌^◌, ◌≤◌, Bool, true, false, not, List, [], ◌∷◌, ◌++◌, Option, Some, None, Result, length, filter, slice_get, bytes_eq, MatchBool}
+use Rattle.std.specs.Prelude.{◌≡◌, ℕ, ◌^◌, ◌≤◌, Bool, true, false, not, List, [], ◌∷◌, ◌++◌, Option, Some, None, Result, length, filter, slice_get, MatchBool}
 use Rattle.qh_arrival.specs.Accord.{Accords}
 use Rattle.qh_core.specs.Config.{peer_of}
-use Rattle.qh_core.specs.Made.{AcceptsTags, AreMade, MakesTagsOf}
+use Rattle.qh_core.specs.Made.{AreMade}
 use Rattle.qh_core.specs.declared.config.ConnConfig.{ConnConfig}
 use Rattle.qh_core.specs.declared.inner.Inner.{Inner}
-use Rattle.qh_packet.specs.Session.{PlainKeys}
+use Rattle.qh_packet.specs.Session.{PlainKeys, plain_accepts, plain_sealed}
 use Rattle.qh_roles.specs.Client.{PlainClient, Asking, HasOpened}
 use Rattle.qh_roles.specs.Server.{PlainServer, Serving, HasAccepted}
 use Rattle.qh_spec.specs.declared.link.Event.{Event}
@@ -18,7 +18,6 @@ use Rattle.qh_spec.specs.Honest.{IsHonest}
 use Rattle.qh_spec.specs.Link.{if_same_side}
 use Rattle.qh_spec.specs.Message.{PlainMessage}
 use Rattle.qh_spec.specs.Record.{PlainEntry}
-use Rattle.qh_spec.specs.Tag.{tag_bytes}
 use Rattle.qh_spec.specs.Transcript.{Act, HandedIn, HandedOut}
 use Rattle.qh_exchange.specs.Sound.{EndsFairly, IsSoundAt}
 use Rattle.qh_exchange.specs.Within.{KeptWithin}
@@ -28,13 +27,6 @@ use Rattle.qh_exchange.specs.declared.error.ExchangeError.{ExchangeError}
 -- an end of a connection with a plain session
 abbrev pub End : Type 0
 End = Inner PlainKeys
-
--- what a plain session takes for tags, and which tags it makes
-abbrev pub plain_accepts : AcceptsTags PlainKeys
-plain_accepts keys from space number tag = bytes_eq tag (tag_bytes keys.key_id from space number)
-
-abbrev pub plain_sealed : MakesTagsOf PlainKeys
-plain_sealed keys = tag_bytes keys.key_id
 
 -- calls made the end the other, and these acts are what they add
 abbrev pub IsMadeBy : (old new : End) → List Act → Type 0

@@ -15,8 +15,8 @@ use Rattle.qh_frame.specs.Plain.{plain_of}
 use Rattle.qh_frame.specs.WrittenForm.{ack_values, or_frame, written_form}
 use Rattle.qh_frame.specs.declared.frame.Frame.{Frame}
 use Rattle.qh_handshake.proofs.FollowsOn.{SpaceFollows, loss_same, others_follow, same_both, same_by, same_follows, space_of}
-use Rattle.qh_handshake.specs.Follows.{Follows, HasInitial, IsGreetedWith, NamesTags, bytes_of}
-use Rattle.qh_handshake.specs.Incoming.{AcceptsTag, AreFramesTaken, ArePacketsTaken, Form, IsAccepted, IsDatagramTaken, IsHelloRead, IsHelloThere, IsInitialTaken, IsOpenedBy, IsPacketHandled, knowing, received}
+use Rattle.qh_handshake.specs.Follows.{Follows, HasInitial, IsGreetedWith, IsItsHello, bytes_of}
+use Rattle.qh_handshake.specs.Incoming.{AreFramesTaken, ArePacketsTaken, Form, IsAccepted, IsDatagramTaken, IsHelloRead, IsHelloThere, IsInitialTaken, IsOpenedBy, IsPacketHandled, knowing, received}
 use Rattle.qh_handshake.specs.Incoming.AreFramesTaken.{none as none_taken, more as more_taken, closed as closed_taken, refused as refused_taken}
 use Rattle.qh_handshake.specs.Incoming.ArePacketsTaken.{done, more as one_more, ended as ended_by}
 use Rattle.qh_handshake.specs.Incoming.IsDatagramTaken.{retry, mismatch, packets}
@@ -25,14 +25,17 @@ use Rattle.qh_handshake.specs.Incoming.IsInitialTaken.{gone, dropped, ended, han
 use Rattle.qh_handshake.specs.Incoming.IsPacketHandled.{repeated, empty, faulty, taken}
 use Rattle.qh_handshake.specs.Lost.{AreBegun, IsLost}
 use Rattle.qh_handshake.specs.Lost.AreBegun.{here as here_begun, more as one_begun}
+use Rattle.qh_handshake.specs.Lost.IsLost.{initials as initials_lost, retry as retry_lost}
 use Rattle.qh_handshake.specs.Receiving.{IsFrameTaken, IsPieceTaken}
 use Rattle.qh_handshake.specs.Receiving.IsFrameTaken.{padding, ping, ack, crypto, close}
 use Rattle.qh_handshake.specs.declared.handshake.Handshake.{Handshake}
 use Rattle.qh_handshake.specs.declared.initial_space.InitialSpace.{InitialSpace}
 use Rattle.qh_hello.specs.Crypto.{came_at}
+use Rattle.qh_hello.specs.Greetings.{greeting}
 use Rattle.qh_hello.specs.declared.transport_parameters.TransportParameters.{TransportParameters}
 use Rattle.qh_packet.proofs.Surveys.{frame_takes}
 use Rattle.qh_packet.specs.Initial.{BeginsWithInitial}
+use Rattle.qh_packet.specs.Session.{AcceptsTag, NamesTags}
 use Rattle.qh_recovery.specs.Accepted.{Remembers}
 use Rattle.qh_spec.proofs.FrameLaws.{quic_frame_agrees}
 use Rattle.qh_spec.proofs.GreetedLaws.{frame_more, whole_more}
@@ -41,6 +44,7 @@ use Rattle.qh_spec.proofs.PartLaws.{last_or_before}
 use Rattle.qh_spec.proofs.TranscriptLaws.{handed_in-append, handed_out-append}
 use Rattle.qh_spec.specs.Datagram.{Packet, HasPacket, IsInitialForm, IsInitialPacket, initial, later}
 use Rattle.qh_spec.specs.Greeted.{CarriesHello, HasCrypto, HasFrameOf, crypto_frame}
+use Rattle.qh_spec.specs.Hello.{hello_bytes, hello_of}
 use Rattle.qh_spec.specs.Link.{other}
 use Rattle.qh_spec.specs.Lists.{In}
 use Rattle.qh_spec.specs.QuicFrame.{StreamFrame as Run, has_bit}
@@ -48,6 +52,7 @@ use Rattle.qh_spec.specs.FrameViews.{stream_values}
 use Rattle.qh_spec.specs.QuicFrames.{QuicFrame, AreQuicFrames}
 use Rattle.qh_spec.specs.Transcript.{Act, HandedIn, HandedOut, handed_in, handed_out}
 use Rattle.qh_spec.specs.declared.sides.Side.{Side}
+use Rattle.qh_spec.specs.declared.sides.Side.TheVariants.{Server}
 use Rattle.qh_spec.specs.declared.sides.Space.TheVariants.{Initial}
 
 -- ---- a datagram came
@@ -88,6 +93,10 @@ heard_follows hello h t d p =
       answers = λ front back datagram e. elim (last_or_before t front back (HandedIn d) (HandedOut datagram) e) [
         | inl last ↦ absurd (not_out d datagram last.1)
         | inr earlier ↦ p.answers front earlier.0 datagram earlier.1
+      ];
+      once = λ front back datagram e. elim (last_or_before t front back (HandedIn d) (HandedOut datagram) e) [
+        | inl last ↦ absurd (not_out d datagram last.1)
+        | inr earlier ↦ p.once front earlier.0 datagram earlier.1
       ];
       numbers = λ s id_length number is has. p.numbers s id_length number is (subst (λ (z : List (List ℕ)). HasInitial id_length z h.side number) out has);
       accepted = λ s is.
@@ -255,6 +264,11 @@ greeted_with hello name h p u id_length there follows = record {
   says = there.read.says;
 }
 
+-- a server's hello has no name
+server_hello : (hello : List ℕ) (side : Side) (p : TransportParameters) → IsItsHello hello side p → side ≡ Server → hello ≡ hello_bytes (hello_of (greeting Server [] p))
+server_hello hello side p own server =
+    own.is ∙ ap (λ (name : List ℕ). hello_bytes (hello_of (greeting side name p))) (own.unnamed server) ∙ ap (λ (z : Side). hello_bytes (hello_of (greeting z [] p))) server
+
 hello_in : (hello : List ℕ) (old new : Handshake) (learned : Option (List ℕ)) (end : Option ConnectionError) (u : List Act) → IsHelloRead old new learned end → Follows hello old u → Follows hello new u
 hello_in hello old new learned end u (gone_before none e) p = subst (λ (z : Handshake). Follows hello z u) (sym e) p
 hello_in hello old new learned end u (known _ is e) p = subst (λ (z : Handshake). Follows hello z u) (sym e) p
@@ -267,6 +281,7 @@ hello_in hello old new learned end u (at_client name q there client e) p = subst
   greeted = λ r id_length is. subst (λ (z : TransportParameters). IsGreetedWith id_length (handed_in u) (other old.side) z) (same_Some q r is) (greeted_with hello name old q u id_length there p);
   says = p.says;
   answers = p.answers;
+  once = p.once;
   numbers = λ s id_length number is has. absurd (none-some s is);
   accepted = λ s is. absurd (none-some s is);
   received = p.received;
@@ -277,11 +292,12 @@ hello_in hello old new learned end u (at_server s name q there server is e) p =
     let one = λ (next x : InitialSpace) (there : Some next ≡ Some x). same_Some next x there in
     subst (λ (z : Handshake). Follows hello z u) (sym e) (record {
       own = p.own;
-      kept = λ x at. inr (ap (λ (z : InitialSpace). z.hello) (sym (one _ x at)) ∙ sym (p.own server));
+      kept = λ x at. inr (ap (λ (z : InitialSpace). z.hello) (sym (one _ x at)) ∙ sym (server_hello hello old.side old.parameters p.own server));
       came = λ x k byte id_length at stands. p.came s k byte id_length is (ap (λ (z : InitialSpace). came_at z.crypto k) (one _ x at) ∙ stands);
       greeted = λ r id_length at. subst (λ (z : TransportParameters). IsGreetedWith id_length (handed_in u) (other old.side) z) (same_Some q r at) (greeted_with hello name old q u id_length there p);
       says = p.says;
       answers = p.answers;
+      once = p.once;
       numbers = λ x id_length number at has. subst (λ (z : InitialSpace). number < z.next_number) (one _ x at) (p.numbers s id_length number is has);
       accepted = λ x at. let a = p.accepted s is in (a.0, subst (λ (z : InitialSpace). Remembers a.0 z.dedup) (one _ x at) a.1, a.2);
       received = p.received;
@@ -302,7 +318,7 @@ opened_is accepts h s f number front frames fs names by form are =
       form = subst (λ (n : ℕ). IsInitialForm front n (o.number_bytes ++ (frames ++ o.tag))) o.first_is (subst (λ (z : List ℕ). IsInitialForm front f.first z) o.whole form);
       some_number = o.some_number;
       short_number = o.short_number;
-      content = record { space_is = refl; tagged = names (other h.side) Initial number o.tag o.accepted o.is_number; low = sym o.expanded.candidate.same_low; frames = are };
+      content = record { space_is = refl; tagged = names (other h.side) Initial number o.tag o.is_number o.accepted; low = sym o.expanded.candidate.same_low; frames = are };
     }
 
 module _ (hello : List ℕ) (accepts : AcceptsTag) (names : NamesTags accepts) (now : Moment) (datagram : List ℕ) (u : List Act) (among : In datagram (handed_in u)) where
@@ -310,36 +326,36 @@ module _ (hello : List ℕ) (accepts : AcceptsTag) (names : NamesTags accepts) (
   abbrev IsRest : List ℕ → Type 0
   IsRest bytes = (id_length : ℕ) (p : Packet) → HasPacket id_length p bytes → HasPacket id_length p datagram
 
-  known_in : (f : Form) (old : Handshake) (s mid : InitialSpace) (number : ℕ) (frames bytes destination token behind : List ℕ) (end : Option ConnectionError)
-      → BeginsWithInitial bytes f.first destination f.source token f.body behind → IsRest bytes → old.space ≡ Some s → IsOpenedBy accepts old s f number frames
+  known_in : (f : Form) (old : Handshake) (s mid : InitialSpace) (number : ℕ) (frames bytes destination behind : List ℕ) (end : Option ConnectionError)
+      → BeginsWithInitial bytes f.first destination f.source f.token f.body behind → IsRest bytes → old.space ≡ Some s → IsOpenedBy accepts old s f number frames
       → IsPacketHandled now number frames s mid end → Follows hello old u → Follows hello (knowing old f.source mid) u
-  known_in f old s mid number frames bytes destination token behind end b rest is opened h p =
+  known_in f old s mid number frames bytes destination behind end b rest is opened h p =
       let of = packet_in hello old.side old.peer u now number frames datagram s mid end h
       (λ fs are id_length. rest id_length _ (initial b.front behind bytes b.whole (opened_is accepts old s f number b.front frames fs names opened b.form are))) among (space_of hello old u s is p) in
       others_follow hello old u f.source old.retry_id old.token true (Some mid) (λ x there. subst (λ (z : InitialSpace). SpaceFollows hello old.side old.peer z u) (same_Some mid x there) of) p
 
-  initial_in : (f : Form) (old new : Handshake) (bytes destination token behind : List ℕ) (learned : Option (List ℕ)) (end : Option ConnectionError)
-      → BeginsWithInitial bytes f.first destination f.source token f.body behind → IsRest bytes → IsInitialTaken accepts now f old new learned end → Follows hello old u → Follows hello new u
-  initial_in f old new bytes destination token behind learned end b rest (gone none e) p = subst (λ (z : Handshake). Follows hello z u) (sym e) p
-  initial_in f old new bytes destination token behind learned end b rest (dropped s is none e) p = subst (λ (z : Handshake). Follows hello z u) (sym e) p
-  initial_in f old new bytes destination token behind learned end b rest (ended s mid number frames error is opened h e) p =
-      subst (λ (z : Handshake). Follows hello z u) (sym e) (known_in f old s mid number frames bytes destination token behind (Some error) b rest is opened h p)
-  initial_in f old new bytes destination token behind learned end b rest (handled s mid number frames _ _ is opened h read) p =
-      hello_in hello (knowing old f.source mid) new learned end u read (known_in f old s mid number frames bytes destination token behind None b rest is opened h p)
+  initial_in : (f : Form) (old new : Handshake) (bytes destination behind : List ℕ) (learned : Option (List ℕ)) (end : Option ConnectionError)
+      → BeginsWithInitial bytes f.first destination f.source f.token f.body behind → IsRest bytes → IsInitialTaken accepts now f old new learned end → Follows hello old u → Follows hello new u
+  initial_in f old new bytes destination behind learned end b rest (gone none e) p = subst (λ (z : Handshake). Follows hello z u) (sym e) p
+  initial_in f old new bytes destination behind learned end b rest (dropped s is none e) p = subst (λ (z : Handshake). Follows hello z u) (sym e) p
+  initial_in f old new bytes destination behind learned end b rest (ended s mid number frames error is opened h e) p =
+      subst (λ (z : Handshake). Follows hello z u) (sym e) (known_in f old s mid number frames bytes destination behind (Some error) b rest is opened h p)
+  initial_in f old new bytes destination behind learned end b rest (handled s mid number frames _ _ is opened h read) p =
+      hello_in hello (knowing old f.source mid) new learned end u read (known_in f old s mid number frames bytes destination behind None b rest is opened h p)
 
   packets_in : (bytes left : List ℕ) (old new : Handshake) (learned : Option (List ℕ)) (end : Option ConnectionError) → IsRest bytes → ArePacketsTaken accepts now bytes left old new learned end
       → Follows hello old u → Follows hello new u
   packets_in bytes left old new learned end rest (done _ _ none) p = p
-  packets_in bytes left old new learned end rest (one_more _ destination token behind _ f _ mid _ first others _ b one t) p =
+  packets_in bytes left old new learned end rest (one_more _ destination behind _ f _ mid _ first others _ b one t) p =
       packets_in behind left mid new others end (λ id_length q has. rest id_length q (later b.front behind bytes f.first f.body b.whole b.form has)) t
-      (initial_in f old mid bytes destination token behind first None b rest one p)
-  packets_in bytes left old new learned end rest (ended_by _ destination token behind f _ _ _ error b one) p = initial_in f old new bytes destination token behind learned (Some error) b rest one p
+      (initial_in f old mid bytes destination behind first None b rest one p)
+  packets_in bytes left old new learned end rest (ended_by _ destination behind f _ _ _ error b one) p = initial_in f old new bytes destination behind learned (Some error) b rest one p
 
-  begun_in : (bytes : List ℕ) (old new : Handshake) → IsRest bytes → AreBegun accepts now bytes old new → Follows hello old u → Follows hello new u
-  begun_in bytes old new rest (here_begun _ _) p = p
-  begun_in bytes old new rest (one_begun _ destination token behind f _ mid _ learned b one begun) p =
-      begun_in behind mid new (λ id_length q has. rest id_length q (later b.front behind bytes f.first f.body b.whole b.form has)) begun
-      (initial_in f old mid bytes destination token behind learned None b rest one p)
+  begun_in : (bytes left : List ℕ) (old new : Handshake) (learned : Option (List ℕ)) → IsRest bytes → AreBegun accepts now bytes left old new learned → Follows hello old u → Follows hello new u
+  begun_in bytes left old new learned rest (here_begun _ _) p = p
+  begun_in bytes left old new learned rest (one_begun _ destination behind _ f _ mid _ first others b one begun) p =
+      begun_in behind left mid new others (λ id_length q has. rest id_length q (later b.front behind bytes f.first f.body b.whole b.form has)) begun
+      (initial_in f old mid bytes destination behind first None b rest one p)
 
 -- ---- the datagram
 
@@ -358,10 +374,17 @@ taken_follows accepts now datagram rest hello old new retried learned end t name
     (heard_follows hello old t datagram p)
 
 -- memory is wanting for it, and the space isn't used any more
-pub lost_follows : (accepts : AcceptsTag) (now : Moment) (datagram hello : List ℕ) (old new : Handshake) (t : List Act) → NamesTags accepts → IsLost accepts now datagram old new → Follows hello old t
-    → Follows hello (record new { space = None }) (t ++ HandedIn datagram ∷ [])
-lost_follows accepts now datagram hello old new t names lost p =
+pub lost_follows : (accepts : AcceptsTag) (now : Moment) (datagram hello : List ℕ) (old new : Handshake) (learned : Option (List ℕ)) (t : List Act) → NamesTags accepts
+    → IsLost accepts now datagram old new learned → Follows hello old t → Follows hello (record new { space = None }) (t ++ HandedIn datagram ∷ [])
+lost_follows accepts now datagram hello old new learned t names (retry_lost s source token may is e) p =
     let u = t ++ HandedIn datagram ∷ [] in
-    let before = begun_in hello accepts names now datagram u (in_last_act t datagram) datagram (received (length datagram) old) lost.mid (λ id_length q has. has) lost.begun (heard_follows hello old t datagram p) in
-    subst (λ (z : Handshake). Follows hello (record z { space = None }) u) (sym lost.rest_is)
-    (others_follow hello lost.mid u new.remote_id lost.mid.retry_id lost.mid.token new.knows_peer None (λ s is. absurd (none-some s is)) before)
+    let h = received (length datagram) old in
+    subst (λ (z : Handshake). Follows hello (record z { space = None }) u) (sym e)
+    (others_follow hello h u h.remote_id h.retry_id h.token h.knows_peer None (λ s is. absurd (none-some s is)) (heard_follows hello old t datagram p))
+lost_follows accepts now datagram hello old new learned t names (initials_lost _ no_retry no_mismatch lost) p =
+    let u = t ++ HandedIn datagram ∷ [] in
+    let mid = lost.mid in
+    let before = begun_in hello accepts names now datagram u (in_last_act t datagram) datagram lost.rest (received (length datagram) old) mid learned (λ id_length q has. has) lost.begun
+    (heard_follows hello old t datagram p) in
+    subst (λ (z : Handshake). Follows hello (record z { space = None }) u) (sym lost.left.rest_is)
+    (others_follow hello mid u lost.form.source mid.retry_id mid.token true None (λ s is. absurd (none-some s is)) before)

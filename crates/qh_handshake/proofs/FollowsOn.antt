@@ -2,7 +2,8 @@
 use Rattle.std.proofs.Common.{◌≡◌, ◌⊎◌, ℕ, ◌+◌, ◌<◌, Bool, true, false, List, [], ◌∷◌, ◌++◌, length, Option, Some, None, refl, sym, ap, subst, ◌∙◌, inl, inr, arith}
 use Rattle.std.proofs.lemmas.Option.{none-some, same_Some}
 use Rattle.qh_base.specs.declared.time.Moment.{Moment}
-use Rattle.qh_handshake.specs.Follows.{Follows, HasInitial, IsFresh}
+use Rattle.qh_handshake.specs.Follows.{Follows, HasInitial, IsFresh, IsItsHello}
+use Rattle.qh_handshake.specs.Handshake.{IsHandshake, with_origin}
 use Rattle.qh_handshake.specs.Moments.{AreLostByAge, IsProbed, IsTimedOut}
 use Rattle.qh_handshake.specs.Moments.AreLostByAge.{due as some_lost, not_yet as no_loss}
 use Rattle.qh_handshake.specs.Moments.IsProbed.{due as some_probe, not_yet as no_probe}
@@ -19,11 +20,13 @@ use Rattle.qh_handshake.specs.declared.initial_space.HelloState.{HelloState}
 use Rattle.qh_handshake.specs.declared.initial_space.HelloState.TheVariants.{Held, Waits, Out, Acked}
 use Rattle.qh_handshake.specs.declared.initial_space.InitialSpace.{InitialSpace}
 use Rattle.qh_hello.specs.Crypto.{PlainCrypto, came_at}
+use Rattle.qh_hello.specs.Greetings.{greeting}
 use Rattle.qh_hello.specs.declared.transport_parameters.TransportParameters.{TransportParameters}
 use Rattle.qh_recovery.specs.Accepted.{Remembers}
 use Rattle.qh_recovery.specs.PendingAcks.{PlainPendingAcks}
 use Rattle.qh_recovery.specs.declared.sent_packets.SentPacket.{SentPacket}
 use Rattle.qh_spec.specs.Greeted.{CarriesHello}
+use Rattle.qh_spec.specs.Hello.{hello_bytes, hello_of}
 use Rattle.qh_spec.specs.Link.{other}
 use Rattle.qh_spec.specs.Lists.{In}
 use Rattle.qh_spec.specs.Transcript.{Act, HandedOut, handed_in, handed_out}
@@ -58,6 +61,7 @@ others_follow hello h t remote_id retry_id token knows_peer space of p = record 
   greeted = p.greeted;
   says = p.says;
   answers = p.answers;
+  once = p.once;
   numbers = λ s id_length number is has. (of s is).numbers id_length number has;
   accepted = λ s is. (of s is).accepted;
   received = p.received;
@@ -104,12 +108,49 @@ fresh_follows hello h f =
       greeted = λ p id_length is. absurd (none-some p (sym f.ungreeted ∙ is));
       says = λ id_length from payload has. absurd has.of.among;
       answers = λ before after datagram e. absurd (not_empty before after datagram e);
+      once = λ before after datagram e. absurd (not_empty before after datagram e);
       numbers = λ s id_length number is has. absurd has.among;
       accepted = λ s is. ([], subst (λ (s : InitialSpace). Remembers [] s.dedup) (one s is) f.unused.received, λ number id_length there. absurd there);
       received = f.received;
       sent = f.sent;
       limit = λ e. omega arith;
     }
+
+-- ---- what is set before the first datagram
+
+pub origin_fresh : (hello original : List ℕ) (retry : Option (List ℕ)) (is_validated : Bool) (h : Handshake) → h.side ≡ Server → IsFresh hello h → IsHandshake (with_origin h original retry is_validated)
+    → IsFresh (hello_bytes (hello_of (greeting Server [] (with_origin h original retry is_validated).parameters))) (with_origin h original retry is_validated)
+origin_fresh hello original retry is_validated h server f whole =
+    let p = (with_origin h original retry is_validated).parameters in
+    let own : IsItsHello (hello_bytes (hello_of (greeting Server [] p))) Server p = record { name = []; unnamed = λ e. refl; sayable = (whole.server server).2; is = refl } in
+    record {
+      own = subst (λ (side : Side). IsItsHello (hello_bytes (hello_of (greeting Server [] p))) side p) (sym server) own;
+      space = f.space;
+      space_is = f.space_is;
+      kept = inl server;
+      state = f.state;
+      initial_rtt = f.initial_rtt;
+      now = f.now;
+      unused = f.unused;
+      ungreeted = f.ungreeted;
+      received = f.received;
+      sent = f.sent;
+    }
+
+pub borne_fresh : (hello token : List ℕ) (h : Handshake) → IsFresh hello h → IsFresh hello (record h { token = token })
+borne_fresh hello token h f = record {
+  own = f.own;
+  space = f.space;
+  space_is = f.space_is;
+  kept = f.kept;
+  state = f.state;
+  initial_rtt = f.initial_rtt;
+  now = f.now;
+  unused = f.unused;
+  ungreeted = f.ungreeted;
+  received = f.received;
+  sent = f.sent;
+}
 
 -- ---- the space is discarded
 
@@ -121,6 +162,7 @@ discarded_follows hello h t p = record {
   greeted = p.greeted;
   says = p.says;
   answers = p.answers;
+  once = p.once;
   numbers = λ s id_length number is has. absurd (none-some s is);
   accepted = λ s is. absurd (none-some s is);
   received = p.received;

@@ -15,7 +15,7 @@ use Rattle.qh_frame.specs.Plain.{frame}
 use Rattle.qh_handshake.proofs.FollowsOn.{IsNextSpace, next_space}
 use Rattle.qh_handshake.proofs.FramesMade.{AreFramesOf, frames_made}
 use Rattle.qh_handshake.proofs.OneInitial.{IsThat, is_only}
-use Rattle.qh_handshake.specs.Follows.{Follows, HasInitial, IsGreetedWith, MakesTags, bytes_of}
+use Rattle.qh_handshake.specs.Follows.{Follows, HasInitial, IsGreetedWith, bytes_of}
 use Rattle.qh_handshake.specs.Handshake.{IsHandshake, IsHeld, counted, is_limited}
 use Rattle.qh_handshake.specs.Outgoing.{IsCloseMade, IsDatagramMade, close_frame, datagram_of, least_size, room, with_sent}
 use Rattle.qh_handshake.specs.Written.{CanBeWritten}
@@ -27,6 +27,7 @@ use Rattle.qh_hello.specs.declared.transport_parameters.TransportParameters.{Tra
 use Rattle.qh_packet.specs.Initial.{bare_size, body_length, filled, is_short}
 use Rattle.qh_packet.specs.LongHeader.{long_head}
 use Rattle.qh_packet.specs.Packet.{low_bytes}
+use Rattle.qh_packet.specs.Session.{MakesTags}
 use Rattle.qh_recovery.specs.Accepted.{Remembers}
 use Rattle.qh_spec.proofs.FrameLaws.{quic_frames_agree}
 use Rattle.qh_spec.proofs.Members.{in_split}
@@ -173,6 +174,17 @@ module _ (sealed : Side → Space → ℕ → List ℕ) (old : Handshake) (s : I
       | inr h ↦ p.answers before h.0 d h.1 server id_length from payload has own_length
     ]
 
+    once_it : (before after : List Act) (d : List ℕ) → later ≡ before ++ HandedOut d ∷ after
+        → (first_length id_length m n : ℕ) → HasInitial first_length (handed_out before) old.side m → HasInitial id_length (d ∷ []) old.side n → m < n
+    once_it before after d e first_length id_length m n earlier has = elim (last_or_before t before after (HandedOut datagram) (HandedOut d) e) [
+      | inl h ↦
+          let here = subst (λ (z : List ℕ). HasInitial id_length (z ∷ []) old.side n) (sym (same_datagram datagram d h.1)) has in
+          let less = p.numbers s first_length m one.space_is (subst (λ (z : List Act). HasInitial first_length (handed_out z) old.side m) (sym h.0) earlier) in
+          let that = only id_length here.packet here.datagram here.among here.has in
+          omega (arith, less, that.2, here.number_is)
+      | inr h ↦ p.once before h.0 d h.1 first_length id_length m n earlier has
+    ]
+
     bytes_out : bytes_of (handed_out later) ≡ bytes_of (handed_out t) + length datagram
     bytes_out = ap bytes_of (one_out t datagram) ∙ sum_by_push (λ (d : List ℕ). length d) (handed_out t) datagram
 
@@ -209,6 +221,7 @@ module _ (sealed : Side → Space → ℕ → List ℕ) (old : Handshake) (s : I
           greeted = λ q id_length there. subst (λ (z : List (List ℕ)). IsGreetedWith id_length z (other old.side) q) (sym came) (p.greeted q id_length there);
           says = says_it;
           answers = answers_it;
+          once = once_it;
           numbers = λ x id_length number there has. subst (λ (z : InitialSpace). number < z.next_number) (is x there) (below next number_is id_length number has);
           accepted = λ x there.
               let a = p.accepted s one.space_is in (

@@ -1,11 +1,12 @@
 -- What becomes of the bytes of the peer's hello.
 use Rattle.std.proofs.Common.{◌≡◌, ◌⊎◌, ◌≤◌, ℕ, true, false, List, [], ◌++◌, Option, Some, None, length, refl, sym, ap, ◌∙◌, inl, inr, subst}
 use Rattle.std.specs.Prelude.{is_some}
+use Rattle.qh_base.specs.TransportFault.{IsFault}
 use Rattle.qh_base.specs.declared.connection_error.ConnectionError.{ConnectionError}
 use Rattle.qh_base.specs.declared.connection_error.ConnectionError.TheVariants.{Memory as Wanting, TransportError as Fault}
 use Rattle.qh_base.specs.declared.transport_error.TransportError.{TransportError}
 use Rattle.qh_handshake.specs.Handshake.{ids_used}
-use Rattle.qh_handshake.specs.Incoming.{IsFault, IsHelloRead, IsHelloThere}
+use Rattle.qh_handshake.specs.Incoming.{IsHelloRead, IsHelloThere}
 use Rattle.qh_handshake.specs.Incoming.IsHelloRead.{at_client, at_server, known, refused}
 use Rattle.qh_handshake.specs.Unread.{IsHelloUnread}
 use Rattle.qh_handshake.specs.Unread.IsHelloUnread.{unread}

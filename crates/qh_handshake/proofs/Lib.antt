@@ -9,6 +9,7 @@ pub mod FollowsOut
 pub mod FramesCome
 pub mod FramesHonest
 pub mod FramesMade
+pub mod GoingOn
 pub mod HeldKept
 pub mod HelloHeld
 pub mod HelloRead
@@ -20,6 +21,7 @@ pub mod PacketsTaken
 pub mod PeerDatagrams
 pub mod PeerFrames
 pub mod PeerHellos
+pub mod PeerVersions
 pub mod Retried
 pub mod SendsIn
 pub mod SendsOn

@@ -2,13 +2,14 @@
 use Rattle.std.proofs.Common.{◌≡◌, ◌⊎◌, ℕ, Bool, false, List, [], ◌∷◌, Some, None, refl, inl, inr}
 use Rattle.std.specs.Option.{option_map}
 use Rattle.std.specs.Prelude.{◌||◌, IfErr, OnOk, Result, Ok, Err, is_err}
+use Rattle.qh_base.specs.TransportFault.{IsFault}
 use Rattle.qh_base.specs.declared.connection_error.ConnectionError.{ConnectionError}
 use Rattle.qh_base.specs.declared.connection_error.ConnectionError.TheVariants.{Memory as Wanting, TransportError as Fault}
 use Rattle.qh_base.specs.declared.time.Moment.{Moment}
 use Rattle.qh_base.specs.declared.transport_error.TransportError.{TransportError}
 use Rattle.qh_frame.specs.TypeOf.{named}
 use Rattle.qh_frame.specs.declared.frame.FrameFault.{FrameFault}
-use Rattle.qh_handshake.specs.Incoming.{AreFramesTaken, IsAccepted, IsFault, IsNewTo, IsPacketHandled}
+use Rattle.qh_handshake.specs.Incoming.{AreFramesTaken, IsAccepted, IsNewTo, IsPacketHandled}
 use Rattle.qh_handshake.specs.Incoming.IsPacketHandled.{empty, faulty, taken}
 use Rattle.qh_handshake.specs.Unread.{IsPacketUnread, StopsUnrefused}
 use Rattle.qh_handshake.specs.Unread.IsPacketUnread.{stopped}

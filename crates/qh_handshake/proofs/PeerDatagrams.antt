@@ -1,18 +1,19 @@
--- No datagram of an honest peer is a fault to the other end of its connection (RFC 9000, sections 7.3 and 12.4).
+-- No datagram of an honest peer is a fault, or tells of other versions, to the other end of its connection (RFC 9000, sections 7.3 and 12.4).
 use Rattle.std.proofs.Common.{◌≡◌, ◌⊎◌, ℕ, ◌<◌, List, [], ◌∷◌, ◌++◌, length, Option, Some, refl, sym, ap, subst, ◌∙◌, inl, inr}
 use Rattle.std.proofs.lemmas.Option.{none-some}
 use Rattle.std.specs.Prelude.{slice_get}
 use Rattle.qh_base.specs.declared.connection_error.ConnectionError.{ConnectionError}
-use Rattle.qh_base.specs.declared.connection_error.ConnectionError.TheVariants.{TransportError as Fault}
+use Rattle.qh_base.specs.declared.connection_error.ConnectionError.TheVariants.{TransportError as Fault, VersionMismatch}
 use Rattle.qh_base.specs.declared.time.Moment.{Moment}
 use Rattle.qh_base.specs.declared.transport_error.TransportError.{TransportError}
 use Rattle.qh_buffers.specs.Assembler.{or_byte, to_give}
 use Rattle.qh_handshake.proofs.FollowsIn.{taken_follows}
 use Rattle.qh_handshake.proofs.PeerFrames.{packet_fine}
 use Rattle.qh_handshake.proofs.PeerHellos.{behind_none, front_is, its_form, its_size, never_faulty, same_byte}
-use Rattle.qh_handshake.specs.Follows.{Follows, HasInitial, NamesTags}
+use Rattle.qh_handshake.proofs.PeerVersions.{no_negotiation, tells_versions}
+use Rattle.qh_handshake.specs.Follows.{Follows, HasInitial}
 use Rattle.qh_handshake.specs.Handshake.{ids_at}
-use Rattle.qh_handshake.specs.Incoming.{AcceptsTag, ArePacketsTaken, Form, IsBehind, IsDatagramTaken, IsHelloRead, IsInitialTaken, IsOpenedBy, IsPacketHandled, knowing, received}
+use Rattle.qh_handshake.specs.Incoming.{ArePacketsTaken, Form, IsBehind, IsDatagramTaken, IsHelloRead, IsInitialTaken, IsOpenedBy, IsPacketHandled, knowing, received}
 use Rattle.qh_handshake.specs.Incoming.ArePacketsTaken.{done, more as one_more, ended as ended_by}
 use Rattle.qh_handshake.specs.Incoming.IsDatagramTaken.{retry, mismatch, packets}
 use Rattle.qh_handshake.specs.Incoming.IsHelloRead.{gone as gone_before, known, cut, refused, at_client, at_server}
@@ -22,6 +23,7 @@ use Rattle.qh_handshake.specs.Sends.{IsHonestDatagram}
 use Rattle.qh_handshake.specs.declared.handshake.Handshake.{Handshake}
 use Rattle.qh_handshake.specs.declared.initial_space.InitialSpace.{InitialSpace}
 use Rattle.qh_packet.specs.Initial.{BeginsWithInitial}
+use Rattle.qh_packet.specs.Session.{AcceptsTag, NamesTags}
 use Rattle.qh_spec.proofs.Members.{in_left, in_more}
 use Rattle.qh_spec.proofs.TranscriptLaws.{handed_in-append}
 use Rattle.qh_spec.specs.Datagram.{Packet, HasPacket, IsInitialForm, initial}
@@ -73,10 +75,10 @@ none_begins bytes behind body first destination source token b e = let whole = b
 nothing_ends : (accepts : AcceptsTag) (now : Moment) (bytes rest : List ℕ) (old new : Handshake) (learned : Option (List ℕ)) (end : Option ConnectionError) (e : TransportError)
     → ArePacketsTaken accepts now bytes rest old new learned end → bytes ≡ [] → end ≡ Some (Fault e) → ⊥
 nothing_ends accepts now bytes rest old new learned end e (done _ _ none) empty is = none-some (Fault e) is
-nothing_ends accepts now bytes rest old new learned end e (one_more _ destination token behind _ f _ mid _ first others _ b one t) empty is =
-    none_begins bytes behind f.body f.first destination f.source token b empty
-nothing_ends accepts now bytes rest old new learned end e (ended_by _ destination token behind f _ _ _ error b one) empty is =
-    none_begins bytes behind f.body f.first destination f.source token b empty
+nothing_ends accepts now bytes rest old new learned end e (one_more _ destination behind _ f _ mid _ first others _ b one t) empty is =
+    none_begins bytes behind f.body f.first destination f.source f.token b empty
+nothing_ends accepts now bytes rest old new learned end e (ended_by _ destination behind f _ _ _ error b one) empty is =
+    none_begins bytes behind f.body f.first destination f.source f.token b empty
 
 module _ (accepts : AcceptsTag) (now : Moment) (datagram own_hello peer_hello : List ℕ) (own peer : Handshake) (t u : List Act) (names : NamesTags accepts)
     (p : IsPeer own_hello peer_hello own peer t u) (among : In datagram (handed_out u)) where
@@ -99,12 +101,12 @@ module _ (accepts : AcceptsTag) (now : Moment) (datagram own_hello peer_hello : 
 
   -- ---- its packet
 
-  handled_fine : (f : Form) (old : Handshake) (s mid : InitialSpace) (number : ℕ) (frames destination token behind : List ℕ) (end : Option ConnectionError) (e : TransportError)
-      → BeginsWithInitial datagram f.first destination f.source token f.body behind → old.side ≡ own.side → own.space ≡ Some s → IsOpenedBy accepts old s f number frames
+  handled_fine : (f : Form) (old : Handshake) (s mid : InitialSpace) (number : ℕ) (frames destination behind : List ℕ) (end : Option ConnectionError) (e : TransportError)
+      → BeginsWithInitial datagram f.first destination f.source f.token f.body behind → old.side ≡ own.side → own.space ≡ Some s → IsOpenedBy accepts old s f number frames
       → IsPacketHandled now number frames s mid end → end ≡ Some (Fault e) → ⊥
-  handled_fine f old s mid number frames destination token behind end e b side is opened h fault =
+  handled_fine f old s mid number frames destination behind end e b side is opened h fault =
       let o = opened.opened in
-      let are = honest.some f.first destination f.source token f.body behind o.number_bytes frames o.tag b o.whole o.first_is o.tag_length in
+      let are = honest.some f.first destination f.source f.token f.body behind o.number_bytes frames o.tag b o.whole o.first_is o.tag_length in
       let one : Packet = record { space = Initial; sender = other old.side; number = number; frames = are.0 } in
       let has : HasPacket 0 one datagram = initial b.front behind datagram b.whole (record {
         number_bytes = o.number_bytes;
@@ -113,10 +115,10 @@ module _ (accepts : AcceptsTag) (now : Moment) (datagram own_hello peer_hello : 
         form = subst (λ (n : ℕ). IsInitialForm b.front n (o.number_bytes ++ (frames ++ o.tag))) o.first_is (subst (λ (z : List ℕ). IsInitialForm b.front f.first z) o.whole b.form);
         some_number = o.some_number;
         short_number = o.short_number;
-        content = record { space_is = refl; tagged = names (other old.side) Initial number o.tag o.accepted o.is_number; low = sym o.expanded.candidate.same_low; frames = are.1 };
+        content = record { space_is = refl; tagged = names (other old.side) Initial number o.tag o.is_number o.accepted; low = sym o.expanded.candidate.same_low; frames = are.1 };
       }) in
       let is_honest = honest.packets 0 one has in
-      packet_fine peer_hello (handed_in out.before) peer.side s.next_number (its_size peer_hello peer p.hello_is) (λ n has. used s n is has)
+      packet_fine peer_hello (handed_in out.before) peer.side s.next_number (its_size peer_hello peer.side peer.parameters p.peer_follows.own) (λ n has. used s n is has)
       now number frames s mid end e are.0 refl h fault are.1 is_honest.some is_honest.in_range is_honest.honest
 
   -- ---- the hello
@@ -129,7 +131,7 @@ module _ (accepts : AcceptsTag) (now : Moment) (datagram own_hello peer_hello : 
       subst (λ (z : List ℕ). IsHelloFault (other own.side) (ids_at own.side z remote retried) front kind) original_is first in
       let third : IsHelloFault (other own.side) (ids_at own.side own.original_id remote own.retry_id) front kind =
       subst (λ (z : Option (List ℕ)). IsHelloFault (other own.side) (ids_at own.side own.original_id remote z) front kind) retry_is second in
-      never_faulty own peer peer_hello remote kind p.hello_is p.side_is remote_is p.ids
+      never_faulty own peer peer_hello remote kind p.peer_follows.own p.side_is remote_is p.ids
       (subst (λ (z : List ℕ). IsHelloFault (other own.side) (ids_at own.side own.original_id remote own.retry_id) z kind) front_is_hello third)
 
   came_out : (d : List ℕ) → In d (handed_in (t ++ HandedIn datagram ∷ [])) → In d (handed_out u) ⊎ IsBehind d
@@ -153,32 +155,32 @@ module _ (accepts : AcceptsTag) (now : Moment) (datagram own_hello peer_hello : 
       same_byte peer_hello peer u (handed_in (t ++ HandedIn datagram ∷ [])) k byte p.peer_follows came_out
       (subst (λ (z : Side). CarriesHello 0 (handed_in (t ++ HandedIn datagram ∷ [])) z k byte) sender
       (so.came s k byte 0 is (ap (λ (o : Option ℕ). or_byte o (to_give s.crypto.waiting k)) at))) in
-      let hello : front ≡ peer_hello = front_is peer_hello s.crypto.bytes front rest (its_form peer_hello peer p.hello_is) whole form bytes in
+      let hello : front ≡ peer_hello = front_is peer_hello s.crypto.bytes front rest (its_form peer_hello peer.side peer.parameters p.peer_follows.own) whole form bytes in
       hello_none old.side old.original_id old.remote_id old.retry_id front kind ids.0 ids.1 ids.2 ids.3 hello has
 
   -- ---- the whole datagram
 
-  initial_fine : (f : Form) (old new : Handshake) (destination token behind : List ℕ) (learned : Option (List ℕ)) (end : Option ConnectionError) (e : TransportError) → old ≡ received (length datagram) own
-      → BeginsWithInitial datagram f.first destination f.source token f.body behind → IsInitialTaken accepts now f old new learned end → end ≡ Some (Fault e)
+  initial_fine : (f : Form) (old new : Handshake) (destination behind : List ℕ) (learned : Option (List ℕ)) (end : Option ConnectionError) (e : TransportError) → old ≡ received (length datagram) own
+      → BeginsWithInitial datagram f.first destination f.source f.token f.body behind → IsInitialTaken accepts now f old new learned end → end ≡ Some (Fault e)
       → Follows own_hello new (t ++ HandedIn datagram ∷ []) → ⊥
-  initial_fine f old new destination token behind learned end e same b (gone none _) fault follows = none-some (Fault e) fault
-  initial_fine f old new destination token behind learned end e same b (dropped s is none _) fault follows = none-some (Fault e) fault
-  initial_fine f old new destination token behind learned end e same b (ended s mid number frames error is opened h _) fault follows =
-      handled_fine f old s mid number frames destination token behind (Some error) e b (ap (λ (z : Handshake). z.side) same) (ap (λ (z : Handshake). z.space) (sym same) ∙ is) opened h fault
-  initial_fine f old new destination token behind learned end e same b (handled s mid number frames _ _ is opened h read) fault follows =
-      let source : f.source ≡ peer.parameters.initial_source_connection_id = (honest.from f.first destination f.source token f.body behind b).0 ∙ sym p.peer_whole.source in
+  initial_fine f old new destination behind learned end e same b (gone none _) fault follows = none-some (Fault e) fault
+  initial_fine f old new destination behind learned end e same b (dropped s is none _) fault follows = none-some (Fault e) fault
+  initial_fine f old new destination behind learned end e same b (ended s mid number frames error is opened h _) fault follows =
+      handled_fine f old s mid number frames destination behind (Some error) e b (ap (λ (z : Handshake). z.side) same) (ap (λ (z : Handshake). z.space) (sym same) ∙ is) opened h fault
+  initial_fine f old new destination behind learned end e same b (handled s mid number frames _ _ is opened h read) fault follows =
+      let source : f.source ≡ peer.parameters.initial_source_connection_id = (honest.from f.first destination f.source f.token f.body behind b).0 ∙ sym p.peer_whole.source in
       hello_fine (knowing old f.source mid) new learned end e read fault
       (ap (λ (z : Handshake). z.side) same, ap (λ (z : Handshake). z.original_id) same, ap (λ (z : Handshake). z.retry_id) same, source) follows
 
   packets_fine : (bytes rest : List ℕ) (old new : Handshake) (learned : Option (List ℕ)) (end : Option ConnectionError) (e : TransportError) → bytes ≡ datagram → old ≡ received (length datagram) own
       → ArePacketsTaken accepts now bytes rest old new learned end → end ≡ Some (Fault e) → Follows own_hello new (t ++ HandedIn datagram ∷ []) → ⊥
   packets_fine bytes rest old new learned end e is same (done _ _ none) fault follows = none-some (Fault e) fault
-  packets_fine bytes rest old new learned end e is same (one_more _ destination token behind _ f _ mid _ first others _ b one behind_it) fault follows =
-      let there : BeginsWithInitial datagram f.first destination f.source token f.body behind = subst (λ (z : List ℕ). BeginsWithInitial z f.first destination f.source token f.body behind) is b in
-      nothing_ends accepts now behind rest mid new others end e behind_it (honest.from f.first destination f.source token f.body behind there).1 fault
-  packets_fine bytes rest old new learned end e is same (ended_by _ destination token behind f _ _ _ error b one) fault follows =
-      let there : BeginsWithInitial datagram f.first destination f.source token f.body behind = subst (λ (z : List ℕ). BeginsWithInitial z f.first destination f.source token f.body behind) is b in
-      initial_fine f old new destination token behind learned (Some error) e same there one fault follows
+  packets_fine bytes rest old new learned end e is same (one_more _ destination behind _ f _ mid _ first others _ b one behind_it) fault follows =
+      let there : BeginsWithInitial datagram f.first destination f.source f.token f.body behind = subst (λ (z : List ℕ). BeginsWithInitial z f.first destination f.source f.token f.body behind) is b in
+      nothing_ends accepts now behind rest mid new others end e behind_it (honest.from f.first destination f.source f.token f.body behind there).1 fault
+  packets_fine bytes rest old new learned end e is same (ended_by _ destination behind f _ _ _ error b one) fault follows =
+      let there : BeginsWithInitial datagram f.first destination f.source f.token f.body behind = subst (λ (z : List ℕ). BeginsWithInitial z f.first destination f.source f.token f.body behind) is b in
+      initial_fine f old new destination behind learned (Some error) e same there one fault follows
 
   datagram_fine : (rest : List ℕ) (new : Handshake) (retried learned : Option (List ℕ)) (end : Option ConnectionError) (e : TransportError) → IsDatagramTaken accepts now datagram own new rest retried learned end
       → end ≡ Some (Fault e) → Follows own_hello new (t ++ HandedIn datagram ∷ []) → ⊥
@@ -192,3 +194,10 @@ pub peers_agree : (accepts : AcceptsTag) (now : Moment) (datagram rest own_hello
 peers_agree accepts now datagram rest own_hello peer_hello own new peer retried learned e t u names p among taken =
     datagram_fine accepts now datagram own_hello peer_hello own peer t u names p among rest new retried learned (Some (Fault e)) e taken refl
     (taken_follows accepts now datagram rest own_hello own new retried learned (Some (Fault e)) t names taken p.own_follows)
+
+pub versions_agree : (accepts : AcceptsTag) (now : Moment) (datagram rest own_hello peer_hello : List ℕ) (own new peer : Handshake) (retried learned : Option (List ℕ)) (t u : List Act)
+    → IsPeer own_hello peer_hello own peer t u → In datagram (handed_out u) → IsDatagramTaken accepts now datagram own new rest retried learned (Some VersionMismatch) → ⊥
+versions_agree accepts now datagram rest own_hello peer_hello own new peer retried learned t u p among taken =
+    let out = out_at u datagram among in
+    let is = tells_versions accepts now datagram rest own new retried learned (Some VersionMismatch) taken refl in
+    no_negotiation peer_hello (handed_in out.before) peer datagram is.destination is.source is.listed (p.peer_sends.each out.before out.after datagram out.whole) is.is

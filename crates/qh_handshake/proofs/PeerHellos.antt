@@ -3,15 +3,16 @@ use Rattle.std.proofs.Common.{◌≡◌, ◌⊎◌, ℕ, suc, ◌-◌, ◌≤◌
 use Rattle.std.proofs.lemmas.List.{append-nil, append_assoc}
 use Rattle.std.proofs.lemmas.Option.{none-some, same_Some}
 use Rattle.std.specs.Prelude.{slice_get}
-use Rattle.qh_handshake.specs.Follows.{Follows}
+use Rattle.qh_handshake.specs.Follows.{Follows, IsItsHello}
 use Rattle.qh_handshake.specs.Handshake.{ids_at}
 use Rattle.qh_handshake.specs.Incoming.{IsBehind}
-use Rattle.qh_handshake.specs.Peers.{IsItsHello, KnowsIds}
+use Rattle.qh_handshake.specs.Peers.{KnowsIds}
 use Rattle.qh_handshake.specs.declared.handshake.Handshake.{Handshake}
 use Rattle.qh_hello.proofs.Fronts.{form_of_hello, forms_agree}
 use Rattle.qh_hello.proofs.Sizes.{hello_size}
 use Rattle.qh_hello.specs.Greetings.{greeting}
 use Rattle.qh_hello.specs.Parts.{IsHelloForm}
+use Rattle.qh_hello.specs.declared.transport_parameters.TransportParameters.{TransportParameters}
 use Rattle.qh_spec.proofs.HelloAccepted.{written_acceptable}
 use Rattle.qh_spec.proofs.HelloFaultLaws.{exclusive}
 use Rattle.qh_spec.proofs.HelloLaws.{hello_written}
@@ -84,7 +85,7 @@ ids_by a x b y c z e f g =
     ap (λ (v : Option (List ℕ) × List ℕ × Option (List ℕ)). record { original = v.0; source = v.1; retry = v.2 }) all
 
 -- the ids that its greeting gives are the ones that were used
-ids_same : (side : Side) (own peer : Handshake) (hello source : List ℕ) → (said : IsItsHello hello peer) → peer.side ≡ other side → source ≡ peer.parameters.initial_source_connection_id
+ids_same : (side : Side) (own peer : Handshake) (hello source : List ℕ) → (said : IsItsHello hello peer.side peer.parameters) → peer.side ≡ other side → source ≡ peer.parameters.initial_source_connection_id
     → KnowsIds own peer side → given_ids (greeting peer.side said.name peer.parameters) ≡ ids_at side own.original_id source own.retry_id
 ids_same Client own peer hello source said side_is source_is ids =
     let original : peer.parameters.original_destination_connection_id ≡ Some own.original_id = ids.0 in
@@ -96,7 +97,7 @@ ids_same Server own peer hello source said side_is source_is ids =
     let retry : peer.parameters.retry_source_connection_id ≡ None = none.2 in
     ids_by _ _ _ _ _ _ original (sym source_is) retry
 
-pub never_faulty : (own peer : Handshake) (hello source : List ℕ) (fault : HelloFault) → (said : IsItsHello hello peer) → peer.side ≡ other own.side
+pub never_faulty : (own peer : Handshake) (hello source : List ℕ) (fault : HelloFault) → (said : IsItsHello hello peer.side peer.parameters) → peer.side ≡ other own.side
     → source ≡ peer.parameters.initial_source_connection_id → KnowsIds own peer own.side
     → IsHelloFault (other own.side) (ids_at own.side own.original_id source own.retry_id) hello fault → ⊥
 never_faulty own peer hello source fault said side_is source_is ids is =
@@ -108,10 +109,10 @@ never_faulty own peer hello source fault said side_is source_is ids is =
     subst (λ (z : Side). IsAcceptable z used (hello_bytes (hello_of g)) (hello_of g)) side_is written in
     exclusive (other own.side) used hello (hello_of g) fault (subst (λ (z : List ℕ). IsAcceptable (other own.side) used z (hello_of g)) (sym said.is) at_side) is.has
 
-pub its_form : (hello : List ℕ) (peer : Handshake) → IsItsHello hello peer → IsHelloForm hello
-its_form hello peer said =
-    let g = greeting peer.side said.name peer.parameters in
+pub its_form : (hello : List ℕ) (side : Side) (p : TransportParameters) → IsItsHello hello side p → IsHelloForm hello
+its_form hello side p said =
+    let g = greeting side said.name p in
     subst IsHelloForm (sym said.is) (form_of_hello (hello_bytes (hello_of g)) (hello_of g) (hello_written (hello_of g) (has_spelling g said.sayable)))
 
-pub its_size : (hello : List ℕ) (peer : Handshake) → IsItsHello hello peer → length hello ≤ 512
-its_size hello peer said = subst (λ (z : List ℕ). length z ≤ 512) (sym said.is) (hello_size (greeting peer.side said.name peer.parameters) said.sayable)
+pub its_size : (hello : List ℕ) (side : Side) (p : TransportParameters) → IsItsHello hello side p → length hello ≤ 512
+its_size hello side p said = subst (λ (z : List ℕ). length z ≤ 512) (sym said.is) (hello_size (greeting side said.name p) said.sayable)

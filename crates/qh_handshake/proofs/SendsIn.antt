@@ -8,8 +8,8 @@ use Rattle.qh_base.specs.declared.time.Moment.{Moment}
 use Rattle.qh_buffers.specs.Ranges.{has}
 use Rattle.qh_frame.specs.declared.frame.Frame.{Frame}
 use Rattle.qh_handshake.proofs.SendsOn.{AcksCame, IsSameEnd, loss_acks, same_acks, sends_on}
-use Rattle.qh_handshake.specs.Follows.{HasInitial, NamesTags}
-use Rattle.qh_handshake.specs.Incoming.{AcceptsTag, AreFramesTaken, ArePacketsTaken, Form, IsAccepted, IsDatagramTaken, IsHelloRead, IsInitialTaken, IsOpenedBy, IsPacketHandled, knowing, received, restarted}
+use Rattle.qh_handshake.specs.Follows.{HasInitial}
+use Rattle.qh_handshake.specs.Incoming.{AreFramesTaken, ArePacketsTaken, Form, IsAccepted, IsDatagramTaken, IsHelloRead, IsInitialTaken, IsOpenedBy, IsPacketHandled, knowing, received, restarted}
 use Rattle.qh_handshake.specs.Incoming.AreFramesTaken.{none as none_taken, more as more_taken, closed as closed_taken, refused as refused_taken}
 use Rattle.qh_handshake.specs.Incoming.ArePacketsTaken.{done, more as one_more, ended as ended_by}
 use Rattle.qh_handshake.specs.Incoming.IsDatagramTaken.{retry, mismatch, packets}
@@ -18,12 +18,14 @@ use Rattle.qh_handshake.specs.Incoming.IsInitialTaken.{gone, dropped, ended, han
 use Rattle.qh_handshake.specs.Incoming.IsPacketHandled.{repeated, empty, faulty, taken}
 use Rattle.qh_handshake.specs.Lost.{AreBegun, IsLost}
 use Rattle.qh_handshake.specs.Lost.AreBegun.{here as here_begun, more as one_begun}
+use Rattle.qh_handshake.specs.Lost.IsLost.{initials, retry as retry_lost}
 use Rattle.qh_handshake.specs.Receiving.{IsFrameTaken}
 use Rattle.qh_handshake.specs.Receiving.IsFrameTaken.{padding, ping, ack, crypto, close}
 use Rattle.qh_handshake.specs.Sends.{Sends}
 use Rattle.qh_handshake.specs.declared.handshake.Handshake.{Handshake}
 use Rattle.qh_handshake.specs.declared.initial_space.InitialSpace.{InitialSpace}
 use Rattle.qh_packet.specs.Initial.{BeginsWithInitial}
+use Rattle.qh_packet.specs.Session.{AcceptsTag, NamesTags}
 use Rattle.qh_spec.proofs.Members.{in_left, in_last}
 use Rattle.qh_spec.proofs.PartLaws.{last_or_before}
 use Rattle.qh_spec.proofs.TranscriptLaws.{handed_in-append}
@@ -136,7 +138,7 @@ opened_is accepts h s f number front frames fs names by form are =
       form = subst (λ (n : ℕ). IsInitialForm front n (o.number_bytes ++ (frames ++ o.tag))) o.first_is (subst (λ (z : List ℕ). IsInitialForm front f.first z) o.whole form);
       some_number = o.some_number;
       short_number = o.short_number;
-      content = record { space_is = refl; tagged = names (other h.side) Initial number o.tag o.accepted o.is_number; low = sym o.expanded.candidate.same_low; frames = are };
+      content = record { space_is = refl; tagged = names (other h.side) Initial number o.tag o.is_number o.accepted; low = sym o.expanded.candidate.same_low; frames = are };
     }
 
 module _ (hello : List ℕ) (accepts : AcceptsTag) (names : NamesTags accepts) (now : Moment) (datagram : List ℕ) (u : List Act) (among : In datagram (handed_in u)) where
@@ -144,37 +146,37 @@ module _ (hello : List ℕ) (accepts : AcceptsTag) (names : NamesTags accepts) (
   abbrev IsRest : List ℕ → Type 0
   IsRest bytes = (id_length : ℕ) (p : Packet) → HasPacket id_length p bytes → HasPacket id_length p datagram
 
-  known_in : (f : Form) (old : Handshake) (s mid : InitialSpace) (number : ℕ) (frames bytes destination token behind : List ℕ) (end : Option ConnectionError)
-      → BeginsWithInitial bytes f.first destination f.source token f.body behind → IsRest bytes → old.space ≡ Some s → IsOpenedBy accepts old s f number frames
+  known_in : (f : Form) (old : Handshake) (s mid : InitialSpace) (number : ℕ) (frames bytes destination behind : List ℕ) (end : Option ConnectionError)
+      → BeginsWithInitial bytes f.first destination f.source f.token f.body behind → IsRest bytes → old.space ≡ Some s → IsOpenedBy accepts old s f number frames
       → IsPacketHandled now number frames s mid end → Sends hello old u → Sends hello (knowing old f.source mid) u
-  known_in f old s mid number frames bytes destination token behind end b rest is opened h p =
+  known_in f old s mid number frames bytes destination behind end b rest is opened h p =
       next_sends hello old (knowing old f.source mid) mid u (record { side = refl; id = refl }) refl
       (packet_in old.side u now number frames datagram s mid end h
       (λ fs are id_length. rest id_length _ (initial b.front behind bytes b.whole (opened_is accepts old s f number b.front frames fs names opened b.form are))) among
       (λ k id_length there. p.acked s k id_length is there)) p
 
-  initial_in : (f : Form) (old new : Handshake) (bytes destination token behind : List ℕ) (learned : Option (List ℕ)) (end : Option ConnectionError)
-      → BeginsWithInitial bytes f.first destination f.source token f.body behind → IsRest bytes → IsInitialTaken accepts now f old new learned end → Sends hello old u → Sends hello new u
-  initial_in f old new bytes destination token behind learned end b rest (gone none e) p = subst (λ (z : Handshake). Sends hello z u) (sym e) p
-  initial_in f old new bytes destination token behind learned end b rest (dropped s is none e) p = subst (λ (z : Handshake). Sends hello z u) (sym e) p
-  initial_in f old new bytes destination token behind learned end b rest (ended s mid number frames error is opened h e) p =
-      subst (λ (z : Handshake). Sends hello z u) (sym e) (known_in f old s mid number frames bytes destination token behind (Some error) b rest is opened h p)
-  initial_in f old new bytes destination token behind learned end b rest (handled s mid number frames _ _ is opened h read) p =
-      hello_in hello (knowing old f.source mid) new learned end u read (known_in f old s mid number frames bytes destination token behind None b rest is opened h p)
+  initial_in : (f : Form) (old new : Handshake) (bytes destination behind : List ℕ) (learned : Option (List ℕ)) (end : Option ConnectionError)
+      → BeginsWithInitial bytes f.first destination f.source f.token f.body behind → IsRest bytes → IsInitialTaken accepts now f old new learned end → Sends hello old u → Sends hello new u
+  initial_in f old new bytes destination behind learned end b rest (gone none e) p = subst (λ (z : Handshake). Sends hello z u) (sym e) p
+  initial_in f old new bytes destination behind learned end b rest (dropped s is none e) p = subst (λ (z : Handshake). Sends hello z u) (sym e) p
+  initial_in f old new bytes destination behind learned end b rest (ended s mid number frames error is opened h e) p =
+      subst (λ (z : Handshake). Sends hello z u) (sym e) (known_in f old s mid number frames bytes destination behind (Some error) b rest is opened h p)
+  initial_in f old new bytes destination behind learned end b rest (handled s mid number frames _ _ is opened h read) p =
+      hello_in hello (knowing old f.source mid) new learned end u read (known_in f old s mid number frames bytes destination behind None b rest is opened h p)
 
   packets_in : (bytes left : List ℕ) (old new : Handshake) (learned : Option (List ℕ)) (end : Option ConnectionError) → IsRest bytes → ArePacketsTaken accepts now bytes left old new learned end
       → Sends hello old u → Sends hello new u
   packets_in bytes left old new learned end rest (done _ _ none) p = p
-  packets_in bytes left old new learned end rest (one_more _ destination token behind _ f _ mid _ first others _ b one t) p =
+  packets_in bytes left old new learned end rest (one_more _ destination behind _ f _ mid _ first others _ b one t) p =
       packets_in behind left mid new others end (λ id_length q has. rest id_length q (later b.front behind bytes f.first f.body b.whole b.form has)) t
-      (initial_in f old mid bytes destination token behind first None b rest one p)
-  packets_in bytes left old new learned end rest (ended_by _ destination token behind f _ _ _ error b one) p = initial_in f old new bytes destination token behind learned (Some error) b rest one p
+      (initial_in f old mid bytes destination behind first None b rest one p)
+  packets_in bytes left old new learned end rest (ended_by _ destination behind f _ _ _ error b one) p = initial_in f old new bytes destination behind learned (Some error) b rest one p
 
-  begun_in : (bytes : List ℕ) (old new : Handshake) → IsRest bytes → AreBegun accepts now bytes old new → Sends hello old u → Sends hello new u
-  begun_in bytes old new rest (here_begun _ _) p = p
-  begun_in bytes old new rest (one_begun _ destination token behind f _ mid _ learned b one begun) p =
-      begun_in behind mid new (λ id_length q has. rest id_length q (later b.front behind bytes f.first f.body b.whole b.form has)) begun
-      (initial_in f old mid bytes destination token behind learned None b rest one p)
+  begun_in : (bytes left : List ℕ) (old new : Handshake) (learned : Option (List ℕ)) → IsRest bytes → AreBegun accepts now bytes left old new learned → Sends hello old u → Sends hello new u
+  begun_in bytes left old new learned rest (here_begun _ _) p = p
+  begun_in bytes left old new learned rest (one_begun _ destination behind _ f _ mid _ first others b one begun) p =
+      begun_in behind left mid new others (λ id_length q has. rest id_length q (later b.front behind bytes f.first f.body b.whole b.form has)) begun
+      (initial_in f old mid bytes destination behind first None b rest one p)
 
 -- ---- the datagram
 
@@ -199,11 +201,17 @@ taken_sends accepts now datagram rest hello old new retried learned end t names 
     packets_in hello accepts names now datagram u (in_last_act t datagram) datagram rest
     (received (length datagram) old) new learned end (λ id_length q has. has) taken_all (received_sends hello old t datagram p)
 
--- memory is wanting for it, and the space isn't used any more
-pub lost_sends : (accepts : AcceptsTag) (now : Moment) (datagram hello : List ℕ) (old new : Handshake) (t : List Act) → NamesTags accepts → IsLost accepts now datagram old new → Sends hello old t
-    → Sends hello (record new { space = None }) (t ++ HandedIn datagram ∷ [])
-lost_sends accepts now datagram hello old new t names lost p =
+-- the space isn't used any more
+gone_sends : (hello : List ℕ) (old new : Handshake) (u : List Act) → IsSameEnd old new → Sends hello old u → Sends hello (record new { space = None }) u
+gone_sends hello old new u same p = sends_on hello old (record new { space = None }) u (record { side = same.side; id = same.id }) (λ s is. absurd (none-some s is)) p
+
+-- memory is wanting for it
+pub lost_sends : (accepts : AcceptsTag) (now : Moment) (datagram hello : List ℕ) (old new : Handshake) (learned : Option (List ℕ)) (t : List Act) → NamesTags accepts
+    → IsLost accepts now datagram old new learned → Sends hello old t → Sends hello (record new { space = None }) (t ++ HandedIn datagram ∷ [])
+lost_sends accepts now datagram hello old new learned t names (retry_lost s source token may is e) p =
+    gone_sends hello (received (length datagram) old) new (t ++ HandedIn datagram ∷ []) (record { side = ap (λ (z : Handshake). z.side) e; id = ap (λ (z : Handshake). z.local_id) e }) (received_sends hello old t datagram p)
+lost_sends accepts now datagram hello old new learned t names (initials _ no_retry no_mismatch lost) p =
     let u = t ++ HandedIn datagram ∷ [] in
-    let before = begun_in hello accepts names now datagram u (in_last_act t datagram) datagram (received (length datagram) old) lost.mid (λ id_length q has. has) lost.begun (received_sends hello old t datagram p) in
-    subst (λ (z : Handshake). Sends hello (record z { space = None }) u) (sym lost.rest_is)
-    (sends_on hello lost.mid (record lost.mid { remote_id = new.remote_id; knows_peer = new.knows_peer; space = None }) u (record { side = refl; id = refl }) (λ s is. absurd (none-some s is)) before)
+    let e = lost.left.rest_is in
+    gone_sends hello lost.mid new u (record { side = ap (λ (z : Handshake). z.side) e; id = ap (λ (z : Handshake). z.local_id) e })
+    (begun_in hello accepts names now datagram u (in_last_act t datagram) datagram lost.rest (received (length datagram) old) lost.mid learned (λ id_length q has. has) lost.begun (received_sends hello old t datagram p))

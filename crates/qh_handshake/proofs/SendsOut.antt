@@ -12,7 +12,7 @@ use Rattle.qh_frame.specs.Range.{IsInRange}
 use Rattle.qh_handshake.proofs.FramesHonest.{AreFit, close_fit, frames_fit}
 use Rattle.qh_handshake.proofs.OneInitial.{is_only, is_there}
 use Rattle.qh_handshake.proofs.SendsOn.{AcksCame, honest_later, same_acks}
-use Rattle.qh_handshake.specs.Follows.{Follows, HasInitial, MakesTags}
+use Rattle.qh_handshake.specs.Follows.{Follows, HasInitial}
 use Rattle.qh_handshake.specs.Handshake.{IsHandshake, IsHeld}
 use Rattle.qh_handshake.specs.InitialSpace.{IsInitialSpace}
 use Rattle.qh_handshake.specs.Outgoing.{IsCloseMade, IsDatagramMade, close_frame, datagram_of, least_size, room, with_sent}
@@ -25,6 +25,7 @@ use Rattle.qh_packet.proofs.InitialForms.{written_form}
 use Rattle.qh_packet.specs.Initial.{BeginsWithInitial, bare_size, body_length, filled, is_short}
 use Rattle.qh_packet.specs.LongHeader.{long_head}
 use Rattle.qh_packet.specs.Packet.{low_bytes}
+use Rattle.qh_packet.specs.Session.{MakesTags}
 use Rattle.qh_spec.proofs.Cuts.{halves, inner}
 use Rattle.qh_spec.proofs.FrameLaws.{quic_frames_agree}
 use Rattle.qh_spec.proofs.PacketLaws.{forms_agree}

@@ -1,5 +1,6 @@
--- What a datagram does that comes to a handshake (RFC 9000, sections 6.2, 7, 12.2, 12.4 and 17.2).
+-- What a datagram does that comes to a handshake, whatever its size is (RFC 9000, sections 6.2, 7, 12.2, 12.4 and 17.2).
 use Rattle.std.specs.Prelude.{◌≡◌, ℕ, ◌+◌, ◌≤◌, Bool, true, false, ◌||◌, List, [], ◌∷◌, ◌++◌, length, Option, Some, None}
+use Rattle.qh_base.specs.TransportFault.{IsFault}
 use Rattle.std.specs.Option.{option_map}
 use Rattle.qh_base.specs.declared.connection_error.ConnectionClose.{ConnectionClose}
 use Rattle.qh_base.specs.declared.connection_error.ConnectionError.{ConnectionError}
@@ -23,6 +24,7 @@ use Rattle.qh_packet.specs.Frames.{AreValidFrames, IsFaultyFrame}
 use Rattle.qh_packet.specs.Initial.{BeginsWithInitial}
 use Rattle.qh_packet.specs.Packet.{IsInitialOpened}
 use Rattle.qh_packet.specs.declared.initial.InitialForm.{InitialForm}
+use Rattle.qh_packet.specs.Session.{AcceptsTag, SealsTag}
 use Rattle.qh_packet.specs.Retry.{IsRetryPacket, retry_tag_of}
 use Rattle.qh_packet.specs.Version.{number_of}
 use Rattle.qh_packet.specs.VersionNegotiation.{IsVersionNegotiation, versions_in}
@@ -34,30 +36,25 @@ use Rattle.qh_spec.specs.Hello.{Hello, hello_bytes, hello_of}
 use Rattle.qh_spec.specs.HelloFaults.{HelloFault, IsAcceptable, IsHelloFault}
 use Rattle.qh_spec.specs.Link.{other}
 use Rattle.qh_spec.specs.Lists.{In}
-use Rattle.qh_spec.specs.declared.sides.Side.{Side}
 use Rattle.qh_spec.specs.declared.sides.Side.TheVariants.{Client, Server}
-use Rattle.qh_spec.specs.declared.sides.Space.{Space}
 
--- what a session takes for the tag of a packet
-abbrev pub AcceptsTag : Type 0
-AcceptsTag = Side → Space → ℕ → List ℕ → Bool
+-- what is known of a session: the server name, whether that is known, the id from which its tags are made, which tags it makes and takes
+pub record SessionView (S : Type 0) : Type 0 where
+  pub name : S → List ℕ
+  pub knows : S → Bool
+  pub key : S → List ℕ
+  pub sealed : S → SealsTag
+  pub accepts : S → AcceptsTag
 
 -- A session learned this name, if there is one, and makes and takes the same tags as before; else it is the one that it was.
-abbrev pub Learns : {S : Type 0} → (name : S → List ℕ) → (sealed : S → Side → Space → ℕ → List ℕ) → (accepts : S → AcceptsTag) → (old new : S) → Option (List ℕ) → Type 0
-Learns name sealed accepts old new None = new ≡ old
-Learns name sealed accepts old new (Some learned) = (name new ≡ learned) × (sealed new ≡ sealed old) × (accepts new ≡ accepts old)
+abbrev pub Learns : {S : Type 0} → SessionView S → (old new : S) → (learned : Option (List ℕ)) → Type 0
+Learns v old new None = new ≡ old
+Learns v old new (Some learned) = (v.name new ≡ learned) × (v.knows new ≡ true) × (v.key new ≡ v.key old) × (v.sealed new ≡ v.sealed old) × (v.accepts new ≡ v.accepts old)
 
--- the same behind a datagram; after a Retry packet it makes and takes other tags, of the same name
-abbrev pub IsSessionAfter : {S : Type 0} → (name : S → List ℕ) → (sealed : S → Side → Space → ℕ → List ℕ) → (accepts : S → AcceptsTag) → (old new : S)
-    → (retried learned : Option (List ℕ)) → Type 0
-IsSessionAfter name sealed accepts old new None learned = Learns name sealed accepts old new learned
-IsSessionAfter name sealed accepts old new (Some id) learned = name new ≡ name old
-
--- the error has the code, names the type of the frame if one is known, and has no reason phrase
-pub record IsFault (code : ℕ) (frame : Option ℕ) (e : TransportError) : Type 0 where
-  pub code_is : e.code.0 ≡ code
-  pub frame_is : e.frame ≡ frame
-  pub reason_is : e.reason ≡ []
+-- the same behind a datagram; after a Retry packet its tags are made from this id, and it holds the same name
+abbrev pub IsSessionAfter : {S : Type 0} → SessionView S → (old new : S) → (retried learned : Option (List ℕ)) → Type 0
+IsSessionAfter v old new None learned = Learns v old new learned
+IsSessionAfter v old new (Some id) learned = (v.key new ≡ id) × (v.name new ≡ v.name old) × (v.knows new ≡ v.knows old)
 
 -- ---- a packet (sections 12.3 and 12.4)
 
@@ -145,13 +142,16 @@ pub data IsHelloRead (old new : Handshake) : (learned : Option (List ℕ)) → O
 pub record Form : Type 0 where
   pub first : ℕ
   pub source : List ℕ
+  pub token : List ℕ
   pub body : List ℕ
 
 abbrev pub form_of : InitialForm → Form
-form_of f = record { first = f.first; source = f.source.now; body = f.body.now }
+form_of f = record { first = f.first; source = f.source.now; token = f.token.now; body = f.body.now }
 
--- the packet comes from the peer, as far as that is known, and its tag is accepted
+-- The packet comes from the peer, as far as that is known, and its tag is accepted. One with a token isn't from a server, and a client
+-- discards it (section 17.2.2).
 pub record IsOpenedBy (accepts : AcceptsTag) (h : Handshake) (s : InitialSpace) (f : Form) (number : ℕ) (frames : List ℕ) : Type 0 where
+  pub untokened : h.side ≡ Client → f.token ≡ []
   pub source_is : h.knows_peer ≡ true → f.source ≡ h.remote_id
   pub expected : ℕ
   pub is_expected : IsExpectedOf s expected
@@ -181,7 +181,7 @@ pub record MayRetry (h : Handshake) (s : InitialSpace) : Type 0 where
   pub unknown : h.knows_peer ≡ false
   pub once : h.retry_id ≡ None
 
--- the datagram is a Retry packet for this client (section 17.2.5; the tag is own)
+-- the datagram is a Retry packet for this client (section 17.2.5; own are the tag, the limit of 512 bytes, and that it may come from any id)
 pub record IsRetryFor (h : Handshake) (datagram source token : List ℕ) : Type 0 where
   pub destination : List ℕ
   pub is : IsRetryPacket datagram destination source token (retry_tag_of h.original_id)
@@ -197,7 +197,7 @@ restarted now h s source token = record h {
   space = Some (record s { sent = []; state = Waits; largest_acked = None; is_ping_due = false; pto_count = 0; is_probe_due = false; last_active = now });
 }
 
--- the datagram says that the peer doesn't speak this client's version (section 6.2)
+-- the datagram says that the peer doesn't speak this client's version (section 6.2; own: also behind a Retry packet, and whatever its ids are)
 pub record IsMismatch (h : Handshake) (datagram : List ℕ) : Type 0 where
   pub side : h.side ≡ Client
   pub unknown : h.knows_peer ≡ false
@@ -221,11 +221,11 @@ or_learned first (Some name) = Some name
 -- The Initial packets with which the bytes begin are taken one after another, up to one that ends the connection; this is the rest.
 pub data ArePacketsTaken (accepts : AcceptsTag) (now : Moment) : (bytes rest : List ℕ) (old new : Handshake) (learned : Option (List ℕ)) → Option ConnectionError → Type 0 where
   done : (bytes : List ℕ) (h : Handshake) → IsBehind bytes → ArePacketsTaken accepts now bytes bytes h h None None
-  more : (bytes destination token behind rest : List ℕ) (f : Form) (old mid new : Handshake) (first later : Option (List ℕ)) (end : Option ConnectionError)
-      → BeginsWithInitial bytes f.first destination f.source token f.body behind → IsInitialTaken accepts now f old mid first None
+  more : (bytes destination behind rest : List ℕ) (f : Form) (old mid new : Handshake) (first later : Option (List ℕ)) (end : Option ConnectionError)
+      → BeginsWithInitial bytes f.first destination f.source f.token f.body behind → IsInitialTaken accepts now f old mid first None
       → ArePacketsTaken accepts now behind rest mid new later end → ArePacketsTaken accepts now bytes rest old new (or_learned first later) end
-  ended : (bytes destination token behind : List ℕ) (f : Form) (old new : Handshake) (learned : Option (List ℕ)) (e : ConnectionError)
-      → BeginsWithInitial bytes f.first destination f.source token f.body behind → IsInitialTaken accepts now f old new learned (Some e)
+  ended : (bytes destination behind : List ℕ) (f : Form) (old new : Handshake) (learned : Option (List ℕ)) (e : ConnectionError)
+      → BeginsWithInitial bytes f.first destination f.source f.token f.body behind → IsInitialTaken accepts now f old new learned (Some e)
       → ArePacketsTaken accepts now bytes behind old new learned (Some e)
 
 -- a datagram that came is counted

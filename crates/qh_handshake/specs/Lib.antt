@@ -1,4 +1,5 @@
 pub mod Follows
+pub mod GoesOn
 pub mod Handshake
 pub mod Incoming
 pub mod InitialSpace

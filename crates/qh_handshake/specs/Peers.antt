@@ -5,19 +5,11 @@ use Rattle.qh_handshake.specs.Handshake.{IsHandshake}
 use Rattle.qh_handshake.specs.Incoming.{IsBehind}
 use Rattle.qh_handshake.specs.Sends.{Sends}
 use Rattle.qh_handshake.specs.declared.handshake.Handshake.{Handshake}
-use Rattle.qh_hello.specs.Greetings.{greeting}
-use Rattle.qh_spec.specs.Hello.{IsSayable, hello_bytes, hello_of}
 use Rattle.qh_spec.specs.Link.{other}
 use Rattle.qh_spec.specs.Lists.{In}
 use Rattle.qh_spec.specs.Transcript.{Act, handed_in, handed_out}
 use Rattle.qh_spec.specs.declared.sides.Side.{Side}
 use Rattle.qh_spec.specs.declared.sides.Side.TheVariants.{Client, Server}
-
--- the hello is one that this end may say
-pub record IsItsHello (hello : List ℕ) (h : Handshake) : Type 0 where
-  pub name : List ℕ
-  pub sayable : IsSayable (greeting h.side name h.parameters)
-  pub is : hello ≡ hello_bytes (hello_of (greeting h.side name h.parameters))
 
 -- a server knows by which id the client called it first, and from which it sent a Retry packet, as the client knows them
 abbrev pub AgreeOnIds : (client server : Handshake) → Type 0
@@ -32,7 +24,6 @@ KnowsIds own peer Server = Unit {0}
 pub record IsPeer (own_hello peer_hello : List ℕ) (own peer : Handshake) (t u : List Act) : Type 0 where
   pub side_is : peer.side ≡ other own.side
   pub peer_whole : IsHandshake peer
-  pub hello_is : IsItsHello peer_hello peer
   pub own_follows : Follows own_hello own t
   pub peer_follows : Follows peer_hello peer u
   pub peer_sends : Sends peer_hello peer u

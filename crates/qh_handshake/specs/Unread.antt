@@ -1,11 +1,12 @@
--- What was read of a datagram when memory is wanting: nothing of it is at fault.
-use Rattle.std.specs.Prelude.{◌≡◌, ℕ, Bool, List, ◌++◌, length, Option, Some, None}
+-- What was read of a packet when memory is wanting: its frames can all be read, and none of those that were taken is at fault.
+use Rattle.std.specs.Prelude.{◌≡◌, ℕ, Bool, List, ◌++◌, Some, None}
 use Rattle.qh_base.specs.declared.time.Moment.{Moment}
 use Rattle.qh_frame.specs.FrameAt.{Begins}
 use Rattle.qh_frame.specs.Plain.{plain_of}
 use Rattle.qh_frame.specs.declared.frame.Frame.{Frame}
 use Rattle.qh_handshake.specs.Handshake.{ids_used}
-use Rattle.qh_handshake.specs.Incoming.{AcceptsTag, Form, IsAccepted, IsHelloThere, IsInitialTaken, IsMismatch, IsNewTo, IsOpenedBy, IsPacketHandled, IsRetryFor, MayRetry, knowing, received}
+use Rattle.qh_handshake.specs.Incoming.{Form, IsAccepted, IsHelloThere, IsNewTo, IsOpenedBy, IsPacketHandled, knowing}
+use Rattle.qh_packet.specs.Session.{AcceptsTag}
 use Rattle.qh_handshake.specs.Receiving.{IsFrameTaken, IsRefusedBy, frame_refusal}
 use Rattle.qh_handshake.specs.declared.handshake.Handshake.{Handshake}
 use Rattle.qh_handshake.specs.declared.initial_space.InitialSpace.{InitialSpace}
@@ -15,7 +16,6 @@ use Rattle.qh_hello.specs.Refusals.{IsRefused}
 use Rattle.qh_hello.specs.declared.hello.HelloError.TheVariants as hello_error
 use Rattle.qh_hello.specs.declared.transport_parameters.TransportParameters.{TransportParameters}
 use Rattle.qh_packet.specs.Frames.{AreValidFrames}
-use Rattle.qh_packet.specs.Initial.{BeginsWithInitial}
 use Rattle.qh_spec.specs.Link.{other}
 use Rattle.qh_spec.specs.declared.sides.Side.TheVariants.{Server}
 
@@ -42,16 +42,3 @@ pub data IsInitialUnread (accepts : AcceptsTag) (now : Moment) (f : Form) (h : H
   packet : (s : InitialSpace) (number : ℕ) (frames : List ℕ) → h.space ≡ Some s → IsOpenedBy accepts h s f number frames → IsPacketUnread now number frames s → IsInitialUnread accepts now f h
   hello : (s mid : InitialSpace) (number : ℕ) (frames : List ℕ) → h.space ≡ Some s → IsOpenedBy accepts h s f number frames → IsPacketHandled now number frames s mid None
       → IsHelloUnread (knowing h f.source mid) → IsInitialUnread accepts now f h
-
--- it is so of one of the Initial packets with which the bytes begin, and those before it are taken
-pub data AreInitialsUnread (accepts : AcceptsTag) (now : Moment) : (bytes : List ℕ) → Handshake → Type 0 where
-  here : (bytes destination token behind : List ℕ) (f : Form) (h : Handshake) → BeginsWithInitial bytes f.first destination f.source token f.body behind → IsInitialUnread accepts now f h
-      → AreInitialsUnread accepts now bytes h
-  behind : (bytes destination token rest : List ℕ) (f : Form) (old mid : Handshake) (learned : Option (List ℕ)) → BeginsWithInitial bytes f.first destination f.source token f.body rest
-      → IsInitialTaken accepts now f old mid learned None → AreInitialsUnread accepts now rest mid → AreInitialsUnread accepts now bytes old
-
--- The datagram is a Retry packet that is to be taken, or such Initial packets. One that tells of other versions takes no memory.
-pub data IsDatagramUnread (accepts : AcceptsTag) (now : Moment) (datagram : List ℕ) (h : Handshake) : Type 0 where
-  retry : (s : InitialSpace) (source token : List ℕ) → MayRetry h s → IsRetryFor h datagram source token → IsDatagramUnread accepts now datagram h
-  initials : ((s : InitialSpace) (source token : List ℕ) → MayRetry h s → IsRetryFor h datagram source token → ⊥) → (IsMismatch h datagram → ⊥)
-      → AreInitialsUnread accepts now datagram (received (length datagram) h) → IsDatagramUnread accepts now datagram h

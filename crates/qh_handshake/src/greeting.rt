@@ -1,7 +1,8 @@
 ghost use Rattle.std.specs.Prelude.{◌≡◌, ◌⊎◌, ◌≤◌, ℕ, List, [], length, Option, Some, None, OnOk, OnErr, IfErr, IfOk, IfSome};
+ghost use Rattle.qh_base.specs.TransportFault.{IsFault};
 ghost use Rattle.qh_base.specs.declared.connection_error.ConnectionError.TheVariants.{Memory as Wanting, TransportError as Fault};
 ghost use Rattle.qh_handshake.specs.Handshake.{IsHandshake, ids_used};
-ghost use Rattle.qh_handshake.specs.Incoming.{IsFault, IsHelloRead, IsHelloThere, Learns};
+ghost use Rattle.qh_handshake.specs.Incoming.{IsHelloRead, IsHelloThere, Learns};
 ghost use Rattle.qh_handshake.specs.Unread.{IsHelloUnread};
 ghost use Rattle.qh_base.specs.declared.transport_error.TransportError.{TransportError as ATransportError};
 ghost use Rattle.qh_handshake.specs.declared.initial_space.HelloState.TheVariants.{Waits};
@@ -32,7 +33,7 @@ impl Handshake {
         session: &mut S,
     ) -> Result<(), ConnectionError>
         requires { IsHandshake self.old }
-        ensures ok { OnOk result ((learned : Option (List ℕ)) × IsHelloRead self.old self.new learned None × Learns S.name S.sealed S.accepts session.old session.new learned) }
+        ensures ok { OnOk result ((learned : Option (List ℕ)) × IsHelloRead self.old self.new learned None × Learns (record { name = S.name; knows = S.knows; key = S.key; sealed = S.sealed; accepts = S.accepts }) session.old session.new learned) }
         ensures err { IfErr result (λ e. (session.new ≡ session.old) × ((e ≡ Wanting) ⊎ IsHelloRead self.old self.new None (Some e))) }
         ensures wanting { IfErr result (λ e. e ≡ Wanting → IsHelloUnread self.old) }
         ensures kept { OnErr result (self.new ≡ self.old) }
@@ -73,7 +74,7 @@ impl Handshake {
         let Some(front) = front_hello(space.crypto.bytes()) else {
             return Ok(None);
         };
-        match get_hello(alloc, front, other_side(self.side), &self.ids_used()) {
+        match get_hello(alloc, front, self.side.other(), &self.ids_used()) {
             Ok(hello) => Ok(Some(hello)),
             Err(error) => Err(error_of(error)),
         }
@@ -142,15 +143,5 @@ fn error_of(error: HelloError) -> ConnectionError
             reason: Reason::of(b""),
         }),
         HelloError::Memory => ConnectionError::Memory,
-    }
-}
-
-/// The other side.
-pub(crate) fn other_side(side: Side) -> Side
-    ensures { result ≡ other side }
-{
-    match side {
-        Side::Client => Side::Server,
-        Side::Server => Side::Client,
     }
 }

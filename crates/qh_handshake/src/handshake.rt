@@ -11,7 +11,7 @@ use crate::{HelloState, InitialSpace};
 use bytes::Bytes;
 use qh_base::{ConnectionId, Memory, Moment, Side, Span};
 use qh_hello::{TransportParameters, put_hello};
-use qh_packet::Version;
+use qh_packet::{Session, Version};
 use std::alloc::Global;
 
 /// The handshake of an end of a connection: its Initial packets, both hellos, and the limit on what a server sends before the client's
@@ -50,23 +50,23 @@ pub struct Handshake {
 }
 
 impl Handshake {
-    /// The handshake of a client that asks for this server name, and chose this id for the server. Its hello waits.
-    pub fn client(
+    /// The handshake of a client that asks for the server name of its session, and chose this id for the server. Its hello waits.
+    pub fn client<S: Session>(
         alloc: Global,
-        server_name: &[u8],
+        session: &S,
         parameters: TransportParameters,
         original_id: ConnectionId,
         initial_rtt: Span,
         now: Moment,
     ) -> Result<Handshake, Memory>
-        requires sayable { IsSayable (greeting Client server_name.now parameters) }
+        requires sayable { IsSayable (greeting Client (S.name session.now) parameters) }
         ensures handshake { IfOk result (λ h. IsHandshake h) }
         ensures ids { IfOk result (λ h. (h.side ≡ Client) × (h.local_id ≡ parameters.initial_source_connection_id) × (h.remote_id ≡ original_id) × (h.original_id ≡ original_id) × (h.retry_id ≡ None)) }
         ensures parts { IfOk result (λ h. (h.parameters ≡ parameters) × (h.token ≡ []) × (h.peer ≡ None) × (h.knows_peer ≡ false) × (h.is_validated ≡ true) × (h.bytes_received ≡ 0) × (h.bytes_sent ≡ 0)) }
-        ensures space { IfOk result (λ h. IsSomeAnd h.space (IsUnused (hello_bytes (hello_of (greeting Client server_name.now parameters))) Waits initial_rtt.0 now)) }
+        ensures space { IfOk result (λ h. IsSomeAnd h.space (IsUnused (hello_bytes (hello_of (greeting Client (S.name session.now) parameters))) Waits initial_rtt.0 now)) }
     {
         let mut hello = Vec::new(alloc);
-        put_hello(&mut hello, Side::Client, server_name, &parameters)?;
+        put_hello(&mut hello, Side::Client, session.server_name(), &parameters)?;
         let hello = Bytes::from_vec(hello)?;
         let space = InitialSpace::new(alloc, hello, HelloState::Waits, initial_rtt, now);
         Ok(Handshake {
@@ -137,7 +137,7 @@ impl Handshake {
     )
         requires whole { IsHandshake self.old }
         requires server { self.old.side ≡ Server }
-        requires first { self.old.peer ≡ None }
+        requires first { (self.old.peer ≡ None) × (self.old.bytes_received ≡ 0) × (self.old.bytes_sent ≡ 0) }
         ensures origin { self.new ≡ with_origin self.old original_id retry_id is_validated }
         ensures whole { IsHandshake self.new }
     {
@@ -157,6 +157,7 @@ impl Handshake {
     pub fn bear(&mut self, token: Bytes)
         requires whole { IsHandshake self.old }
         requires client { self.old.side ≡ Client }
+        requires first { (self.old.retry_id ≡ None) × (self.old.bytes_received ≡ 0) × (self.old.bytes_sent ≡ 0) }
         requires short { length token ≤ 512 }
         ensures token { self.new ≡ record self.old { token = token } }
         ensures whole { IsHandshake self.new }

@@ -2,9 +2,11 @@ ghost use Rattle.std.specs.Prelude.{◌≡◌, ◌++◌, ℕ, List, [], ◌∷�
 ghost use Rattle.qh_base.specs.declared.connection_error.ConnectionClose.{ConnectionClose as AClose};
 ghost use Rattle.qh_base.specs.declared.connection_error.ConnectionError.{ConnectionError as AnError};
 ghost use Rattle.qh_base.specs.declared.time.Moment.{Moment as AMoment};
-ghost use Rattle.qh_handshake.specs.Follows.{Follows, IsFresh, MakesTags, NamesTags};
+ghost use Rattle.qh_handshake.specs.Follows.{Follows, IsFresh};
+ghost use Rattle.qh_packet.specs.Session.{MakesTags, NamesTags};
 ghost use Rattle.qh_handshake.specs.Handshake.{IsHandshake};
-ghost use Rattle.qh_handshake.specs.Incoming.{AcceptsTag, IsDatagramTaken};
+ghost use Rattle.qh_handshake.specs.Incoming.{IsDatagramTaken};
+ghost use Rattle.qh_packet.specs.Session.{AcceptsTag};
 ghost use Rattle.qh_handshake.specs.Lost.{IsLost};
 ghost use Rattle.qh_handshake.specs.Moments.{IsTimedOut};
 ghost use Rattle.qh_handshake.specs.Outgoing.{IsCloseMade, IsCloseUnsent, IsDatagramMade, IsUnsent};
@@ -21,16 +23,16 @@ ghost use Rattle.qh_spec.specs.declared.sides.Space.{Space as ASpaceOf};
 pub fn sends()
     ensures fresh { (hello : List ℕ) (h : AHandshake) → IsFresh hello h → Sends hello h [] }
     ensures taken { (accepts : AcceptsTag) (now : AMoment) (datagram rest hello : List ℕ) (old new : AHandshake) (retried learned : Option (List ℕ)) (end : Option AnError) (t : List Act)
-        → NamesTags accepts → IsHandshake old → IsDatagramTaken accepts now datagram old new rest retried learned end → Follows hello old t → Sends hello old t
+        → NamesTags accepts → IsDatagramTaken accepts now datagram old new rest retried learned end → Sends hello old t
         → Sends hello new (t ++ HandedIn datagram ∷ []) }
     ensures made { (sealed : ASide → ASpaceOf → ℕ → List ℕ) (now : AMoment) (before after hello : List ℕ) (old new : AHandshake) (size : ℕ) (t : List Act)
         → MakesTags sealed → IsHandshake old → IsDatagramMade sealed now old new before after size → Follows hello old t → Sends hello old t
         → Sends hello new (t ++ HandedOut (drop (length before) after) ∷ []) }
     ensures closed { (sealed : ASide → ASpaceOf → ℕ → List ℕ) (close : AClose) (before after hello : List ℕ) (old new : AHandshake) (size : ℕ) (t : List Act)
-        → MakesTags sealed → IsHandshake old → IsCloseMade sealed close old new before after size → Follows hello old t → Sends hello old t
+        → MakesTags sealed → IsHandshake old → IsCloseMade sealed close old new before after size → Sends hello old t
         → Sends hello new (t ++ HandedOut (drop (length before) after) ∷ []) }
-    ensures lost { (accepts : AcceptsTag) (now : AMoment) (datagram hello : List ℕ) (old new : AHandshake) (t : List Act)
-        → NamesTags accepts → IsHandshake old → IsLost accepts now datagram old new → Sends hello old t → Sends hello (record new { space = None }) (t ++ HandedIn datagram ∷ []) }
+    ensures lost { (accepts : AcceptsTag) (now : AMoment) (datagram hello : List ℕ) (old new : AHandshake) (learned : Option (List ℕ)) (t : List Act)
+        → NamesTags accepts → IsLost accepts now datagram old new learned → Sends hello old t → Sends hello (record new { space = None }) (t ++ HandedIn datagram ∷ []) }
     ensures unsent { (now : AMoment) (hello : List ℕ) (old new : AHandshake) (t : List Act) → IsUnsent now old new → Sends hello old t → Sends hello new t }
     ensures close_unsent { (hello : List ℕ) (old new : AHandshake) (t : List Act) → IsCloseUnsent old new → Sends hello old t → Sends hello new t }
     ensures timed_out { (now : ℕ) (hello : List ℕ) (old new : AHandshake) (t : List Act) → IsTimedOut now old new → Sends hello old t → Sends hello new t }

@@ -2,24 +2,23 @@ ghost use Rattle.std.specs.Prelude.{◌≡◌, ◌⊎◌, ◌<◌, ◌≤◌, �
 ghost use Rattle.qh_base.specs.declared.connection_error.ConnectionError.TheVariants.{Memory as Wanting};
 ghost use Rattle.qh_handshake.specs.Handshake.{IsHandshake};
 ghost use Rattle.qh_handshake.specs.Incoming.{ArePacketsTaken, IsDatagramTaken, IsInitialTaken, IsOpenedBy, IsPacketHandled, IsSessionAfter, Learns, form_of, knowing};
-ghost use Rattle.qh_handshake.specs.Lost.{AreBegun, IsLeft, IsLost};
-ghost use Rattle.qh_handshake.specs.Unread.{AreInitialsUnread, IsDatagramUnread, IsInitialUnread, IsPacketUnread};
+ghost use Rattle.qh_handshake.specs.Lost.{AreInitialsLost, IsLeft, IsLost};
+ghost use Rattle.qh_handshake.specs.Unread.{IsInitialUnread, IsPacketUnread};
 ghost use Rattle.qh_handshake.specs.declared.handshake.Handshake.{Handshake as AHandshake};
 ghost use Rattle.qh_handshake.specs.declared.initial_space.InitialSpace.{InitialSpace as ASpace};
 
 use crate::Handshake;
-use crate::greeting::other_side;
 use crate::packets::handle_packet;
-use qh_base::{ConnectionError, ConnectionId, Moment};
+use qh_base::{ConnectionError, ConnectionId, Moment, Side};
 use qh_packet::{InitialForm, InitialPacket, Session, open_initial};
 use std::alloc::Global;
 
 impl Handshake {
-    /// Takes the Initial packets with which a datagram begins, a Retry packet, or a packet of version negotiation, and answers what
-    /// stands behind the Initial packets: a 1-RTT packet, if anything. The error is the one that ends the connection. After a fault the
-    /// packets behind the one at fault aren't taken. After want of memory the datagram is counted, and some of its first Initial packets
-    /// may have been taken; of the space, and of the peer's id, nothing more is said, so the space isn't to be used any more: the connection
-    /// fails, and its handshake is used without a space from then on.
+    /// Takes the Initial packets with which a datagram begins, a Retry packet, or a packet of version negotiation, and answers the bytes
+    /// behind the Initial packets, which none begins: they may be a 1-RTT packet. The error is the one that ends the connection. After a
+    /// fault the packets behind the one at fault aren't taken. After want of memory the datagram is counted, and its Initial packets were
+    /// taken up to one for which memory was wanting, or it is a Retry packet and nothing else changed. Of the space nothing more is said
+    /// then, so it isn't to be used any more: the connection fails, and its handshake is used without a space from then on.
     pub fn handle_datagram<'a, S: Session>(
         &mut self,
         alloc: Global,
@@ -29,12 +28,11 @@ impl Handshake {
     ) -> Result<&'a [u8], ConnectionError>
         requires { IsHandshake self.old }
         ensures ok { IfOk result (λ rest. (retried learned : Option (List ℕ)) × IsDatagramTaken (S.accepts session.old) now datagram.now self.old self.new rest.now retried learned None
-            × IsSessionAfter S.name S.sealed S.accepts session.old session.new retried learned) }
+            × IsSessionAfter (record { name = S.name; knows = S.knows; key = S.key; sealed = S.sealed; accepts = S.accepts }) session.old session.new retried learned) }
         ensures err { IfErr result (λ e. (e ≡ Wanting) ⊎ ((rest : List ℕ) × (learned : Option (List ℕ)) × IsDatagramTaken (S.accepts session.old) now datagram.now self.old self.new rest None learned (Some e)
-            × Learns S.name S.sealed S.accepts session.old session.new learned)) }
-        ensures wanting { IfErr result (λ e. e ≡ Wanting → IsDatagramUnread (S.accepts session.old) now datagram.now self.old) }
-        ensures lost { IfErr result (λ e. e ≡ Wanting → IsLost (S.accepts session.old) now datagram.now self.old self.new) }
-        ensures session { IfErr result (λ e. e ≡ Wanting → (learned : Option (List ℕ)) × Learns S.name S.sealed S.accepts session.old session.new learned) }
+            × Learns (record { name = S.name; knows = S.knows; key = S.key; sealed = S.sealed; accepts = S.accepts }) session.old session.new learned)) }
+        ensures wanting { IfErr result (λ e. e ≡ Wanting → (learned : Option (List ℕ)) × IsLost (S.accepts session.old) now datagram.now self.old self.new learned
+            × Learns (record { name = S.name; knows = S.knows; key = S.key; sealed = S.sealed; accepts = S.accepts }) session.old session.new learned) }
         ensures whole { IsHandshake self.new }
     {
         let tried = self.new_try(alloc, datagram);
@@ -64,12 +62,11 @@ impl Handshake {
     ) -> Result<&'a [u8], ConnectionError>
         requires { IsHandshake self.old }
         ensures ok { IfOk result (λ rest. (learned : Option (List ℕ)) × ArePacketsTaken (S.accepts session.old) now bytes.now rest.now self.old self.new learned None
-            × Learns S.name S.sealed S.accepts session.old session.new learned) }
+            × Learns (record { name = S.name; knows = S.knows; key = S.key; sealed = S.sealed; accepts = S.accepts }) session.old session.new learned) }
         ensures err { IfErr result (λ e. (e ≡ Wanting) ⊎ ((rest : List ℕ) × (learned : Option (List ℕ)) × ArePacketsTaken (S.accepts session.old) now bytes.now rest self.old self.new learned (Some e)
-            × Learns S.name S.sealed S.accepts session.old session.new learned)) }
-        ensures wanting { IfErr result (λ e. e ≡ Wanting → AreInitialsUnread (S.accepts session.old) now bytes.now self.old) }
-        ensures lost { OnErr result ((mid : AHandshake) × AreBegun (S.accepts session.old) now bytes.now self.old mid × IsLeft mid self.new) }
-        ensures session { IfErr result (λ e. e ≡ Wanting → (learned : Option (List ℕ)) × Learns S.name S.sealed S.accepts session.old session.new learned) }
+            × Learns (record { name = S.name; knows = S.knows; key = S.key; sealed = S.sealed; accepts = S.accepts }) session.old session.new learned)) }
+        ensures wanting { IfErr result (λ e. e ≡ Wanting → (learned : Option (List ℕ)) × AreInitialsLost (S.accepts session.old) now bytes.now self.old self.new learned
+            × Learns (record { name = S.name; knows = S.knows; key = S.key; sealed = S.sealed; accepts = S.accepts }) session.old session.new learned) }
         ensures whole { IsHandshake self.new }
     {
         let mut rest = bytes;
@@ -91,10 +88,10 @@ impl Handshake {
         requires whole { IsHandshake self.old }
         requires source { length form.now.source.now ≤ 20 }
         ensures ok { OnOk result ((learned : Option (List ℕ)) × IsInitialTaken (S.accepts session.old) now (form_of form.now) self.old self.new learned None
-            × Learns S.name S.sealed S.accepts session.old session.new learned) }
+            × Learns (record { name = S.name; knows = S.knows; key = S.key; sealed = S.sealed; accepts = S.accepts }) session.old session.new learned) }
         ensures err { IfErr result (λ e. (session.new ≡ session.old) × ((e ≡ Wanting) ⊎ IsInitialTaken (S.accepts session.old) now (form_of form.now) self.old self.new None (Some e))) }
         ensures wanting { IfErr result (λ e. e ≡ Wanting → IsInitialUnread (S.accepts session.old) now (form_of form.now) self.old) }
-        ensures lost { OnErr result (IsLeft self.old self.new) }
+        ensures left { IfErr result (λ e. e ≡ Wanting → IsLeft form.now.source.now self.old self.new) }
         ensures whole { IsHandshake self.new }
     {
         let Some(packet) = self.open(session, form) else {
@@ -119,8 +116,11 @@ impl Handshake {
         if self.knows_peer && form.source != self.remote_id.bytes() {
             return None;
         }
+        if self.side == Side::Client && !form.token.is_empty() {
+            return None;
+        }
         let expected = space.dedup.next_expected();
-        open_initial(session, form, other_side(self.side), expected)
+        open_initial(session, form, self.side.other(), expected)
     }
 
     // A packet came from this id whose tag was accepted.
@@ -138,7 +138,7 @@ impl Handshake {
         ensures ok { OnOk result ((s : ASpace) → self.old.space ≡ Some s → (next : ASpace) × IsPacketHandled now number frames.now s next None × (self.new ≡ knowing self.old source next)) }
         ensures err { IfErr result (λ e. (e ≡ Wanting) ⊎ ((s : ASpace) → self.old.space ≡ Some s → (next : ASpace) × IsPacketHandled now number frames.now s next (Some e) × (self.new ≡ knowing self.old source next))) }
         ensures wanting { IfErr result (λ e. e ≡ Wanting → (s : ASpace) → self.old.space ≡ Some s → IsPacketUnread now number frames.now s) }
-        ensures rest { IsLeft self.old self.new }
+        ensures left { (s : ASpace) → self.old.space ≡ Some s → IsLeft source self.old self.new }
         ensures whole { IsHandshake self.new }
     {
         self.remote_id = source;

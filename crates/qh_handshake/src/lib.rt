@@ -7,6 +7,7 @@
 
 mod agreeing;
 mod following;
+mod going;
 mod greeting;
 mod handshake;
 mod honest;
@@ -24,6 +25,7 @@ mod timers;
 
 pub use agreeing::peers;
 pub use following::follows;
+pub use going::goes_on;
 pub use handshake::Handshake;
 pub use honest::sends;
 pub use initial_space::{HelloFrame, HelloState, InitialSpace};

@@ -6,7 +6,7 @@ ghost use Rattle.qh_handshake.specs.Moments.{AreLostByAge, IsDueAt, IsFirstDue, 
 ghost use Rattle.qh_handshake.specs.declared.initial_space.InitialSpace.{InitialSpace as ASpace};
 
 use crate::{Handshake, InitialSpace};
-use qh_base::{Moment, Side};
+use qh_base::{Moment, Side, earlier, is_due};
 
 impl Handshake {
     /// Does what is due by now: what is lost by its age is lost, and a probe is queued (RFC 9002, section 6).
@@ -66,29 +66,5 @@ fn detect_lost(space: &mut InitialSpace, now: Moment)
 {
     if is_due(space.loss_at(), now) {
         space.detect_lost(now);
-    }
-}
-
-// Whether there is a moment, and it has come.
-fn is_due(moment: Option<Moment>, now: Moment) -> bool
-    ensures yes { result ≡ true → (t : AMoment) × (moment ≡ Some t) × (t.0 ≤ now.0) }
-    ensures no { result ≡ false → (t : AMoment) → moment ≡ Some t → now.0 < t.0 }
-{
-    match moment {
-        Some(moment) => moment <= now,
-        None => false,
-    }
-}
-
-// The earlier of two moments that may be there.
-fn earlier(a: Option<Moment>, b: Option<Moment>) -> Option<Moment>
-    ensures none { result ≡ None → (a ≡ None) × (b ≡ None) }
-    ensures one { (t : AMoment) → result ≡ Some t → (a ≡ Some t) ⊎ (b ≡ Some t) }
-    ensures first { (t s : AMoment) → result ≡ Some t → (a ≡ Some s) ⊎ (b ≡ Some s) → t.0 ≤ s.0 }
-{
-    match (a, b) {
-        (Some(a), Some(b)) => Some(a.min(b)),
-        (Some(only), None) | (None, Some(only)) => Some(only),
-        (None, None) => None,
     }
 }

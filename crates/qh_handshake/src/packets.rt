@@ -1,4 +1,5 @@
 ghost use Rattle.std.specs.Prelude.{◌≡◌, ◌⊎◌, ◌<◌, ◌^◌, Some, None, OnOk, IfErr, Bool};
+ghost use Rattle.qh_base.specs.TransportFault.{IsFault};
 ghost use Rattle.std.specs.Option.{option_map};
 ghost use Rattle.qh_base.specs.declared.connection_error.ConnectionError.TheVariants.{Memory as Wanting, TransportError as Fault, ConnectionClosed};
 ghost use Rattle.qh_base.specs.declared.connection_error.ConnectionClose.{ConnectionClose as AClose};
@@ -6,7 +7,7 @@ ghost use Rattle.qh_base.specs.declared.transport_error.TransportError.{Transpor
 ghost use Rattle.qh_frame.specs.TypeOf.{named};
 ghost use Rattle.qh_frame.specs.declared.frame.FrameFault.{FrameFault as AFrameFault};
 ghost use Rattle.qh_handshake.specs.Handshake.{KeepsHello};
-ghost use Rattle.qh_handshake.specs.Incoming.{AreFramesTaken, IsFault, IsPacketHandled};
+ghost use Rattle.qh_handshake.specs.Incoming.{AreFramesTaken, IsPacketHandled};
 ghost use Rattle.qh_handshake.specs.InitialSpace.{IsInitialSpace};
 ghost use Rattle.qh_handshake.specs.Unread.{IsPacketUnread, StopsUnrefused};
 ghost use Rattle.qh_handshake.specs.declared.receiving.SpaceFault.TheVariants.{Transport, Memory as SpaceMemory};
@@ -42,7 +43,7 @@ pub(crate) fn handle_packet(
     }
     let surveyed = match validate_frames(frames) {
         Ok(surveyed) => surveyed,
-        Err(fault) => return Err(ConnectionError::TransportError(error_of(fault))),
+        Err(fault) => return Err(ConnectionError::TransportError(fault.transport_error())),
     };
     if space
         .accept(number, surveyed.is_ack_eliciting, now)
@@ -87,21 +88,5 @@ fn error_by(fault: SpaceFault) -> ConnectionError
     match fault {
         SpaceFault::Transport(error) => ConnectionError::TransportError(error),
         SpaceFault::Memory => ConnectionError::Memory,
-    }
-}
-
-// The error of a packet of which no frame is taken (RFC 9000, sections 12.4 and 20.1).
-fn error_of(fault: PacketFault) -> TransportError
-    ensures empty { fault ≡ packet_fault.Empty → IsFault codes.protocol_violation None result }
-    ensures frame { (f : AFrameFault) → fault ≡ packet_fault.Frame f → IsFault codes.frame_encoding_error (option_map named f.frame) result }
-{
-    let (code, frame) = match fault {
-        PacketFault::Empty => (TransportErrorCode::PROTOCOL_VIOLATION, None),
-        PacketFault::Frame(fault) => (TransportErrorCode::FRAME_ENCODING_ERROR, fault.frame_type()),
-    };
-    TransportError {
-        code,
-        frame,
-        reason: Reason::of(b""),
     }
 }

@@ -1,18 +1,16 @@
 -- The hello that begins some bytes.
 use Rattle.std.proofs.Common.{◌≡◌, ℕ, ◌-◌, List, [], ◌∷◌, ◌++◌, length, take, drop, refl, sym, ap, ◌∙◌, arith, subst, append_assoc, append-nil, length-append}
 use Rattle.std.proofs.lemmas.List.{take_at}
-use Rattle.qh_hello.proofs.Readings.{counted_agree}
+use Rattle.qh_hello.proofs.Readings.{counted_agree, counted_from, counted_whole}
 use Rattle.qh_hello.specs.Parts.{IsCounted, IsHelloForm}
 use Rattle.qh_spec.proofs.Cuts.{halves}
 use Rattle.qh_spec.specs.Hello.{Hello, IsHello, hello_byte}
 
 -- more bytes may follow
 counted_more : (bytes value rest more : List ℕ) → IsCounted bytes value rest → IsCounted (bytes ++ more) value (rest ++ more)
-counted_more bytes value rest more c = record {
-  front = c.front;
-  whole = ap (λ (z : List ℕ). z ++ more) c.whole ∙ append_assoc c.front (value ++ rest) more ∙ ap (λ (z : List ℕ). c.front ++ z) (append_assoc value rest more);
-  is = c.is;
-}
+counted_more bytes value rest more c =
+    counted_from (bytes ++ more) c.1.0 value (rest ++ more)
+    (ap (λ (z : List ℕ). z ++ more) (counted_whole bytes value rest c) ∙ append_assoc c.1.0 (value ++ rest) more ∙ ap (λ (z : List ℕ). c.1.0 ++ z) (append_assoc value rest more)) c.1.2
 
 -- what stands behind the first byte of a hello that begins some bytes
 behind_first : (first : ℕ) (behind front rest : List ℕ) → first ∷ behind ≡ front ++ rest → (f : IsHelloForm front) → behind ≡ f.behind ++ rest
@@ -35,11 +33,11 @@ no_parameters_yet bytes first behind name counted is c never front rest e f =
 pub form_here : (bytes : List ℕ) (first : ℕ) (behind name counted parameters rest : List ℕ) → bytes ≡ first ∷ behind → IsCounted behind name counted → IsCounted counted parameters rest
     → (more : List ℕ) × (bytes ≡ take (length bytes - length rest) bytes ++ more) × IsHelloForm (take (length bytes - length rest) bytes)
 form_here bytes first behind name counted parameters rest is c d =
-    let middle : List ℕ = d.front ++ parameters in
-    let tail : counted ≡ middle ++ rest = d.whole ∙ sym (append_assoc d.front parameters rest) in
-    let inner : List ℕ = c.front ++ (name ++ middle) in
+    let middle : List ℕ = d.1.0 ++ parameters in
+    let tail : counted ≡ middle ++ rest = counted_whole counted parameters rest d ∙ sym (append_assoc d.1.0 parameters rest) in
+    let inner : List ℕ = c.1.0 ++ (name ++ middle) in
     let after : behind ≡ inner ++ rest =
-    c.whole ∙ ap (λ (z : List ℕ). c.front ++ (name ++ z)) tail ∙ ap (λ (z : List ℕ). c.front ++ z) (sym (append_assoc name middle rest)) ∙ sym (append_assoc c.front (name ++ middle) rest) in
+    counted_whole behind name counted c ∙ ap (λ (z : List ℕ). c.1.0 ++ (name ++ z)) tail ∙ ap (λ (z : List ℕ). c.1.0 ++ z) (sym (append_assoc name middle rest)) ∙ sym (append_assoc c.1.0 (name ++ middle) rest) in
     let whole : bytes ≡ (first ∷ inner) ++ rest = is ∙ ap (λ (z : List ℕ). first ∷ z) after in
     let total = ap length whole in
     let parts = length-append (first ∷ inner) rest in
@@ -52,8 +50,8 @@ form_here bytes first behind name counted parameters rest is c d =
       counted = middle;
       parameter_bytes = parameters;
       whole = refl;
-      name_is = record { front = c.front; whole = refl; is = c.is };
-      parameters_are = record { front = d.front; whole = ap (λ (z : List ℕ). d.front ++ z) (sym (append-nil parameters)); is = d.is };
+      name_is = counted_from inner c.1.0 name middle refl c.1.2;
+      parameters_are = counted_from middle d.1.0 parameters [] (ap (λ (z : List ℕ). d.1.0 ++ z) (sym (append-nil parameters))) d.1.2;
     } in
     (rest, whole ∙ ap (λ (z : List ℕ). z ++ rest) (sym front), subst IsHelloForm (sym front) form)
 
@@ -67,8 +65,8 @@ form_of_hello bytes h i = record {
   counted = i.parameters_length ++ i.parameter_bytes;
   parameter_bytes = i.parameter_bytes;
   whole = i.whole;
-  name_is = record { front = i.name_length; whole = refl; is = i.name_is };
-  parameters_are = record { front = i.parameters_length; whole = ap (λ (z : List ℕ). i.parameters_length ++ z) (sym (append-nil i.parameter_bytes)); is = i.length_is };
+  name_is = counted_from _ i.name_length h.server_name (i.parameters_length ++ i.parameter_bytes) refl i.name_is;
+  parameters_are = counted_from _ i.parameters_length i.parameter_bytes [] (ap (λ (z : List ℕ). i.parameters_length ++ z) (sym (append-nil i.parameter_bytes))) i.length_is;
 }
 
 pub forms_agree : (a b x y : List ℕ) → IsHelloForm a → IsHelloForm b → a ++ x ≡ b ++ y → (a ≡ b) × (x ≡ y)

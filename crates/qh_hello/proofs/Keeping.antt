@@ -3,7 +3,7 @@ use Rattle.std.proofs.Common.{◌≡◌, ℕ, ◌<◌, ◌≤◌, ◌^◌, List,
 use Rattle.std.specs.Prelude.{MatchOption, IfNone}
 use Rattle.std.specs.List.{AllByRecursion}
 use Rattle.std.proofs.lemmas.List.{take-append-drop, length-take-le}
-use Rattle.qh_hello.proofs.Readings.{no_number}
+use Rattle.qh_base.proofs.CountedBytes.{no_number}
 use Rattle.qh_hello.specs.Numbers.{SaysNumbers}
 use Rattle.qh_hello.specs.Parts.{IsSplit, HasDistinctFront}
 use Rattle.qh_hello.specs.Refusals.{KeepsLater, BreaksLater, IsRefused}

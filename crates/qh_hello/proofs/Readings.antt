@@ -1,7 +1,5 @@
 -- The parts of a hello are read from the front.
-use Rattle.std.proofs.Common.{◌≡◌, ℕ, ◌<◌, ◌≤◌, List, [], ◌∷◌, ◌++◌, length, get_or, take, drop, refl, sym, ap, ◌∙◌, arith, subst, append-nil, length-append}
-use Rattle.std.specs.Prelude.{Option, Some, None, IfNone}
-use Rattle.std.proofs.lemmas.List.{take-append-drop, take_at, length-take-le}
+use Rattle.std.proofs.Common.{◌≡◌, ℕ, ◌<◌, List, [], ◌∷◌, ◌++◌, length, get_or, drop, refl, sym, ap, ◌∙◌, arith, subst, append-nil, length-append}
 use Rattle.qh_hello.specs.Parts.{IsCounted, IsSplit}
 use Rattle.qh_spec.proofs.Cuts.{halves, varints_agree}
 use Rattle.qh_spec.proofs.HelloDecided.{no_hello_here}
@@ -11,41 +9,17 @@ use Rattle.qh_spec.specs.QuicFrames.{IsNumber}
 use Rattle.qh_spec.specs.Varint.{IsVarint}
 use Rattle.qh_spec.specs.declared.sides.Side.{Side}
 
-pub at_none : {A : Type 0} {P : Type 0} (o : Option A) → P → IfNone o P
-at_none None p = p
-at_none (Some x) p = tt
+-- ---- bytes behind their length
 
--- ---- numbers, and bytes behind their length
+pub counted_from : (bytes front value rest : List ℕ) → bytes ≡ front ++ (value ++ rest) → IsVarint front (length value) → IsCounted bytes value rest
+counted_from bytes front value rest whole is = (value ++ rest, (front, whole, is), refl)
 
-pub number_here : (bytes : List ℕ) (n size : ℕ) → IsVarint (take size bytes) n → IsNumber bytes n (drop size bytes)
-number_here bytes n size is = (take size bytes, sym (take-append-drop size bytes), is)
-
-pub no_number : (bytes : List ℕ) → ((n k : ℕ) → IsVarint (take k bytes) n → ⊥) → (n : ℕ) (rest : List ℕ) → IsNumber bytes n rest → ⊥
-no_number bytes never n rest i =
-    let front : take (length i.0) bytes ≡ i.0 = ap (take (length i.0)) i.1 ∙ take_at i.0 rest (length i.0) refl in
-    never n (length i.0) (subst (λ (z : List ℕ). IsVarint z n) (sym front) i.2)
-
-pub counted_here : (bytes rest : List ℕ) (n : ℕ) → IsNumber bytes n rest → n ≤ length rest → IsCounted bytes (take n rest) (drop n rest)
-counted_here bytes rest n i fits = record {
-  front = i.0;
-  whole = i.1 ∙ ap (λ (z : List ℕ). i.0 ++ z) (sym (take-append-drop n rest));
-  is = subst (λ (m : ℕ). IsVarint i.0 m) (sym (length-take-le n rest fits)) i.2;
-}
-
-pub no_length : (bytes : List ℕ) → ((n : ℕ) (rest : List ℕ) → IsNumber bytes n rest → ⊥) → (value rest : List ℕ) → IsCounted bytes value rest → ⊥
-no_length bytes never value rest c = never (length value) (value ++ rest) (c.front, c.whole, c.is)
-
-pub too_few : (bytes rest : List ℕ) (n : ℕ) → IsNumber bytes n rest → length rest < n → (value more : List ℕ) → IsCounted bytes value more → ⊥
-too_few bytes rest n i few value more c =
-    let r = varints_agree c.front (value ++ more) i.0 rest (length value) n c.is i.2 (sym c.whole ∙ i.1) in
-    let same = r.0 in
-    let total = ap length r.1 in
-    let parts = length-append value more in
-    omega (arith, same, total, parts, few)
+pub counted_whole : (bytes value rest : List ℕ) → (c : IsCounted bytes value rest) → bytes ≡ c.1.0 ++ (value ++ rest)
+counted_whole bytes value rest c = c.1.1 ∙ ap (λ (z : List ℕ). c.1.0 ++ z) c.2
 
 pub counted_agree : (bytes v x w y : List ℕ) → IsCounted bytes v x → IsCounted bytes w y → (v ≡ w) × (x ≡ y)
 counted_agree bytes v x w y c d =
-    let r = varints_agree c.front (v ++ x) d.front (w ++ y) (length v) (length w) c.is d.is (sym c.whole ∙ d.whole) in
+    let r = varints_agree c.1.0 (v ++ x) d.1.0 (w ++ y) (length v) (length w) c.1.2 d.1.2 (sym (counted_whole bytes v x c) ∙ counted_whole bytes w y d) in
     halves v x w y r.0 r.1
 
 -- ---- parameters
@@ -53,10 +27,10 @@ counted_agree bytes v x w y c d =
 pub parameter_here : (bytes mid value rest : List ℕ) (id : ℕ) → IsNumber bytes id mid → IsCounted mid value rest → IsParameter bytes (record { id = id; value = value }) rest
 parameter_here bytes mid value rest id i c = record {
   id_bytes = i.0;
-  length_bytes = c.front;
-  whole = i.1 ∙ ap (λ (z : List ℕ). i.0 ++ z) c.whole;
+  length_bytes = c.1.0;
+  whole = i.1 ∙ ap (λ (z : List ℕ). i.0 ++ z) (counted_whole mid value rest c);
   id_is = i.2;
-  length_is = c.is;
+  length_is = c.1.2;
 }
 
 some_byte : (bytes : List ℕ) (n : ℕ) → IsVarint bytes n → 0 < length bytes
@@ -67,8 +41,8 @@ pub parameter_shorter : (bytes mid value rest : List ℕ) (id : ℕ) → IsNumbe
 parameter_shorter bytes mid value rest id i c =
     let a = ap length i.1 in
     let b = length-append i.0 mid in
-    let d = ap length c.whole in
-    let e = length-append c.front (value ++ rest) in
+    let d = ap length (counted_whole mid value rest c) in
+    let e = length-append c.1.0 (value ++ rest) in
     let f = length-append value rest in
     let some = some_byte i.0 id i.2 in
     omega (arith, a, b, d, e, f, some)
@@ -79,7 +53,7 @@ no_id bytes never p rest i = never p.id (i.length_bytes ++ (p.value ++ rest)) (i
 pub no_value : (bytes mid : List ℕ) (id : ℕ) → IsNumber bytes id mid → ((value rest : List ℕ) → IsCounted mid value rest → ⊥) → (p : Parameter) (rest : List ℕ) → IsParameter bytes p rest → ⊥
 no_value bytes mid id i never p rest j =
     let r = varints_agree i.0 mid j.id_bytes (j.length_bytes ++ (p.value ++ rest)) id p.id i.2 j.id_is (sym i.1 ∙ j.whole) in
-    never p.value rest (record { front = j.length_bytes; whole = r.1; is = j.length_is })
+    never p.value rest (counted_from mid j.length_bytes p.value rest r.1 j.length_is)
 
 -- ---- a hello
 
@@ -100,26 +74,26 @@ parts_there first rest sender h a =
       first_is = same ∙ ap hello_byte a.1;
       parameters_length = i.parameters_length;
       parameter_bytes = i.parameter_bytes;
-      name = record { front = i.name_length; whole = ap (λ (z : List ℕ). drop 1 z) i.whole; is = i.name_is };
-      counted = record { front = i.parameters_length; whole = ap (λ (z : List ℕ). i.parameters_length ++ z) (sym (append-nil i.parameter_bytes)); is = i.length_is };
+      name = counted_from rest i.name_length h.server_name (i.parameters_length ++ i.parameter_bytes) (ap (λ (z : List ℕ). drop 1 z) i.whole) i.name_is;
+      counted = counted_from (i.parameters_length ++ i.parameter_bytes) i.parameters_length i.parameter_bytes [] (ap (λ (z : List ℕ). i.parameters_length ++ z) (sym (append-nil i.parameter_bytes))) i.length_is;
       parameters = i.parameters;
     }
 
 pub split_here : (sender : Side) (bytes rest name mid values : List ℕ) (ps : List Parameter) → bytes ≡ hello_byte sender ∷ rest → IsCounted rest name mid → IsCounted mid values [] → AreParameters values ps
     → (h : Hello) × IsSplit sender bytes name values h
 split_here sender bytes rest name mid values ps whole c d are =
-    let tail : mid ≡ d.front ++ values = d.whole ∙ ap (λ (z : List ℕ). d.front ++ z) (append-nil values) in
-    let behind : rest ≡ c.front ++ (name ++ (d.front ++ values)) = c.whole ∙ ap (λ (z : List ℕ). c.front ++ (name ++ z)) tail in (
+    let tail : mid ≡ d.1.0 ++ values = counted_whole mid values [] d ∙ ap (λ (z : List ℕ). d.1.0 ++ z) (append-nil values) in
+    let behind : rest ≡ c.1.0 ++ (name ++ (d.1.0 ++ values)) = counted_whole rest name mid c ∙ ap (λ (z : List ℕ). c.1.0 ++ (name ++ z)) tail in (
       record { sender = sender; server_name = name; parameters = ps },
       record {
         is = (
           record {
-            name_length = c.front;
-            parameters_length = d.front;
+            name_length = c.1.0;
+            parameters_length = d.1.0;
             parameter_bytes = values;
             whole = whole ∙ ap (λ (z : List ℕ). hello_byte sender ∷ z) behind;
-            name_is = c.is;
-            length_is = d.is;
+            name_is = c.1.2;
+            length_is = d.1.2;
             parameters = are;
           },
           refl,

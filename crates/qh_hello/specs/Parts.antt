@@ -1,15 +1,13 @@
 -- The parts of a hello, as they are read.
-use Rattle.std.specs.Prelude.{◌≡◌, ℕ, List, [], ◌∷◌, ◌++◌, length, map}
+use Rattle.std.specs.Prelude.{◌≡◌, ℕ, List, [], ◌∷◌, ◌++◌, map}
 use Rattle.qh_spec.specs.Hello.{Parameter, AreParameters, Hello, IsHelloOf}
 use Rattle.qh_spec.specs.Lists.{Distinct}
-use Rattle.qh_spec.specs.Varint.{IsVarint}
+use Rattle.qh_spec.specs.QuicFrames.{Counted, Text, IsValue}
 use Rattle.qh_spec.specs.declared.sides.Side.{Side}
 
 -- the bytes begin with the length of the value, in any form, and the value, and go on with the rest
-pub record IsCounted (bytes value rest : List ℕ) : Type 0 where
-  pub front : List ℕ
-  pub whole : bytes ≡ front ++ (value ++ rest)
-  pub is : IsVarint front (length value)
+abbrev pub IsCounted : (bytes value rest : List ℕ) → Type 0
+IsCounted bytes value rest = IsValue Counted bytes (Text value) rest
 
 -- the bytes are this side's hello, with this name and these bytes of its parameters
 pub record IsSplit (sender : Side) (bytes name parameter_bytes : List ℕ) (h : Hello) : Type 0 where

@@ -1,7 +1,7 @@
 ghost use Rattle.std.specs.Prelude.{◌≡◌, ◌++◌, ℕ, List, IfSome, IfNone};
 ghost use Rattle.qh_hello.specs.Parts.{IsHelloForm};
 
-use crate::reading::counted_of;
+use qh_base::get_counted;
 
 /// The prefix that has the form of a hello by its lengths, whatever it says. None exactly if some bytes of it are still to come. The
 /// lengths are variable-length integers (RFC 9000, section 16), and they alone tell where it ends: CRYPTO frames have no mark of an
@@ -11,7 +11,7 @@ pub fn front_hello(bytes: &[u8]) -> Option<&[u8]>
     ensures none { IfNone result ((front rest : List ℕ) → bytes.now ≡ front ++ rest → IsHelloForm front → ⊥) }
 {
     let (_first, behind) = bytes.split_first()?;
-    let (_name, counted) = counted_of(behind)?;
-    let (_parameters, rest) = counted_of(counted)?;
+    let (_name, counted) = get_counted(behind)?;
+    let (_parameters, rest) = get_counted(counted)?;
     Some(&bytes[..bytes.len() - rest.len()])
 }

@@ -2,9 +2,8 @@ ghost use Rattle.std.specs.Prelude.{◌≡◌, IfSome, IfNone};
 ghost use Rattle.qh_hello.specs.Parts.{IsSplit};
 ghost use Rattle.qh_spec.specs.Hello.{Hello, IsHelloOf, hello_byte};
 
-use crate::reading::counted_of;
 use crate::walk::are_parameters;
-use qh_base::Side;
+use qh_base::{Side, get_counted};
 
 /// The server name of the hello of `sender`, and the bytes of its parameters. None exactly if the bytes are no hello of `sender`.
 pub(crate) fn split_hello(bytes: &[u8], sender: Side) -> Option<(&[u8], &[u8])>
@@ -15,8 +14,8 @@ pub(crate) fn split_hello(bytes: &[u8], sender: Side) -> Option<(&[u8], &[u8])>
     if *first != hello_byte(sender) {
         return None;
     }
-    let (server_name, rest) = counted_of(rest)?;
-    let (parameters, rest) = counted_of(rest)?;
+    let (server_name, rest) = get_counted(rest)?;
+    let (parameters, rest) = get_counted(rest)?;
     if !rest.is_empty() {
         return None;
     }

@@ -51,7 +51,8 @@ use Rattle.qh_owing.proofs.NumbersKept.{aged_same, frames_same, made_same, probe
 use Rattle.qh_owing.specs.Ledger.{AreNoted, AreSent, HasLedger, IsLedger, IsSentIn, KeepsLedger, packet_of, runs_accepted}
 use Rattle.qh_owing.specs.Ledger.AreNoted.{none as none_noted, more as more_noted}
 use Rattle.qh_owing.specs.Ledger.AreSent.{none as none_sent, more as more_sent}
-use Rattle.qh_owing.specs.Owing.{AcceptsTag, AreAccepted, numbers_of}
+use Rattle.qh_owing.specs.Owing.{AreAccepted, numbers_of}
+use Rattle.qh_packet.specs.Session.{AcceptsTag}
 use Rattle.qh_owing.specs.Owing.AreAccepted.{none as none_accepted, dropped as brings_none, repeated as brings_old, taken as brings_one}
 use Rattle.qh_recovery.specs.Accepted.{Remembers}
 use Rattle.qh_recovery.specs.PendingAcks.{PlainPendingAcks}

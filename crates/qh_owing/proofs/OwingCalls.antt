@@ -37,7 +37,8 @@ use Rattle.qh_streams.specs.Tracked.IsSendingStep.{takes, finishes, resets, prio
 use Rattle.qh_owing.proofs.KeptStreams.{finish, kept, prioritized, reads_nothing, reset_by, restated, wrote}
 use Rattle.qh_owing.proofs.OwingConnections.{none_come, nothing_more, on, same, without_more}
 use Rattle.qh_owing.proofs.OwingDatagrams.{carried_more, kept_more, out_before}
-use Rattle.qh_owing.specs.Owing.{AcceptsTag, AreKept, IsByteAcknowledged, IsEndAcknowledged, Owes}
+use Rattle.qh_owing.specs.Owing.{AreKept, IsByteAcknowledged, IsEndAcknowledged, Owes}
+use Rattle.qh_packet.specs.Session.{AcceptsTag}
 use Rattle.qh_spec.specs.StreamId.{stream_id}
 use Rattle.qh_spec.specs.Transcript.{Act, Finished, ReadReset, Reset, Stopped, Wrote, handed_in, handed_out, was_reset, written}
 use Rattle.qh_spec.specs.declared.sides.Dir.{Dir}

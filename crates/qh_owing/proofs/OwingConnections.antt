@@ -31,7 +31,8 @@ use Rattle.qh_owing.proofs.NumbersKept.{HasSameNumbers, aged_same, frames_same, 
 use Rattle.qh_owing.proofs.OwingAcks.{aged_owing, frames_owing, probed_owing}
 use Rattle.qh_owing.proofs.OwingDatagrams.{come_more, in_before, out_before, owing_more}
 use Rattle.qh_owing.proofs.OwingPackets.{bare_owing, low_value, made_owing}
-use Rattle.qh_owing.specs.Owing.{AcceptsTag, AreAccepted, IsOwing, MakesTags, NamesTags, Owes, Owing, WasAccepted, numbers_of}
+use Rattle.qh_owing.specs.Owing.{AreAccepted, IsOwing, Owes, Owing, WasAccepted, numbers_of}
+use Rattle.qh_packet.specs.Session.{AcceptsTag, MakesTags, NamesTags}
 use Rattle.qh_owing.specs.Owing.AreAccepted.{dropped as brings_none, repeated as brings_old, taken as brings_one}
 use Rattle.qh_packet.proofs.Packets.{has_packet}
 use Rattle.qh_packet.specs.Packet.{header_bytes, low_bytes, short_of}

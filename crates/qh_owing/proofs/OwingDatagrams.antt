@@ -1,7 +1,8 @@
 -- What more datagrams, more accepted packets and more acts leave of what is owed.
 use Rattle.std.proofs.Common.{ℕ, ◌≤◌, List, ◌++◌, length, sym, ap, subst, arith}
 use Rattle.qh_owing.proofs.KeptStreams.{Reads, restated}
-use Rattle.qh_owing.specs.Owing.{AcceptsTag, AreKept, AreOutCarried, IsByteAcknowledged, IsEndAcknowledged, IsFrameCarried, IsOwing, IsPieceCarried, WasAccepted}
+use Rattle.qh_owing.specs.Owing.{AreKept, AreOutCarried, IsByteAcknowledged, IsEndAcknowledged, IsFrameCarried, IsOwing, IsPieceCarried, WasAccepted}
+use Rattle.qh_packet.specs.Session.{AcceptsTag}
 use Rattle.qh_recovery.specs.declared.sent_packets.SentPacket.{SentPacket}
 use Rattle.qh_space.specs.declared.data_space.DataSpace.{DataSpace}
 use Rattle.qh_spec.proofs.Members.{in_left}

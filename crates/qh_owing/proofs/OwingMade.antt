@@ -10,7 +10,8 @@ use Rattle.qh_core.specs.declared.inner.Inner.{Inner}
 use Rattle.qh_halves.specs.Counts.{other_side}
 use Rattle.qh_owing.proofs.OwingCalls.{accept_owes, concurrent_owes, endpoint_owes, finish_owes, kept_call, open_owes, poll_owes, priority_owes, read_owes, receive_window_owes, received_reset_owes, refused, reset_owes, send_window_owes, stop_owes, wrote_call}
 use Rattle.qh_owing.proofs.OwingConnections.{close_owes, datagram_made, event_failed, event_taken, failed, nothing_more, nothing_sent, timed_out}
-use Rattle.qh_owing.specs.Owing.{AcceptsTag, MakesTags, NamesTags, Owes}
+use Rattle.qh_owing.specs.Owing.{Owes}
+use Rattle.qh_packet.specs.Session.{AcceptsTag, MakesTags, NamesTags}
 use Rattle.qh_spec.specs.StreamId.{stream_id}
 use Rattle.qh_spec.specs.Transcript.{Act}
 use Rattle.qh_streams.specs.Streams.{counts_of, is_two_way}

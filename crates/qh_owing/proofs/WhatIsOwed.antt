@@ -12,7 +12,8 @@ use Rattle.qh_half.specs.declared.send.SendState.{SendState}
 use Rattle.qh_half.specs.declared.send.SendState.TheVariants.{Ready, DataSent, ResetSent}
 use Rattle.qh_halves.specs.SendHalves.{half_in, send_at}
 use Rattle.qh_owing.proofs.NumbersKept.{none_accepted}
-use Rattle.qh_owing.specs.Owing.{AcceptsTag, AreInPackets, AreOutCarried, IsByteOut, IsEndOut, IsFrameCarried, IsInPacket, IsByteKept, IsByteToCome, IsConfirmed, IsEndKept, IsEndToCome, KeepsStream, KeepsWhatIsOwed, Owes}
+use Rattle.qh_owing.specs.Owing.{AreInPackets, AreOutCarried, IsByteOut, IsEndOut, IsFrameCarried, IsInPacket, IsByteKept, IsByteToCome, IsConfirmed, IsEndKept, IsEndToCome, KeepsStream, KeepsWhatIsOwed, Owes}
+use Rattle.qh_packet.specs.Session.{AcceptsTag}
 use Rattle.qh_owing.specs.Owing.AreAccepted.{none as none_at_first}
 use Rattle.qh_recovery.specs.SentPackets.{packet_at}
 use Rattle.qh_recovery.specs.declared.sent_packets.SentPacket.{SentPacket}

@@ -5,7 +5,8 @@ use Rattle.qh_core.specs.Inner.{is_open}
 use Rattle.qh_core.specs.Progress.{NumberedPacket, Progress}
 use Rattle.qh_core.specs.declared.inner.Inner.{Inner}
 use Rattle.qh_core.specs.declared.state.State.TheVariants.{Drained}
-use Rattle.qh_owing.specs.Owing.{AcceptsTag, AreAccepted, numbers_of}
+use Rattle.qh_owing.specs.Owing.{AreAccepted, numbers_of}
+use Rattle.qh_packet.specs.Session.{AcceptsTag}
 use Rattle.qh_packet.specs.Packet.{header_bytes}
 use Rattle.qh_recovery.specs.Accepted.{Remembers}
 use Rattle.qh_spec.specs.Datagram.{Packet}

@@ -10,6 +10,7 @@ use Rattle.qh_half.specs.declared.send.Outgoing.{Outgoing}
 use Rattle.qh_half.specs.declared.send.SendState.TheVariants.{DataSent, ResetSent}
 use Rattle.qh_halves.specs.SendHalves.{send_at}
 use Rattle.qh_packet.specs.Packet.{IsOpened}
+use Rattle.qh_packet.specs.Session.{AcceptsTag}
 use Rattle.qh_recovery.specs.Accepted.{IsNew, IsNextOf, Remembers}
 use Rattle.qh_recovery.specs.SentPackets.{packet_at, IsNext}
 use Rattle.qh_recovery.specs.declared.sent_packets.SentPacket.{SentPacket}
@@ -20,29 +21,13 @@ use Rattle.qh_spec.specs.Link.{other}
 use Rattle.qh_spec.specs.Lists.{In, Distinct}
 use Rattle.qh_spec.specs.QuicFrame.{StreamFrame}
 use Rattle.qh_spec.specs.QuicFrames.{AreQuicFrames}
-use Rattle.qh_spec.specs.Tag.{IsTag}
 use Rattle.qh_spec.specs.Transcript.{Act, written, finished, was_reset, handed_in, handed_out}
 use Rattle.qh_spec.specs.declared.sides.Side.{Side}
-use Rattle.qh_spec.specs.declared.sides.Space.{Space}
 use Rattle.qh_spec.specs.declared.sides.Space.TheVariants.{Data}
 use Rattle.qh_streams.specs.Streams.{PlainStreams, was_opened}
 use Rattle.qh_streams.specs.Tracked.{HasByte, HasEnd, HasReset}
 use Rattle.qh_streams.specs.declared.frames.SentFrame.{SentFrame}
 use Rattle.qh_streams.specs.declared.frames.SentFrame.TheVariants as sent_frame
-
--- ---- what a session's tags are
-
--- whether it accepts a tag of a packet that has this sender, space and number
-abbrev pub AcceptsTag : Type 0
-AcceptsTag = Side → Space → ℕ → List ℕ → Bool
-
--- what it takes for a tag of a packet is one
-abbrev pub NamesTags : (accepts : AcceptsTag) → Type 0
-NamesTags accepts = (from : Side) (space : Space) (number : ℕ) (tag : List ℕ) → number < 2 ^ 62 → accepts from space number tag ≡ true → IsTag tag from space number
-
--- what it makes for a tag of a packet is one
-abbrev pub MakesTags : (sealed : Side → Space → ℕ → List ℕ) → Type 0
-MakesTags sealed = (from : Side) (space : Space) (number : ℕ) → number < 2 ^ 62 → IsTag (sealed from space number) from space number
 
 -- ---- which packets an end accepted, by the datagrams
 

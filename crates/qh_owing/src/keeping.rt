@@ -4,7 +4,7 @@ ghost use Rattle.qh_core.specs.Made.{AcceptsTags, MakesTagsOf, AreMade};
 ghost use Rattle.qh_core.specs.Progress.{NumberedPacket as APacket};
 ghost use Rattle.qh_core.specs.declared.inner.Inner.{Inner as AnInner};
 ghost use Rattle.qh_owing.specs.Ledger.{AreSent, HasLedger, IsLedger, IsSentIn};
-ghost use Rattle.qh_owing.specs.Owing.{AcceptsTag};
+ghost use Rattle.qh_packet.specs.Session.{AcceptsTag};
 ghost use Rattle.qh_spec.specs.Transcript.{Act, handed_out};
 ghost use Rattle.qh_spec.specs.declared.sides.Side.{Side as ASide};
 ghost use Rattle.qh_spec.specs.declared.sides.Space.{Space as ASpace};

@@ -1,4 +1,4 @@
-ghost use Rattle.std.specs.Prelude.{◌≡◌, ◌⊎◌, ◌<◌, ◌≤◌, ◌++◌, [], ℕ, length, ℤ, Bool, List, Option, None, Some, Result, Ok, take, true, false, OnOk, OnErr, IfOk, IfErr, IfSome, bytes_eq};
+ghost use Rattle.std.specs.Prelude.{◌≡◌, ◌⊎◌, ◌<◌, ◌≤◌, ◌++◌, [], ℕ, length, ℤ, Bool, List, Option, None, Some, Result, Ok, take, true, false, OnOk, OnErr, IfOk, IfErr, IfSome};
 ghost use Rattle.std.specs.List.{concat};
 ghost use Rattle.qh_base.specs.declared.connection_error.ConnectionError.{ConnectionError as AnError};
 ghost use Rattle.qh_base.specs.declared.memory.Memory.{Memory as OutOfMemory};
@@ -27,22 +27,14 @@ ghost use Rattle.qh_half.specs.declared.send.Written.{Written as AWritten};
 ghost use Rattle.qh_halves.specs.Counts.{other_side};
 ghost use Rattle.qh_halves.specs.RecvHalves.{IsRecvStep, Stops, TakesReset, is_closed_at};
 ghost use Rattle.qh_halves.specs.SendHalves.{send_at, finish_fault_at, is_reset_refused_at, IsStep, Takes, Finishes, IsResetWith, HasPriority};
-ghost use Rattle.qh_owing.specs.Owing.{AcceptsTag, IsConfirmed, KeepsWhatIsOwed, MakesTags, NamesTags, Owes};
-ghost use Rattle.qh_packet.specs.Session.{PlainKeys};
+ghost use Rattle.qh_owing.specs.Owing.{IsConfirmed, KeepsWhatIsOwed, Owes};
+ghost use Rattle.qh_packet.specs.Session.{AcceptsTag, MakesTags, NamesTags};
 ghost use Rattle.qh_spec.specs.StreamId.{stream_id};
-ghost use Rattle.qh_spec.specs.Tag.{tag_bytes};
 ghost use Rattle.qh_spec.specs.Transcript.{Act, finished, was_reset};
 ghost use Rattle.qh_spec.specs.declared.sides.Dir.{Dir as ADir};
 ghost use Rattle.qh_spec.specs.declared.sides.Side.{Side as ASide};
 ghost use Rattle.qh_spec.specs.declared.sides.Space.{Space as ASpace};
 ghost use Rattle.qh_streams.specs.Streams.{IsOpened, counted_closed, counts_of, is_live, is_two_way, with_accepted, with_counts};
-
-/// What a plain session makes and takes for tags are tags, as `owing` asks: its key id is a connection id, of at most 20 bytes (RFC
-/// 9000, section 17.2).
-pub fn plain_tags()
-    ensures names { (keys : PlainKeys) → length keys.key_id ≤ 20 → NamesTags (λ from space number tag. bytes_eq tag (tag_bytes keys.key_id from space number)) }
-    ensures makes { (keys : PlainKeys) → length keys.key_id ≤ 20 → MakesTags (tag_bytes keys.key_id) }
-{}
 
 /// What is owed isn't forgotten (RFC 9000, sections 2.2 and 13.3). While a connection is open, each byte that was written on a stream
 /// that wasn't reset, and each end of one that was finished, waits to be sent or is out in a packet, unless an accepted ACK covers a

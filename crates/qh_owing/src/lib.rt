@@ -5,4 +5,4 @@ mod keeping;
 mod laws;
 
 pub use keeping::{ledger, sent_once};
-pub use laws::{owing, owing_on, plain_tags};
+pub use laws::{owing, owing_on};

@@ -1,9 +1,9 @@
 -- Steps of reading and writing Initial packets.
-use Rattle.std.proofs.Common.{◌≡◌, ℕ, ◌+◌, ◌-◌, ◌<◌, ◌≤◌, ◌^◌, max, replicate, Bool, true, false, inl, inr, List, ◌∷◌, ◌++◌, length, take, refl, sym, ap, ◌∙◌, arith, subst, append_assoc, length-append}
+use Rattle.std.proofs.Common.{◌≡◌, ℕ, ◌+◌, ◌-◌, ◌<◌, ◌≤◌, ◌^◌, max, replicate, Bool, true, false, inl, inr, List, ◌∷◌, ◌++◌, length, refl, sym, ap, ◌∙◌, arith, subst, append_assoc, length-append}
 use Rattle.std.proofs.lemmas.Bool.{cases_lt, lt-ltb, le-ltb}
-use Rattle.std.proofs.lemmas.List.{take_at, length-replicate}
+use Rattle.std.proofs.lemmas.List.{length-replicate}
 use Rattle.qh_spec.specs.Datagram.{IsInitialForm}
-use Rattle.qh_spec.specs.QuicFrames.{Counted, Text, IsNumber, IsValue}
+use Rattle.qh_spec.specs.QuicFrames.{Counted, Text, IsValue}
 use Rattle.qh_spec.specs.Varint.{IsVarint, two, varint}
 use Rattle.qh_spec.proofs.Cuts.{halves}
 use Rattle.qh_spec.proofs.FrameLaws.{numbers_agree}
@@ -12,16 +12,6 @@ use Rattle.qh_packet.specs.Initial.{BeginsWithInitial, body_length, initial_byte
 use Rattle.qh_packet.specs.LongHeader.{IsLongHeader, long_head}
 use Rattle.qh_packet.specs.Packet.{low_bytes}
 use Rattle.qh_packet.proofs.LongHeaders.{long_whole}
-
--- a number would be a front of the bytes
-pub no_number : (bytes : List ℕ) → ((n k : ℕ) → IsVarint (take k bytes) n → ⊥) → (n : ℕ) (rest : List ℕ) → IsNumber bytes n rest → ⊥
-no_number bytes none n rest p =
-    let front : take (length p.0) bytes ≡ p.0 = ap (take (length p.0)) p.1 ∙ take_at p.0 rest (length p.0) refl in
-    none n (length p.0) (subst (λ (z : List ℕ). IsVarint z n) (sym front) p.2)
-
--- where the count isn't there, or the bytes behind it aren't
-pub no_count : (bytes : List ℕ) → ((n : ℕ) (rest : List ℕ) → IsNumber bytes n rest → ⊥) → (t rest : List ℕ) → IsValue Counted bytes (Text t) rest → ⊥
-no_count bytes none t rest p = none (length t) p.0 p.1
 
 -- counted bytes are read in one way
 pub after_counted : (bytes v x w y : List ℕ) → IsValue Counted bytes (Text v) x → IsValue Counted bytes (Text w) y → x ≡ y

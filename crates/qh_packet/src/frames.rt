@@ -1,9 +1,14 @@
-ghost use Rattle.std.specs.Prelude.{◌≡◌, [], Err, IfOk, IfErr};
+ghost use Rattle.std.specs.Prelude.{◌≡◌, [], None, Err, IfOk, IfErr};
+ghost use Rattle.std.specs.Option.{option_map};
+ghost use Rattle.qh_base.specs.TransportFault.{IsFault};
+ghost use Rattle.qh_frame.specs.TypeOf.{named};
+ghost use Rattle.qh_spec.specs.Codes as codes;
 ghost use Rattle.qh_frame.specs.Plain.{plain_of};
 ghost use Rattle.qh_frame.specs.declared.frame.FrameFault.{FrameFault as AFrameFault};
 ghost use Rattle.qh_packet.specs.Frames.{AreValidFrames, IsFaultyFrame, is_ack_eliciting};
 ghost use Rattle.qh_packet.specs.declared.frames.PacketFault.TheVariants as fault;
 
+use qh_base::{Reason, TransportError, TransportErrorCode};
 use qh_frame::{Frame, FrameFault, get_frame};
 
 /// What is known of a packet's frames before any is taken.
@@ -20,6 +25,26 @@ pub enum PacketFault {
     Empty,
     /// This one can't be read, or a value in it is out of its range.
     Frame(FrameFault),
+}
+
+impl PacketFault {
+    /// The error that closes a connection by it (RFC 9000, sections 12.4 and 20.1).
+    pub fn transport_error(self) -> TransportError
+        ensures empty { self ≡ fault.Empty → IsFault codes.protocol_violation None result }
+        ensures frame { (f : AFrameFault) → self ≡ fault.Frame f → IsFault codes.frame_encoding_error (option_map named f.frame) result }
+    {
+        let (code, frame) = match self {
+            PacketFault::Empty => (TransportErrorCode::PROTOCOL_VIOLATION, None),
+            PacketFault::Frame(fault) => {
+                (TransportErrorCode::FRAME_ENCODING_ERROR, fault.frame_type())
+            }
+        };
+        TransportError {
+            code,
+            frame,
+            reason: Reason::of(b""),
+        }
+    }
 }
 
 /// Reads all frames of a packet and takes none. The first that can't be read is answered.

@@ -7,12 +7,12 @@ ghost use Rattle.qh_packet.specs.Initial.{BeginsWithInitial, IsBody, body_length
 ghost use Rattle.qh_packet.specs.LongHeader.{long_head};
 ghost use Rattle.qh_packet.specs.Packet.{IsInitialOpened, low_bytes};
 
-use crate::fields::{counted, put_counted};
+use crate::fields::put_counted;
 use crate::long_header::{LongHeader, put_long_header};
 use crate::packet::{TAG_LEN, number_of};
 use crate::session::Session;
 use crate::version::{PacketType, Version};
-use qh_base::{ConnectionId, Memory, Side, Space, VarInt, put_varint};
+use qh_base::{ConnectionId, Memory, Side, Space, VarInt, get_counted, put_varint};
 use qh_frame::put_padding;
 use qh_recovery::expand;
 
@@ -29,29 +29,23 @@ pub struct InitialForm<'a> {
     pub token: &'a [u8],
     /// Number, frames and tag.
     pub body: &'a [u8],
-    /// The packets behind it.
+    /// What stands behind it in the datagram.
     pub rest: &'a [u8],
 }
 
 impl<'a> InitialForm<'a> {
-    /// The Initial packet of version 1 that begins the bytes, whatever its reserved bits and its body are. None exactly where
-    /// none does (RFC 9000, section 17.2.2).
+    /// The Initial packet of version 1 that begins the bytes, whatever its reserved bits and its body are. None exactly if none
+    /// does (RFC 9000, section 17.2.2).
     pub fn read(bytes: &'a [u8]) -> Option<InitialForm<'a>>
         ensures found { IfSome result (λ f. BeginsWithInitial bytes.now f.first f.destination.now f.source.now f.token.now f.body.now f.rest.now) }
         ensures none { IfNone result ((front rest body : List ℕ) (first : ℕ) → bytes.now ≡ front ++ rest → IsInitialForm front first body → ⊥) }
     {
-        let Some(header) = LongHeader::read(bytes) else {
-            return None;
-        };
+        let header = LongHeader::read(bytes)?;
         if !header.is_of(Version::One, PacketType::Initial) {
             return None;
         }
-        let Some((token, rest)) = counted(header.rest) else {
-            return None;
-        };
-        let Some((body, rest)) = counted(rest) else {
-            return None;
-        };
+        let (token, rest) = get_counted(header.rest)?;
+        let (body, rest) = get_counted(rest)?;
         Some(InitialForm {
             first: header.first,
             destination: header.destination,
@@ -72,9 +66,9 @@ pub struct InitialPacket<'a> {
     pub frames: &'a [u8],
 }
 
-/// The Initial packet of this form, where its tag is accepted for its sender and its number, which is read with `expected` as
-/// one more than the greatest that was accepted. None exactly where it isn't one (RFC 9000, sections 17.1 and 17.2.2; the
-/// tag is own): its reserved bits, a body that is too short, a number of 2^62 or more, the tag.
+/// The Initial packet of this form, if its tag is accepted for its sender and its number. The whole number is read with
+/// `expected` as one more than the greatest that was accepted. None exactly if a reserved bit is 1, the body is too short, the
+/// number is 2^62 or more, or the tag isn't accepted (RFC 9000, sections 17.1 and 17.2.2; the tag is own).
 pub fn open_initial<'a, S: Session>(
     session: &S,
     form: &InitialForm<'a>,
@@ -131,10 +125,9 @@ fn get_body(first: u8, bytes: &[u8]) -> Option<Body<'_>>
     })
 }
 
-/// Appends an Initial packet of version 1, with four bytes of its number, or nothing (RFC 9000, section 17.2.2). Where it
-/// would have fewer than `size` bytes, PADDING behind its frames makes it exactly that long, and the length of its body
-/// stands in two bytes, also where one would do, since some sizes can't be reached otherwise. Where nothing is filled up that
-/// length has its shortest form.
+/// Appends an Initial packet of version 1, with four bytes of its number, or nothing (RFC 9000, section 17.2.2). If it would have
+/// fewer than `size` bytes, PADDING behind its frames makes it exactly that long, and the length of its body has two bytes, even
+/// if one would do: with the shortest form one size couldn't be reached. Otherwise that length has its shortest form.
 pub fn put_initial(
     out: &mut Vec<u8>,
     destination: &ConnectionId,
@@ -163,8 +156,8 @@ pub fn put_initial(
     Ok(())
 }
 
-/// What `put_initial` appends is an Initial packet with these parts, whatever follows it. It has as many bytes as are wanted,
-/// or more where its parts need them.
+/// What `put_initial` appends is an Initial packet with these parts, whatever follows it. It has as many bytes as are wanted, or
+/// more if its parts need them.
 pub fn written_initial()
     ensures form { (destination source token frames tag rest : List ℕ) (number : ℕ) (is_wide : Bool) → length destination ≤ 20 → length source ≤ 20
         → length token < 2 ^ 14 → 36 + length frames < 2 ^ 14 → length tag ≡ 32

@@ -16,11 +16,11 @@ mod version_negotiation;
 
 pub use frames::{PacketFault, ValidFrames, validate_frames};
 pub use initial::{InitialForm, InitialPacket, open_initial, put_initial, written_initial};
-pub use long_header::{LongHeader, put_long_header};
+pub use long_header::LongHeader;
 pub use packet::{OneRttPacket, TAG_LEN, open_packet, put_header, written_packet};
 pub use qh_base::{Side, Space};
 pub use retry::{RetryPacket, put_retry, retry_tag, written_retry};
-pub use session::{PlainData, PlainSession, Session};
+pub use session::{PlainData, PlainSession, Session, plain_tags};
 pub use version::{PacketType, Version};
 pub use version_negotiation::{
     VersionNegotiation, put_version_negotiation, written_version_negotiation,

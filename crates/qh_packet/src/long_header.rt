@@ -22,21 +22,15 @@ pub struct LongHeader<'a> {
 }
 
 impl<'a> LongHeader<'a> {
-    /// The long header that begins the bytes. None exactly where none does, with its fixed bit set and ids of at most 20
-    /// bytes (RFC 9000, section 17.2).
+    /// The long header that begins the bytes. None exactly if none does that has its fixed bit set and ids of at most 20 bytes
+    /// (RFC 9000, section 17.2).
     pub fn read(bytes: &'a [u8]) -> Option<LongHeader<'a>>
         ensures found { IfSome result (λ h. IsLongHeader bytes.now h.first h.version h.destination.now h.source.now h.rest.now) }
         ensures none { IfNone result ((first version : ℕ) (destination source rest : List ℕ) → IsLongHeader bytes.now first version destination source rest → ⊥) }
     {
-        let Some((first, version, rest)) = first_and_version(bytes) else {
-            return None;
-        };
-        let Some((destination, rest)) = id(rest) else {
-            return None;
-        };
-        let Some((source, rest)) = id(rest) else {
-            return None;
-        };
+        let (first, version, rest) = first_and_version(bytes)?;
+        let (destination, rest) = id(rest)?;
+        let (source, rest) = id(rest)?;
         Some(LongHeader {
             first,
             version,
@@ -50,12 +44,12 @@ impl<'a> LongHeader<'a> {
     pub fn is_of(&self, version: Version, kind: PacketType) -> bool
         ensures { IsTrue result ↔ ((self.now.version ≡ number_of version) × (self.now.first / 16 % 4 ≡ type_bits version kind)) }
     {
-        self.version == version.number() && same_type(version.packet_type(self.first), kind)
+        self.version == version.number() && version.packet_type(self.first) == kind
     }
 }
 
 /// Appends a long header up to the source id, or nothing (RFC 9000, section 17.2).
-pub fn put_long_header(
+pub(crate) fn put_long_header(
     out: &mut Vec<u8>,
     first: u8,
     version: u32,
@@ -77,33 +71,16 @@ pub fn put_long_header(
     Ok(())
 }
 
-// Whether both are one type.
-fn same_type(a: PacketType, b: PacketType) -> bool
-    ensures { IsTrue result ↔ (a ≡ b) }
-{
-    match (a, b) {
-        (PacketType::Initial, PacketType::Initial) => true,
-        (PacketType::ZeroRtt, PacketType::ZeroRtt) => true,
-        (PacketType::Handshake, PacketType::Handshake) => true,
-        (PacketType::Retry, PacketType::Retry) => true,
-        _ => false,
-    }
-}
-
 // The first byte with the long form's and the fixed bit, the version, and what follows.
 fn first_and_version(bytes: &[u8]) -> Option<(u8, u32, &[u8])>
     ensures found { IfSome result (λ f. (bytes.now ≡ f.0 ∷ (to_be_bytes w32 f.1 ++ f.2.now)) × (192 ≤ f.0)) }
     ensures none { IfNone result ((first version : ℕ) (rest : List ℕ) → bytes.now ≡ first ∷ (to_be_bytes w32 version ++ rest) → 192 ≤ first → ⊥) }
 {
-    let Some((first, rest)) = bytes.split_first() else {
-        return None;
-    };
+    let (first, rest) = bytes.split_first()?;
     if *first < 192 {
         return None;
     }
-    let Some((version, rest)) = rest.split_first_chunk::<4>() else {
-        return None;
-    };
+    let (version, rest) = rest.split_first_chunk::<4>()?;
     Some((*first, u32::from_be_bytes(*version), rest))
 }
 
@@ -112,9 +89,7 @@ fn id(bytes: &[u8]) -> Option<(&[u8], &[u8])>
     ensures found { IfSome result (λ f. (bytes.now ≡ length f.0.now ∷ (f.0.now ++ f.1.now)) × (length f.0.now ≤ 20)) }
     ensures none { IfNone result ((id rest : List ℕ) → bytes.now ≡ length id ∷ (id ++ rest) → length id ≤ 20 → ⊥) }
 {
-    let Some((length, rest)) = bytes.split_first() else {
-        return None;
-    };
+    let (length, rest) = bytes.split_first()?;
     let length = *length as usize;
     if length > ConnectionId::MAX_LEN || length > rest.len() {
         return None;

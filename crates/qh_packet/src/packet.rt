@@ -23,7 +23,7 @@ pub struct OneRttPacket<'a> {
 }
 
 /// Appends the header of a 1-RTT packet to an end with this connection id, with four bytes of its number (RFC 9000, section
-/// 17.3.1). Its frames and its tag follow. Where memory lacks nothing is appended.
+/// 17.3.1), or nothing. Its frames and its tag have to follow.
 pub fn put_header(out: &mut Vec<u8>, destination: &ConnectionId, number: u64) -> Result<(), Memory>
     ensures ok { OnOk result (out.new.items ≡ out.old.items ++ header_bytes destination.now number) }
     ensures err { OnErr result (out.new.items ≡ out.old.items) }
@@ -44,9 +44,10 @@ pub fn written_packet()
         → HasPacket id_length packet (header_bytes destination number ++ (frames ++ tag)) → (packet.space ≡ Data) × AreQuicFrames frames packet.frames }
 {}
 
-/// The 1-RTT packet that a datagram is, where it goes to this id, and its tag is accepted for its sender and its number, which
-/// is read with `expected` as one more than the greatest that was accepted. None exactly where it isn't one (RFC 9000,
-/// sections 12.2, 17.1 and 17.3.1; the tag is own): its form, its reserved bits, its id, a number of 2^62 or more, the tag.
+/// The 1-RTT packet that the bytes are, if it goes to this id, and its tag is accepted for its sender and its number. The whole
+/// number is read with `expected` as one more than the greatest that was accepted. None exactly if the bytes aren't one in form, a
+/// reserved bit is 1, the id is another, the number is 2^62 or more, or the tag isn't accepted (RFC 9000, sections 12.2, 17.1 and
+/// 17.3.1; the tag is own).
 pub fn open_packet<'a, S: Session>(
     session: &S,
     bytes: &'a [u8],

@@ -1,7 +1,8 @@
-ghost use Rattle.std.specs.Prelude.{◌≡◌, ℕ, ◌≤◌, ◌++◌, ◌↔◌, List, length, IsTrue, IfSome, IfNone, OnOk, OnErr};
+ghost use Rattle.std.specs.Prelude.{◌≡◌, ◌≢◌, ℕ, ◌<◌, ◌≤◌, ◌++◌, ◌↔◌, List, length, IsTrue, IfSome, IfNone, OnOk, OnErr};
 ghost use Rattle.qh_packet.specs.Retry.{IsRetryPacket, retry_bytes, retry_tag_of};
 
 use crate::long_header::{LongHeader, put_long_header};
+use crate::session::put_padded;
 use crate::version::{PacketType, Version};
 use arrayvec::ArrayVec;
 use qh_base::{ConnectionId, Memory};
@@ -11,8 +12,6 @@ const RETRY_TAG_LEN: usize = 16;
 
 // How many bytes of an id the tag has.
 const KEPT: usize = 14;
-
-const ZEROS: [u8; 16] = [0; 16];
 
 /// The parts of a Retry packet (RFC 9000, section 17.2.5).
 #[derive(Clone, Copy)]
@@ -28,14 +27,12 @@ pub struct RetryPacket<'a> {
 }
 
 impl<'a> RetryPacket<'a> {
-    /// The Retry packet of version 1 that the bytes are. None exactly where they aren't one (RFC 9000, section 17.2.5).
+    /// The Retry packet of version 1 that the bytes are. None exactly if they aren't one (RFC 9000, section 17.2.5).
     pub fn read(bytes: &'a [u8]) -> Option<RetryPacket<'a>>
         ensures found { IfSome result (λ p. IsRetryPacket bytes.now p.destination.now p.source.now p.token.now p.tag.now) }
         ensures none { IfNone result ((destination source token tag : List ℕ) → IsRetryPacket bytes.now destination source token tag → ⊥) }
     {
-        let Some(header) = LongHeader::read(bytes) else {
-            return None;
-        };
+        let header = LongHeader::read(bytes)?;
         if !header.is_of(Version::One, PacketType::Retry) {
             return None;
         }
@@ -65,17 +62,15 @@ pub fn retry_tag(original: &ConnectionId) -> [u8; 16]
     ensures { result ≡ retry_tag_of original.now }
 {
     let id = original.bytes();
-    let kept = KEPT.min(id.len());
     let mut tag = ArrayVec::new();
     tag.push(0xa5);
     tag.push(id.len() as u8);
-    tag.try_extend_from_slice(&id[..kept]).unwrap();
-    tag.try_extend_from_slice(&ZEROS[..KEPT - kept]).unwrap();
+    put_padded(&mut tag, id, KEPT);
     tag.into_inner().unwrap()
 }
 
-/// Appends a Retry packet of version 1 to a client whose first Initial went to `original`, or nothing (RFC 9000, section
-/// 17.2.5).
+/// Appends a Retry packet of version 1 to a client whose first Initial went to `original`, or nothing. Its token isn't empty, and
+/// its source id is another than that one (RFC 9000, sections 17.2.5 and 17.2.5.1).
 pub fn put_retry(
     out: &mut Vec<u8>,
     destination: &ConnectionId,
@@ -83,6 +78,8 @@ pub fn put_retry(
     token: &[u8],
     original: &ConnectionId,
 ) -> Result<(), Memory>
+    requires token { 0 < length token.now }
+    requires source { source.now ≢ original.now }
     ensures ok { OnOk result (out.new.items ≡ out.old.items ++ retry_bytes destination.now source.now token.now original.now) }
     ensures err { OnErr result (out.new.items ≡ out.old.items) }
 {

@@ -4,13 +4,13 @@ ghost use Rattle.qh_spec.specs.declared.sides.Space.{Space as NumberSpace};
 ghost use Rattle.qh_spec.specs.StreamId.{side_bit};
 ghost use Rattle.qh_spec.specs.Tag.{IsTag, tag_bytes, space_byte as space_byte_of, padded};
 ghost use Rattle.arrayvec.specs.ArrayVec.{array_vec_len};
-ghost use Rattle.qh_packet.specs.Session.{PlainKeys};
+ghost use Rattle.qh_packet.specs.Session.{MakesTags, NamesTags, PlainKeys, plain_accepts, plain_sealed};
 
 use arrayvec::ArrayVec;
 use qh_base::{ConnectionId, Memory, Name, Side, Space};
 use std::marker::Model;
 
-/// What makes and opens the tags of a connection's packets, in the place of a cipher's keys, and knows the server name.
+/// What makes and opens the tags of a connection's packets, in the place of a cipher's keys, and holds the server name.
 pub trait Session {
     /// What the handshake tells the application.
     type HandshakeData;
@@ -24,6 +24,15 @@ pub trait Session {
     /// The server name that it holds.
     ghost name: { Self → List ℕ };
 
+    /// Whether the handshake told it that name, or whoever made it did.
+    ghost knows: { Self → Bool };
+
+    /// The id from which its tags are made.
+    ghost key: { Self → List ℕ };
+
+    /// The server name that its data tell.
+    ghost told: { Self.HandshakeData → List ℕ };
+
     /// Makes the tag of a packet.
     fn tag(&self, from: Side, space: Space, number: u64) -> [u8; 32]
         ensures value { result ≡ sealed self.now from space number }
@@ -36,12 +45,16 @@ pub trait Session {
 
     /// Takes the id from which the tags are made after a Retry.
     fn rekey(&mut self, id: ConnectionId)
-        ensures kept { name self.new ≡ name self.old };
+        ensures value { key self.new ≡ id }
+        ensures name_kept { name self.new ≡ name self.old }
+        ensures knows_kept { knows self.new ≡ knows self.old };
 
     /// Takes the server name that a client's hello bears. A server calls it once.
     fn learn(&mut self, server_name: &[u8])
         requires { length server_name.now ≤ 255 }
         ensures value { name self.new ≡ server_name.now }
+        ensures known { knows self.new ≡ true }
+        ensures key_kept { key self.new ≡ key self.old }
         ensures sealed_kept { sealed self.new ≡ sealed self.old }
         ensures accepts_kept { accepts self.new ≡ accepts self.old };
 
@@ -50,8 +63,10 @@ pub trait Session {
         ensures value { result.now ≡ name self.now }
         ensures short { length result.now ≤ 255 };
 
-    /// What the handshake tells the application, where it is known.
-    fn handshake_data(&self) -> Option<Self::HandshakeData>;
+    /// What the handshake tells the application: the server name that it holds. None exactly where that isn't known.
+    fn handshake_data(&self) -> Option<Self::HandshakeData>
+        ensures known { is_some result ≡ knows self.now }
+        ensures name { IfSome result (λ d. told d ≡ name self.now) };
 }
 
 /// A session without a cipher. Its tags are made of the key id, which is the client's first destination id, or after a
@@ -105,11 +120,17 @@ impl PlainSession {
 impl Session for PlainSession {
     type HandshakeData = PlainData;
 
-    ghost sealed = { λ s from space number. tag_bytes s.key_id from space number };
+    ghost sealed = { plain_sealed };
 
-    ghost accepts = { λ s from space number tag. bytes_eq tag (tag_bytes s.key_id from space number) };
+    ghost accepts = { plain_accepts };
 
     ghost name = { λ s. s.server_name };
+
+    ghost knows = { λ s. s.knows_name };
+
+    ghost key = { λ s. s.key_id };
+
+    ghost told = { λ d. d.server_name };
 
     fn tag(&self, from: Side, space: Space, number: u64) -> [u8; 32] {
         tag_of(&self.key_id, from, space, number)
@@ -141,10 +162,7 @@ impl Session for PlainSession {
     }
 
     /// The name last given to `new` or `learn`; None exactly where `new` was given an empty one and `learn` wasn't called.
-    fn handshake_data(&self) -> Option<PlainData>
-        ensures known { is_some result ≡ self.now.knows_name }
-        ensures name { IfSome result (λ told. told.server_name ≡ self.now.server_name) }
-    {
+    fn handshake_data(&self) -> Option<PlainData> {
         if !self.knows_name {
             return None;
         }
@@ -181,10 +199,10 @@ fn after_16(bytes: &[u8]) -> &[u8]
 
 const ZEROS: [u8; 16] = [0; 16];
 
-// Appends so many of the bytes, with zeros behind them where there are fewer.
-fn put_padded(tag: &mut ArrayVec<u8, 32>, bytes: &[u8], size: usize)
+/// Appends so many of the bytes, with zeros behind them where there are fewer.
+pub(crate) fn put_padded<const N: usize>(tag: &mut ArrayVec<u8, N>, bytes: &[u8], size: usize)
     requires short { size ≤ 16 }
-    requires room { array_vec_len tag.old + size ≤ 32 }
+    requires room { array_vec_len tag.old + size ≤ N }
     ensures items { tag.new.items ≡ tag.old.items ++ padded size bytes.now }
     ensures len { array_vec_len tag.new ≡ array_vec_len tag.old + size }
 {
@@ -210,3 +228,9 @@ fn space_byte(space: Space) -> u8
         Space::Data => 1,
     }
 }
+
+/// What a plain session makes and takes for tags are tags, if its key id has at most 20 bytes, which that of a `PlainSession` has.
+pub fn plain_tags()
+    ensures names { (keys : PlainKeys) → length keys.key_id ≤ 20 → NamesTags (plain_accepts keys) }
+    ensures makes { (keys : PlainKeys) → length keys.key_id ≤ 20 → MakesTags (plain_sealed keys) }
+{}

@@ -2,14 +2,14 @@ ghost use Rattle.std.specs.Prelude.{◌≡◌, ◌/◌, ◌%◌};
 ghost use Rattle.qh_packet.specs.Version.{number_of, type_bits};
 
 /// A version of QUIC whose packets are read and written here.
-#[derive(Clone, Copy)]
+#[derive(Clone, Copy, PartialEq, Eq)]
 pub enum Version {
     /// Version 1 (RFC 9000, section 15).
     One,
 }
 
 /// What a packet with a long header is, beside one of version negotiation (RFC 9000, section 17.2).
-#[derive(Clone, Copy)]
+#[derive(Clone, Copy, PartialEq, Eq)]
 pub enum PacketType {
     Initial,
     ZeroRtt,

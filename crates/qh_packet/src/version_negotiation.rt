@@ -19,15 +19,13 @@ pub struct VersionNegotiation<'a> {
 }
 
 impl<'a> VersionNegotiation<'a> {
-    /// The packet of version negotiation that the bytes are. None exactly where they aren't one, with its fixed bit set and
-    /// ids of at most 20 bytes (RFC 9000, section 17.2.1).
+    /// The packet of version negotiation that the bytes are. None exactly if they aren't one with its fixed bit set and ids of at
+    /// most 20 bytes (RFC 9000, section 17.2.1).
     pub fn read(bytes: &'a [u8]) -> Option<VersionNegotiation<'a>>
         ensures found { IfSome result (λ p. IsVersionNegotiation bytes.now p.destination.now p.source.now p.listed.now) }
         ensures none { IfNone result ((destination source listed : List ℕ) → IsVersionNegotiation bytes.now destination source listed → ⊥) }
     {
-        let Some(header) = LongHeader::read(bytes) else {
-            return None;
-        };
+        let header = LongHeader::read(bytes)?;
         if header.version != 0 || header.rest.is_empty() || header.rest.len() % 4 != 0 {
             return None;
         }
@@ -53,8 +51,9 @@ impl<'a> VersionNegotiation<'a> {
     }
 }
 
-/// Appends a packet of version negotiation, or nothing. Its first byte is anything with the two greatest bits, its ids are
-/// those of the packet that it answers, the other way round (RFC 9000, section 17.2.1).
+/// Appends a packet of version negotiation, or nothing. Of its first byte the two greatest bits are 1, and the others are anything.
+/// Its destination id is the source id of the packet that it answers, and its source id that one's destination id (RFC 9000,
+/// section 17.2.1).
 pub fn put_version_negotiation(
     out: &mut Vec<u8>,
     first: u8,

@@ -24,7 +24,7 @@ pub data HelloFault : Type 0 where
   NotAHello : HelloFault
   -- the server name has more than 255 bytes (own)
   LongName : HelloFault
-  -- a parameter stands twice (section 7.4)
+  -- a parameter is repeated (section 7.4)
   RepeatedId : HelloFault
   -- a client gives a parameter that only a server may give (section 18.2)
   ServerOnly : HelloFault
@@ -32,7 +32,7 @@ pub data HelloFault : Type 0 where
   NotANumber : HelloFault
   -- a connection id is absent, there without being due, or another than the one that was used (section 7.3)
   OtherId : HelloFault
-  -- a stateless reset token hasn't 16 bytes (sections 7.4 and 18.2)
+  -- a stateless reset token isn't 16 bytes long (sections 7.4 and 18.2)
   TokenLength : HelloFault
   -- a number is out of its range (sections 4.6 and 18.2)
   OutOfRange : HelloFault
@@ -62,7 +62,7 @@ numbers =
     ∷ parameter_ids.initial_max_stream_data_bidi_remote ∷ parameter_ids.initial_max_stream_data_uni ∷ parameter_ids.initial_max_streams_bidi
     ∷ parameter_ids.initial_max_streams_uni ∷ parameter_ids.active_connection_id_limit ∷ parameter_ids.max_datagram_frame_size ∷ []
 
--- "Endpoints MUST NOT send a parameter more than once" (section 7.4): no id stands twice, an unknown one neither
+-- "Endpoints MUST NOT send a parameter more than once" (section 7.4): no id is repeated, known or unknown
 abbrev pub HasDistinctIds : Hello → Type 0
 HasDistinctIds h = Distinct (map (λ (p : Parameter). p.id) h.parameters)
 

@@ -1,3 +1,6 @@
+ghost use Rattle.std.specs.Prelude.{◌≡◌};
+ghost use Rattle.qh_spec.specs.Link.{other};
+
 /// An end of a connection.
 #[derive(Clone, Copy, PartialEq, Eq)]
 pub enum Side {
@@ -5,6 +8,18 @@ pub enum Side {
     Client,
     /// The end that accepted it.
     Server,
+}
+
+impl Side {
+    /// The end at the other side of the connection, `!side` in `quinn-proto`.
+    pub fn other(self) -> Side
+        ensures { result ≡ other self }
+    {
+        match self {
+            Side::Client => Side::Server,
+            Side::Server => Side::Client,
+        }
+    }
 }
 
 /// Whether a stream carries bytes both ways or from its initiator alone (RFC 9000, section 2.1).

@@ -1,10 +1,11 @@
 ghost use Rattle.std.specs.Prelude.{◌≡◌, ◌⊎◌, ◌<◌, ◌^◌, ℕ, List, [], None, Some, Bool, true, false, OnOk, OnErr, IfOk, IfSome, IfNone, IfErr, IsTrue};
+ghost use Rattle.qh_base.specs.TransportFault.{IsFault};
 ghost use Rattle.std.specs.Option.{option_map};
 ghost use Rattle.qh_base.specs.declared.connection_error.ConnectionError.TheVariants.{TransportError as Fault};
 ghost use Rattle.qh_base.specs.declared.time.Moment.{Moment as AMoment};
 ghost use Rattle.qh_base.specs.declared.transport_error.TransportError.{TransportError as ATransportError};
 ghost use Rattle.qh_core.specs.Inner.{IsConnection, IsFailedBy, is_open};
-ghost use Rattle.qh_core.specs.Receiving.{AreFramesTaken, BringsClose, GoesOnWith, HasContent, HasWhatOpens, IsAccepted, IsDatagramTaken, IsDatagramUnread, IsExpectedOf, IsFault, IsFaulted, IsNewTo, IsOpenedBy, IsPacketHandled, IsPacketUnread, StopsUnrefused, is_close};
+ghost use Rattle.qh_core.specs.Receiving.{AreFramesTaken, BringsClose, GoesOnWith, HasContent, HasWhatOpens, IsAccepted, IsDatagramTaken, IsDatagramUnread, IsExpectedOf, IsFaulted, IsNewTo, IsOpenedBy, IsPacketHandled, IsPacketUnread, StopsUnrefused, is_close};
 ghost use Rattle.qh_frame.specs.Plain.{plain_of};
 ghost use Rattle.qh_frame.specs.Range.{IsInRange};
 ghost use Rattle.qh_frame.specs.TypeOf.{named};
@@ -20,9 +21,9 @@ ghost use Rattle.qh_streams.specs.declared.fault.StreamFault.TheVariants.{Transp
 ghost use Rattle.std.specs.List.{AllByRecursion, list_any};
 
 use crate::{Inner, Session, State};
-use qh_base::{ConnectionError, Memory, Moment, Reason, Side, TransportError, TransportErrorCode};
+use qh_base::{ConnectionError, Memory, Moment, TransportError};
 use qh_frame::{Frame, get_frame};
-use qh_packet::{OneRttPacket, PacketFault, open_packet, validate_frames};
+use qh_packet::{OneRttPacket, open_packet, validate_frames};
 use qh_space::DataSpace;
 use qh_streams::StreamFault;
 use std::alloc::Global;
@@ -74,7 +75,7 @@ impl<S: Session> Inner<S> {
             &self.session,
             datagram,
             &self.local_id,
-            other_side(self.side),
+            self.side.other(),
             self.space.dedup.next_expected(),
         )
     }
@@ -136,7 +137,7 @@ impl<S> Inner<S> {
         let surveyed = match validate_frames(frames) {
             Ok(surveyed) => surveyed,
             Err(fault) => {
-                self.close_by_fault(now, error_of(fault));
+                self.close_by_fault(now, fault.transport_error());
                 return Ok(());
             }
         };
@@ -247,29 +248,4 @@ fn closes(frame: &Frame<'_>) -> bool
         frame,
         Frame::ConnectionClose { .. } | Frame::ApplicationClose { .. }
     )
-}
-
-// The error of a packet of which no frame is taken (RFC 9000, sections 12.4 and 20.1).
-fn error_of(fault: PacketFault) -> TransportError
-    ensures empty { fault ≡ packet_fault.Empty → IsFault codes.protocol_violation None result }
-    ensures frame { (f : AFrameFault) → fault ≡ packet_fault.Frame f → IsFault codes.frame_encoding_error (option_map named f.frame) result }
-{
-    let (code, frame) = match fault {
-        PacketFault::Empty => (TransportErrorCode::PROTOCOL_VIOLATION, None),
-        PacketFault::Frame(fault) => (TransportErrorCode::FRAME_ENCODING_ERROR, fault.frame_type()),
-    };
-    TransportError {
-        code,
-        frame,
-        reason: Reason::of(b""),
-    }
-}
-
-fn other_side(side: Side) -> Side
-    ensures { result ≡ other side }
-{
-    match side {
-        Side::Client => Side::Server,
-        Side::Server => Side::Client,
-    }
 }

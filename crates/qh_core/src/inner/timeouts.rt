@@ -5,7 +5,7 @@ ghost use Rattle.qh_core.specs.Timers.{AreLostByAge, IsDueAt, IsFirstDue, IsIdle
 ghost use Rattle.qh_space.specs.Space.{IsSpace};
 
 use crate::{Inner, State};
-use qh_base::{ConnectionError, Moment};
+use qh_base::{ConnectionError, Moment, earlier, is_due};
 use qh_space::DataSpace;
 
 impl<S> Inner<S> {
@@ -72,29 +72,5 @@ fn probe(space: &mut DataSpace, now: Moment)
 {
     if is_due(space.probe_at(), now) {
         space.queue_probe();
-    }
-}
-
-// Whether there is a moment, and it has come.
-fn is_due(moment: Option<Moment>, now: Moment) -> bool
-    ensures yes { result ≡ true → (t : AMoment) × (moment ≡ Some t) × (t.0 ≤ now.0) }
-    ensures no { result ≡ false → (t : AMoment) → moment ≡ Some t → now.0 < t.0 }
-{
-    match moment {
-        Some(moment) => moment <= now,
-        None => false,
-    }
-}
-
-// The earlier of two moments that may be there.
-fn earlier(a: Option<Moment>, b: Option<Moment>) -> Option<Moment>
-    ensures none { result ≡ None → (a ≡ None) × (b ≡ None) }
-    ensures one { (t : AMoment) → result ≡ Some t → (a ≡ Some t) ⊎ (b ≡ Some t) }
-    ensures first { (t s : AMoment) → result ≡ Some t → (a ≡ Some s) ⊎ (b ≡ Some s) → t.0 ≤ s.0 }
-{
-    match (a, b) {
-        (Some(a), Some(b)) => Some(a.min(b)),
-        (Some(only), None) | (None, Some(only)) => Some(only),
-        (None, None) => None,
     }
 }

@@ -10,7 +10,8 @@ use Rattle.qh_spec.specs.Transcript.{HandedIn}
 use Rattle.qh_spec.specs.declared.link.Event.TheVariants.{Given}
 use Rattle.qh_spec.specs.declared.sides.Side.{Side}
 use Rattle.qh_spec.specs.declared.sides.Space.{Space}
-use Rattle.qh_exchange.specs.Pair.{End, IsMadeBy, plain_accepts, plain_sealed}
+use Rattle.qh_exchange.specs.Pair.{End, IsMadeBy}
+use Rattle.qh_packet.specs.Session.{plain_accepts, plain_sealed}
 use Rattle.qh_exchange.specs.Steps.{KeepsSound}
 use Rattle.qh_exchange.proofs.EndSounds.{datagram_session, key_short, sound_given, sound_kept}
 use Rattle.qh_exchange.proofs.ends.hand_in.Goals as goal

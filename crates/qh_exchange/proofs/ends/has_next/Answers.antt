@@ -11,7 +11,8 @@ use Rattle.qh_core.specs.Sending.{IsDatagramMade, datagram_of}
 use Rattle.qh_spec.specs.Tag.{tag_bytes}
 use Rattle.qh_spec.specs.Transcript.{Act, HandedOut}
 use Rattle.qh_exchange.specs.EndCalls.{polled_acts}
-use Rattle.qh_exchange.specs.Pair.{End, IsMadeBy, plain_accepts, plain_sealed}
+use Rattle.qh_exchange.specs.Pair.{End, IsMadeBy}
+use Rattle.qh_packet.specs.Session.{plain_accepts, plain_sealed}
 use Rattle.qh_exchange.proofs.ends.has_next.Goals as goal
 
 -- the datagram, where there is one, stands alone in the buffer

@@ -1,7 +1,8 @@
 use Rattle.std.proofs.Common.{◌≡◌, ◌∙◌, Result, Ok, ap, refl}
 use Rattle.qh_base.specs.declared.memory.Memory.{Memory}
 use Rattle.qh_packet.specs.Session.{PlainKeys}
-use Rattle.qh_exchange.specs.Pair.{End, plain_accepts, plain_sealed}
+use Rattle.qh_exchange.specs.Pair.{End}
+use Rattle.qh_packet.specs.Session.{plain_accepts, plain_sealed}
 use Rattle.qh_exchange.proofs.EndSounds.{key_short}
 use Rattle.qh_exchange.proofs.EndTicks.{new_end}
 use Rattle.qh_exchange.proofs.ends.open_end.Goals as goal

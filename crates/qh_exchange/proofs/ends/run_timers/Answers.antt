@@ -1,7 +1,7 @@
 use Rattle.std.proofs.Common.{◌≡◌, ◌⊎◌, inl, inr, [], Some}
 use Rattle.qh_base.specs.declared.connection_error.ConnectionError.TheVariants as lost
 use Rattle.qh_exchange.specs.EndCalls.{HasWaited}
-use Rattle.qh_exchange.specs.Pair.{plain_accepts, plain_sealed}
+use Rattle.qh_packet.specs.Session.{plain_accepts, plain_sealed}
 use Rattle.qh_exchange.proofs.EndSounds.{timed_session}
 use Rattle.qh_exchange.proofs.EndTicks.{idle_passed, memory_stays}
 use Rattle.qh_exchange.proofs.ends.run_timers.Goals as goal

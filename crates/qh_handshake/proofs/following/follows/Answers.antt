@@ -1,10 +1,16 @@
 use Rattle.qh_handshake.proofs.FollowsIn.{lost_follows, taken_follows}
-use Rattle.qh_handshake.proofs.FollowsOn.{close_unsent_follows, discarded_follows, fresh_follows, timed_out_follows, unsent_follows}
+use Rattle.qh_handshake.proofs.FollowsOn.{borne_fresh, close_unsent_follows, discarded_follows, fresh_follows, origin_fresh, timed_out_follows, unsent_follows}
 use Rattle.qh_handshake.proofs.FollowsOut.{close_follows, made_follows}
 use Rattle.qh_handshake.proofs.following.follows.Goals as goal
 
 pub returns-clause-fresh : goal.returns-clause-fresh
 returns-clause-fresh c = fresh_follows
+
+pub returns-clause-origin : goal.returns-clause-origin
+returns-clause-origin c = origin_fresh
+
+pub returns-clause-borne : goal.returns-clause-borne
+returns-clause-borne c = borne_fresh
 
 pub returns-clause-timed_out : goal.returns-clause-timed_out
 returns-clause-timed_out c = timed_out_follows
@@ -19,10 +25,10 @@ pub returns-clause-closed : goal.returns-clause-closed
 returns-clause-closed c = close_follows
 
 pub returns-clause-taken : goal.returns-clause-taken
-returns-clause-taken c = λ accepts now datagram rest hello old new retried learned end t names whole taken p. taken_follows accepts now datagram rest hello old new retried learned end t names taken p
+returns-clause-taken c = taken_follows
 
 pub returns-clause-lost : goal.returns-clause-lost
-returns-clause-lost c = λ accepts now datagram hello old new t names whole lost p. lost_follows accepts now datagram hello old new t names lost p
+returns-clause-lost c = lost_follows
 
 pub returns-clause-unsent : goal.returns-clause-unsent
 returns-clause-unsent c = unsent_follows

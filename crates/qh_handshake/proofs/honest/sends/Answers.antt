@@ -13,16 +13,16 @@ pub returns-clause-discarded : goal.returns-clause-discarded
 returns-clause-discarded c = discarded_sends
 
 pub returns-clause-taken : goal.returns-clause-taken
-returns-clause-taken c = λ accepts now datagram rest hello old new retried learned end t names whole taken follows p. taken_sends accepts now datagram rest hello old new retried learned end t names taken p
+returns-clause-taken c = taken_sends
 
 pub returns-clause-made : goal.returns-clause-made
 returns-clause-made c = made_sends
 
 pub returns-clause-closed : goal.returns-clause-closed
-returns-clause-closed c = λ sealed close before after hello old new size t makes whole made follows p. close_sends sealed close before after hello old new size t makes whole made p
+returns-clause-closed c = close_sends
 
 pub returns-clause-lost : goal.returns-clause-lost
-returns-clause-lost c = λ accepts now datagram hello old new t names whole lost p. lost_sends accepts now datagram hello old new t names lost p
+returns-clause-lost c = lost_sends
 
 pub returns-clause-unsent : goal.returns-clause-unsent
 returns-clause-unsent c = unsent_sends

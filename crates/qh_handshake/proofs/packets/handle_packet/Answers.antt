@@ -10,9 +10,9 @@ returns-then-not-is_new-clause-ok c = repeated (λ accepted remembers new. both_
 
 pub returns-in-Err-clause-err : goal.returns-in-Err-clause-err
 returns-in-Err-clause-err c =
-    inr (handled_faulty c.args.now c.args.number c.args.frames.now c.args.space.now c.in-Err.fault c.error_of.result
+    inr (handled_faulty c.args.now c.args.number c.args.frames.now c.args.space.now c.in-Err.fault c.transport_error.result
     (λ accepted remembers. (c.is_new.ensures accepted remembers).0 c.if-not-is_new.false)
-    (λ e. c.in-Err.ensures.empty (ap Err e)) c.in-Err.ensures.frame c.error_of.ensures.empty c.error_of.ensures.frame)
+    (λ e. c.in-Err.ensures.empty (ap Err e)) c.in-Err.ensures.frame c.transport_error.ensures.empty c.transport_error.ensures.frame)
 
 pub returns-clause-ok : goal.returns-clause-ok
 returns-clause-ok c =

@@ -1,5 +1,5 @@
 use Rattle.qh_hello.proofs.Fronts.{no_name_yet, no_parameters_yet, form_here}
-use Rattle.qh_hello.proofs.Readings.{at_none}
+use Rattle.qh_base.proofs.CountedBytes.{at_none}
 use Rattle.qh_hello.proofs.front.front_hello.Goals as goal
 
 pub returns-in_err-_name-clause-none : goal.returns-in_err-_name-clause-none

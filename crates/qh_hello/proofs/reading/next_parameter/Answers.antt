@@ -1,4 +1,5 @@
-use Rattle.qh_hello.proofs.Readings.{at_none, no_id, no_value}
+use Rattle.qh_base.proofs.CountedBytes.{at_none}
+use Rattle.qh_hello.proofs.Readings.{no_id, no_value}
 use Rattle.qh_hello.proofs.reading.next_parameter.Goals as goal
 
 pub returns-in_err-id-clause-none : goal.returns-in_err-id-clause-none

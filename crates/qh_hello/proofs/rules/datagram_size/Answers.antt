@@ -1,5 +1,5 @@
 use Rattle.qh_hello.proofs.Keeping.{not_number}
-use Rattle.qh_hello.proofs.Readings.{at_none}
+use Rattle.qh_base.proofs.CountedBytes.{at_none}
 use Rattle.qh_hello.proofs.rules.datagram_size.Goals as goal
 
 pub returns-in_err-whole_number-in-Some-clause-none : goal.returns-in_err-whole_number-in-Some-clause-none

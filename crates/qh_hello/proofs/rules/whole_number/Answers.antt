@@ -1,5 +1,5 @@
 use Rattle.qh_hello.proofs.Keeping.{no_whole, bytes_behind}
-use Rattle.qh_hello.proofs.Readings.{at_none}
+use Rattle.qh_base.proofs.CountedBytes.{at_none}
 use Rattle.qh_hello.proofs.rules.whole_number.Goals as goal
 
 pub returns-in_err-value-clause-none : goal.returns-in_err-value-clause-none

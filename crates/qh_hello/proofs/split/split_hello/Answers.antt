@@ -1,5 +1,6 @@
 use Rattle.std.proofs.Common.{ℕ, List, ◌∷◌, refl, ap, ◌∙◌, subst}
-use Rattle.qh_hello.proofs.Readings.{at_none, no_name, no_values, bytes_left, no_parameters, split_here}
+use Rattle.qh_base.proofs.CountedBytes.{at_none}
+use Rattle.qh_hello.proofs.Readings.{no_name, no_values, bytes_left, no_parameters, split_here}
 use Rattle.qh_hello.proofs.Walks.{is_nil, is_some}
 use Rattle.qh_hello.specs.Parts.{IsCounted}
 use Rattle.qh_spec.specs.Hello.{IsHelloOf}

@@ -4,7 +4,7 @@ use Rattle.qh_packet.proofs.long_header.first_and_version.Goals as goal
 
 pub returns-clause-found : goal.returns-clause-found
 returns-clause-found c = (
-  first_version c.args.bytes.now c.in-Some.rest.now c.in-Some-split_first_chunk.version.now c.in-Some-split_first_chunk.rest.now c.in-Some.first.now c.from_be_bytes.result (λ i. omega (arith, c.type_inv.bytes i))
-      c.in-Some.ensures.cases.0 (omega (arith, c.in-Some-split_first_chunk.ensures.cases.2)) c.in-Some-split_first_chunk.ensures.cases.0 c.in-Some-split_first_chunk.ensures.cases.1 c.from_be_bytes.ensures,
+  first_version c.args.bytes.now c.in_ok-first.rest.now c.in_ok-version.version.now c.in_ok-version.rest.now c.in_ok-first.first.now c.from_be_bytes.result (λ i. omega (arith, c.type_inv.bytes i))
+      c.in_ok-first.ensures.cases.0 (omega (arith, c.in_ok-version.ensures.cases.2)) c.in_ok-version.ensures.cases.0 c.in_ok-version.ensures.cases.1 c.from_be_bytes.ensures,
   c.if-first-lt192.false,
 )

@@ -8,9 +8,9 @@ use Rattle.qh_space.specs.declared.data_space.DataSpace.{DataSpace}
 
 pub returns-in-Err-clause-ok : goal.returns-in-Err-clause-ok
 returns-in-Err-clause-ok g c =
-    handled_faulty c.args.now c.args.number c.args.frames.now c.args.self.now c.close_by_fault.new.self c.in-Err.fault c.error_of.result
+    handled_faulty c.args.now c.args.number c.args.frames.now c.args.self.now c.close_by_fault.new.self c.in-Err.fault c.transport_error.result
     (λ accepted remembers. (c.is_new.ensures accepted remembers).0 c.if-not-is_new.false)
-    (λ e. c.in-Err.ensures.empty (ap Err e)) c.in-Err.ensures.frame c.error_of.ensures.empty c.error_of.ensures.frame c.close_by_fault.ensures
+    (λ e. c.in-Err.ensures.empty (ap Err e)) c.in-Err.ensures.frame c.transport_error.ensures.empty c.transport_error.ensures.frame c.close_by_fault.ensures
 
 pub returns-in-Some-clause-connection : goal.returns-in-Some-clause-connection
 returns-in-Some-clause-connection g c =

@@ -16,5 +16,5 @@ returns-clause-none g c =
     if_none c.open_packet.result (λ none number frames o.
     let same = one_expected c.args.self.now.space o.expected c.next_expected.result o.is_expected c.next_expected.ensures.next in
     c.open_packet.ensures.none none number frames
-    (subst (λ (s : Side). IsOpened accepts id s c.next_expected.result c.args.datagram.now number frames) (sym c.other_side.ensures)
+    (subst (λ (s : Side). IsOpened accepts id s c.next_expected.result c.args.datagram.now number frames) (sym c.other.ensures)
     (subst (λ (n : ℕ). IsOpened accepts id (other c.args.self.now.side) n c.args.datagram.now number frames) same o.is)))

@@ -22,8 +22,8 @@ returns-in-Err-clause-err c =
     let found = c.in-Some-front_hello.ensures.found in
     read_refused c.args.self.now c.in-Some.space c.in-Some-front_hello.front.now found.0 c.in-Err.error c.error_of.result c.in-Some.is (none_there c.args.self.now.peer c.if-is_some.ensures)
     (sym c.bytes.ensures ∙ found.1) found.2
-    (subst (λ (side : Side). IsRefused side (ids_used c.args.self.now) c.in-Some-front_hello.front.now c.in-Err.error) c.other_side.ensures
-    (subst (λ (used : IdsUsed). IsRefused c.other_side.result used c.in-Some-front_hello.front.now c.in-Err.error) c.ids_used.ensures c.in-Err.ensures.err))
+    (subst (λ (side : Side). IsRefused side (ids_used c.args.self.now) c.in-Some-front_hello.front.now c.in-Err.error) c.other.ensures
+    (subst (λ (used : IdsUsed). IsRefused c.other.result used c.in-Some-front_hello.front.now c.in-Err.error) c.ids_used.ensures c.in-Err.ensures.err))
     c.error_of.ensures.fault c.error_of.ensures.wanting
 
 pub returns-in-Err-clause-wanting : goal.returns-in-Err-clause-wanting
@@ -31,6 +31,6 @@ returns-in-Err-clause-wanting c =
     let found = c.in-Some-front_hello.ensures.found in
     read_wanting c.args.self.now c.in-Some.space c.in-Some-front_hello.front.now found.0 c.in-Err.error c.error_of.result c.in-Some.is (none_there c.args.self.now.peer c.if-is_some.ensures)
     (sym c.bytes.ensures ∙ found.1) found.2
-    (subst (λ (side : Side). IsRefused side (ids_used c.args.self.now) c.in-Some-front_hello.front.now c.in-Err.error) c.other_side.ensures
-    (subst (λ (used : IdsUsed). IsRefused c.other_side.result used c.in-Some-front_hello.front.now c.in-Err.error) c.ids_used.ensures c.in-Err.ensures.err))
+    (subst (λ (side : Side). IsRefused side (ids_used c.args.self.now) c.in-Some-front_hello.front.now c.in-Err.error) c.other.ensures
+    (subst (λ (used : IdsUsed). IsRefused c.other.result used c.in-Some-front_hello.front.now c.in-Err.error) c.ids_used.ensures c.in-Err.ensures.err))
     c.error_of.ensures.fault

@@ -18,7 +18,7 @@ returns-clause-ok g c =
       | in-Server+in-Ok w ↦ (
         Some name,
         server_read c.args.self.now w.answer.new.self c.match-side.self name p w.in-Ok.own read w.in-Server.is w.in-Ok.ensures.hello w.self-is w.answer.ensures,
-        rw w.session-is (w.learn.ensures.value, w.learn.ensures.sealed_kept, w.learn.ensures.accepts_kept),
+        rw w.session-is (w.learn.ensures.value, w.learn.ensures.known, w.learn.ensures.key_kept, w.learn.ensures.sealed_kept, w.learn.ensures.accepts_kept),
       )
     ]
 

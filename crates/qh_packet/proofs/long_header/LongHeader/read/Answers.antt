@@ -1,9 +1,10 @@
+use Rattle.qh_base.proofs.CountedBytes.{at_none}
 use Rattle.qh_packet.proofs.LongHeaders.{source_place}
 use Rattle.qh_packet.proofs.long_header.LongHeader.read.Goals as goal
 
-pub returns-in_default-id-2-clause-none : goal.returns-in_default-id-2-clause-none
-returns-in_default-id-2-clause-none c = λ first version destination source rest h.
-    c.in_default-id-2.ensures.none source rest
-    (source_place c.args.bytes.now first version destination source rest c.in-Some.first c.in-Some.version c.in-Some.rest.now c.in-Some-id.destination.now c.in-Some-id.rest.now h c.in-Some.ensures.found.0
-    c.in-Some-id.ensures.found.0)
-    h.source_fits
+pub returns-in_err-source-clause-none : goal.returns-in_err-source-clause-none
+returns-in_err-source-clause-none c = at_none c.from_residual-in_err-source.result (λ first version destination source rest h.
+    c.in_err-source.ensures.none source rest
+    (source_place c.args.bytes.now first version destination source rest c.in_ok-first.first c.in_ok-first.version c.in_ok-first.rest.now c.in_ok-destination.destination.now c.in_ok-destination.rest.now h c.in_ok-first.ensures.found.0
+    c.in_ok-destination.ensures.found.0)
+    h.source_fits)
