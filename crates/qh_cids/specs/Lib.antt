@@ -1,0 +1,2 @@
+pub mod CidQueue
+pub mod CidState
