@@ -22,7 +22,7 @@ use Rattle.qh_handshake.specs.Incoming.ArePacketsTaken.{done, more as one_more, 
 use Rattle.qh_handshake.specs.Incoming.IsDatagramTaken.{retry, mismatch, packets}
 use Rattle.qh_handshake.specs.Incoming.IsHelloRead.{gone as gone_before, known, cut, refused, at_client, at_server}
 use Rattle.qh_handshake.specs.Incoming.IsInitialTaken.{gone, dropped, ended, handled}
-use Rattle.qh_handshake.specs.Incoming.IsPacketHandled.{repeated, empty, faulty, taken}
+use Rattle.qh_handshake.specs.Incoming.IsPacketHandled.{repeated, empty, faulty, unnoted, taken}
 use Rattle.qh_handshake.specs.Lost.{AreBegun, IsLost}
 use Rattle.qh_handshake.specs.Lost.AreBegun.{here as here_begun, more as one_begun}
 use Rattle.qh_handshake.specs.Lost.IsLost.{initials as initials_lost, retry as retry_lost}
@@ -234,6 +234,7 @@ module _ (hello : List ℕ) (side : Side) (peer : Option TransportParameters) (u
   packet_in now number frames datagram old new end (repeated none e) has among p = same old new e p
   packet_in now number frames datagram old new end (empty _ is_new none fault e) has among p = same old new e p
   packet_in now number frames datagram old new end (faulty _ kind is_new fault code e) has among p = same old new e p
+  packet_in now number frames datagram old new end (unnoted _ is_eliciting is_new valid t e) has among p = same old new e p
   packet_in now number frames datagram old new end (taken mid is_eliciting _ is_new valid a t) has among p =
       frames_in now.0 frames mid new end valid.frames t valid.are
       (λ q there id_length. record {

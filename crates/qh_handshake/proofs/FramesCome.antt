@@ -12,7 +12,7 @@ use Rattle.qh_frame.specs.TypeOf.{HasType}
 use Rattle.qh_frame.specs.declared.frame.Frame.{Frame}
 use Rattle.qh_handshake.proofs.HelloHeld.{chain, frame_keeps, one_keeps}
 use Rattle.qh_handshake.specs.Handshake.{KeepsHello}
-use Rattle.qh_handshake.specs.Incoming.{AreFramesTaken}
+use Rattle.qh_handshake.specs.Incoming.{AreFramesTaken, IsFirstRefused}
 use Rattle.qh_handshake.specs.Incoming.AreFramesTaken.{none, more, closed, refused}
 use Rattle.qh_handshake.specs.InitialSpace.{IsInitialSpace}
 use Rattle.qh_handshake.specs.Unread.{StopsUnrefused}
@@ -102,3 +102,17 @@ pub stops_at : (now : ℕ) (bytes rest after : List ℕ) (old mid : InitialSpace
     → IsRefusedBy fault f (frame_refusal mid f) → ((t : TransportError) → fault ≡ Transport t → e ≡ Fault t) → e ≡ Wanting → StopsUnrefused now bytes old
 stops_at now bytes rest after old mid f (Transport t) e h b r says wanting = absurd (let both : Fault t ≡ Wanting = sym (says t refl) ∙ wanting in cc)
 stops_at now bytes rest after old mid f Memory e h b r says wanting = h.stops (here rest after f mid b r)
+
+-- bytes that are valid frames begin with one
+pub first_read : (bytes : List ℕ) (is_eliciting : Bool) → AreValidFrames bytes is_eliciting → HasNoFrame bytes → ⊥
+first_read bytes is_eliciting h unread = first h.frames h.are h.in_range h.some where
+  first : (fs : List QuicFrame) → AreQuicFrames bytes fs → AllByRecursion IsInRange fs → (fs ≡ [] → ⊥) → ⊥
+  first [] are all some = some refl
+  first (f ∷ fs) are all some = unread f are.0 are.1 all.0
+
+-- the first isn't taken
+pub first_refused : (bytes rest : List ℕ) (old new : InitialSpace) (f : Frame) (fault : SpaceFault) (e : ConnectionError) → Begins bytes (plain_of f) rest → HasType bytes f
+    → IsRefusedBy fault f (frame_refusal old f) → KeepsAfter fault old new f → ((t : TransportError) → fault ≡ Transport t → e ≡ Fault t) → (fault ≡ Memory → e ≡ Wanting)
+    → (e ≡ Wanting) ⊎ ((t : TransportError) × (e ≡ Fault t) × IsFirstRefused bytes old t × (new ≡ old))
+first_refused bytes rest old new f (Transport t) e b named r kept says wants = inr (t, says t refl, record { rest = rest; frame = f; begins = b; named_so = named; refusal = r }, kept)
+first_refused bytes rest old new f Memory e b named r kept says wants = inl (wants refl)

@@ -18,7 +18,7 @@ use Rattle.qh_frame.specs.declared.frame.Frame.TheVariants as kind
 use Rattle.qh_handshake.specs.Follows.{HasInitial}
 use Rattle.qh_handshake.specs.Incoming.{AreFramesTaken, IsPacketHandled}
 use Rattle.qh_handshake.specs.Incoming.AreFramesTaken.{none as none_taken, more as more_taken, closed as closed_taken, refused as refused_taken}
-use Rattle.qh_handshake.specs.Incoming.IsPacketHandled.{repeated, empty, faulty, taken}
+use Rattle.qh_handshake.specs.Incoming.IsPacketHandled.{repeated, empty, faulty, unnoted, taken}
 use Rattle.qh_handshake.specs.Receiving.{IsFrameTaken, IsRefusal, Refusal, frame_refusal}
 use Rattle.qh_handshake.specs.Receiving.IsFrameTaken.{padding, ping, ack, crypto, close}
 use Rattle.qh_handshake.specs.Sends.{IsHonestFrame}
@@ -172,5 +172,7 @@ module _ (hello : List ℕ) (came : List (List ℕ)) (side : Side) (next : ℕ) 
   packet_fine now number frames s new end e fs same (empty _ is_new none fault is_same) is are some ranged honest = some (quic_frames_agree frames fs [] are none)
   packet_fine now number frames s new end e fs same (faulty _ kind is_new fault code is_same) is are some ranged honest =
       none_faulty frames fault.rest fs fault.behind fault.none fault.some are ranged
+  packet_fine now number frames s new end e fs same (unnoted error is_eliciting is_new valid t is_same) is are some ranged honest =
+      frames_fine now.0 frames s s (Some (Fault error)) e fs same (refused_taken frames t.rest t.frame s error t.begins t.named_so t.refusal) is are ranged honest
   packet_fine now number frames s new end e fs same (taken mid is_eliciting _ is_new valid a t) is are some ranged honest =
       frames_fine now.0 frames mid new end e fs (ap (λ (s : InitialSpace). s.next_number) a.rest_is ∙ same) t is are ranged honest

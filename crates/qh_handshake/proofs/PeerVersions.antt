@@ -10,7 +10,7 @@ use Rattle.qh_handshake.specs.Incoming.ArePacketsTaken.{done, more as one_more, 
 use Rattle.qh_handshake.specs.Incoming.IsDatagramTaken.{retry, mismatch, packets}
 use Rattle.qh_handshake.specs.Incoming.IsHelloRead.{gone as gone_before, known, cut, refused, at_client, at_server}
 use Rattle.qh_handshake.specs.Incoming.IsInitialTaken.{gone, dropped, ended, handled}
-use Rattle.qh_handshake.specs.Incoming.IsPacketHandled.{repeated, empty, faulty, taken}
+use Rattle.qh_handshake.specs.Incoming.IsPacketHandled.{repeated, empty, faulty, unnoted, taken}
 use Rattle.qh_handshake.specs.Sends.{IsHonestDatagram}
 use Rattle.qh_handshake.specs.declared.handshake.Handshake.{Handshake}
 use Rattle.qh_handshake.specs.declared.initial_space.InitialSpace.{InitialSpace}
@@ -31,6 +31,7 @@ packet_tells : (now : Moment) (number : ℕ) (frames : List ℕ) (old new : Init
 packet_tells now number frames old new end (repeated is_old same) is = none-some VersionMismatch is
 packet_tells now number frames old new end (empty _ is_new none fault same) is = cc
 packet_tells now number frames old new end (faulty _ kind is_new fault code same) is = cc
+packet_tells now number frames old new end (unnoted _ is_eliciting is_new valid t same) is = cc
 packet_tells now number frames old new end (taken mid is_eliciting _ is_new valid a t) is = frames_tell now.0 frames mid new end t is
 
 hello_tells : (old new : Handshake) (learned : Option (List ℕ)) (end : Option ConnectionError) → IsHelloRead old new learned end → end ≡ Some VersionMismatch → ⊥

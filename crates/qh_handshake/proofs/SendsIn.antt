@@ -15,7 +15,7 @@ use Rattle.qh_handshake.specs.Incoming.ArePacketsTaken.{done, more as one_more, 
 use Rattle.qh_handshake.specs.Incoming.IsDatagramTaken.{retry, mismatch, packets}
 use Rattle.qh_handshake.specs.Incoming.IsHelloRead.{gone as gone_before, known, cut, refused, at_client, at_server}
 use Rattle.qh_handshake.specs.Incoming.IsInitialTaken.{gone, dropped, ended, handled}
-use Rattle.qh_handshake.specs.Incoming.IsPacketHandled.{repeated, empty, faulty, taken}
+use Rattle.qh_handshake.specs.Incoming.IsPacketHandled.{repeated, empty, faulty, unnoted, taken}
 use Rattle.qh_handshake.specs.Lost.{AreBegun, IsLost}
 use Rattle.qh_handshake.specs.Lost.AreBegun.{here as here_begun, more as one_begun}
 use Rattle.qh_handshake.specs.Lost.IsLost.{initials, retry as retry_lost}
@@ -102,6 +102,7 @@ module _ (side : Side) (u : List Act) where
   packet_in now number frames datagram old new end (repeated none e) there among p = same_acks side old new u (ap (λ (z : InitialSpace). z.acks.ranges) e) p
   packet_in now number frames datagram old new end (empty _ is_new none fault e) there among p = same_acks side old new u (ap (λ (z : InitialSpace). z.acks.ranges) e) p
   packet_in now number frames datagram old new end (faulty _ kind is_new fault code e) there among p = same_acks side old new u (ap (λ (z : InitialSpace). z.acks.ranges) e) p
+  packet_in now number frames datagram old new end (unnoted _ is_eliciting is_new valid t e) there among p = same_acks side old new u (ap (λ (z : InitialSpace). z.acks.ranges) e) p
   packet_in now number frames datagram old new end (taken mid is_eliciting _ is_new valid a t) there among p =
       same_acks side mid new u (frames_acks now.0 frames mid new end t)
       (accepted_in now number is_eliciting old mid a

@@ -88,12 +88,23 @@ pub data AreFramesTaken (now : ℕ) : (bytes : List ℕ) → (old new : InitialS
   refused : (bytes rest : List ℕ) (frame : Frame) (s : InitialSpace) (e : TransportError) → Begins bytes (plain_of frame) rest
       → HasType bytes frame → IsRefusal (Transport e) (frame_refusal s frame) → AreFramesTaken now bytes s s (Some (Fault e))
 
+-- the bytes begin with a frame that is refused, with this error
+pub record IsFirstRefused (bytes : List ℕ) (s : InitialSpace) (e : TransportError) : Type 0 where
+  pub rest : List ℕ
+  pub frame : Frame
+  pub begins : Begins bytes (plain_of frame) rest
+  pub named_so : HasType bytes frame
+  pub refusal : IsRefusal (Transport e) (frame_refusal s frame)
+
 -- What a packet does whose tag was accepted: nothing if its number isn't new; a packet without a frame, or with bytes that are no
--- frame, is a fault (sections 12.4 and 20.1), and no frame of it is taken.
+-- frame, is a fault (sections 12.4 and 20.1), and no frame of it is taken. Nor is one taken if memory is wanting to note the number: then
+-- a fault of its first frame ends the connection all the same.
 pub data IsPacketHandled (now : Moment) (number : ℕ) (frames : List ℕ) (old new : InitialSpace) : Option ConnectionError → Type 0 where
   repeated : IsOldTo old number → new ≡ old → IsPacketHandled now number frames old new None
   empty : (e : TransportError) → IsNewTo old number → frames ≡ [] → IsFault codes.protocol_violation None e → new ≡ old → IsPacketHandled now number frames old new (Some (Fault e))
   faulty : (e : TransportError) (kind : Option ℕ) → IsNewTo old number → IsFaultyFrame frames kind → IsFault codes.frame_encoding_error (option_map named kind) e → new ≡ old
+      → IsPacketHandled now number frames old new (Some (Fault e))
+  unnoted : (e : TransportError) (is_eliciting : Bool) → IsNewTo old number → AreValidFrames frames is_eliciting → IsFirstRefused frames old e → new ≡ old
       → IsPacketHandled now number frames old new (Some (Fault e))
   taken : (mid : InitialSpace) (is_eliciting : Bool) (end : Option ConnectionError) → IsNewTo old number → AreValidFrames frames is_eliciting
       → IsAccepted now number is_eliciting old mid → AreFramesTaken now.0 frames mid new end → IsPacketHandled now number frames old new end

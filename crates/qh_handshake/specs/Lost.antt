@@ -20,8 +20,8 @@ pub record IsLeft (source : List ℕ) (old new : Handshake) : Type 0 where
   pub space : InitialSpace
   pub rest_is : new ≡ knowing old source space
 
--- Initial packets are taken up to one for which memory is wanting: it is opened, its frames can all be read, and none that was taken of it
--- is at fault. If its number couldn't be noted none was taken.
+-- Initial packets are taken up to one for which memory is wanting: it is opened, its frames can all be read, and none that was taken of it,
+-- nor the one behind them, is at fault. If its number couldn't be noted none but the first was taken.
 pub record AreInitialsLost (accepts : AcceptsTag) (now : Moment) (bytes : List ℕ) (old new : Handshake) (learned : Option (List ℕ)) : Type 0 where
   pub rest : List ℕ
   pub mid : Handshake

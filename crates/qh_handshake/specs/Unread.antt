@@ -1,4 +1,5 @@
--- What was read of a packet when memory is wanting: its frames can all be read, and none of those that were taken is at fault.
+-- What was read of a packet when memory is wanting: its frames can all be read, and none of those that were taken, nor the one behind
+-- them, is at fault.
 use Rattle.std.specs.Prelude.{◌≡◌, ℕ, Bool, List, ◌++◌, Some, None}
 use Rattle.qh_base.specs.declared.time.Moment.{Moment}
 use Rattle.qh_frame.specs.FrameAt.{Begins}
@@ -25,9 +26,11 @@ pub data StopsUnrefused (now : ℕ) : (bytes : List ℕ) → InitialSpace → Ty
   behind : (bytes rest : List ℕ) (frame : Frame) (old mid : InitialSpace) → Begins bytes (plain_of frame) rest → frame_refusal old frame ≡ None → IsFrameTaken now old mid frame None
       → StopsUnrefused now rest mid → StopsUnrefused now bytes old
 
--- The packet is new, and its frames can all be read: its number isn't noted, or one of its frames isn't kept.
+-- The packet is new, and its frames can all be read: its number isn't noted, and its first frame isn't refused; or one of its frames isn't
+-- kept.
 pub data IsPacketUnread (now : Moment) (number : ℕ) (frames : List ℕ) (s : InitialSpace) : Type 0 where
-  unnoted : (is_eliciting : Bool) → IsNewTo s number → AreValidFrames frames is_eliciting → IsPacketUnread now number frames s
+  unnoted : (is_eliciting : Bool) (rest : List ℕ) (frame : Frame) → IsNewTo s number → AreValidFrames frames is_eliciting → Begins frames (plain_of frame) rest → frame_refusal s frame ≡ None
+      → IsPacketUnread now number frames s
   stopped : (mid : InitialSpace) (is_eliciting : Bool) → IsNewTo s number → AreValidFrames frames is_eliciting → IsAccepted now number is_eliciting s mid → StopsUnrefused now.0 frames mid
       → IsPacketUnread now number frames s
 

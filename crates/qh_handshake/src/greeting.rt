@@ -1,20 +1,19 @@
 ghost use Rattle.std.specs.Prelude.{◌≡◌, ◌⊎◌, ◌≤◌, ℕ, List, [], length, Option, Some, None, OnOk, OnErr, IfErr, IfOk, IfSome};
 ghost use Rattle.qh_base.specs.TransportFault.{IsFault};
 ghost use Rattle.qh_base.specs.declared.connection_error.ConnectionError.TheVariants.{Memory as Wanting, TransportError as Fault};
+ghost use Rattle.qh_base.specs.declared.transport_error.TransportError.{TransportError as ATransportError};
 ghost use Rattle.qh_handshake.specs.Handshake.{IsHandshake, ids_used};
 ghost use Rattle.qh_handshake.specs.Incoming.{IsHelloRead, IsHelloThere, Learns};
 ghost use Rattle.qh_handshake.specs.Unread.{IsHelloUnread};
-ghost use Rattle.qh_base.specs.declared.transport_error.TransportError.{TransportError as ATransportError};
 ghost use Rattle.qh_handshake.specs.declared.initial_space.HelloState.TheVariants.{Waits};
 ghost use Rattle.qh_handshake.specs.declared.initial_space.InitialSpace.{InitialSpace as ASpace};
 ghost use Rattle.qh_hello.specs.Greetings.{greeting};
 ghost use Rattle.qh_hello.specs.Refusals.{ids_of};
 ghost use Rattle.qh_hello.specs.declared.hello.HelloError.TheVariants as hello_error;
 ghost use Rattle.qh_hello.specs.declared.hello.HelloFault.{HelloFault as AHelloFault};
+ghost use Rattle.qh_spec.specs.Codes as codes;
 ghost use Rattle.qh_spec.specs.Hello.{IsSayable, hello_bytes, hello_of};
 ghost use Rattle.qh_spec.specs.declared.sides.Side.TheVariants.{Server};
-ghost use Rattle.qh_spec.specs.Codes as codes;
-ghost use Rattle.qh_spec.specs.Link.{other};
 
 use crate::{Handshake, HelloState};
 use bytes::Bytes;

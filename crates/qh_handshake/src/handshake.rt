@@ -1,5 +1,4 @@
-ghost use Rattle.std.specs.Prelude.{◌≡◌, ◌≤◌, [], None, Some, true, false, is_some, length, OnOk, IfOk, IsSomeAnd};
-ghost use Rattle.std.specs.Option.{option_map};
+ghost use Rattle.std.specs.Prelude.{◌≡◌, ◌≤◌, [], None, Some, true, false, is_some, length, IfOk, IsSomeAnd};
 ghost use Rattle.qh_handshake.specs.Handshake.{IsHandshake, with_origin};
 ghost use Rattle.qh_handshake.specs.InitialSpace.{IsUnused};
 ghost use Rattle.qh_handshake.specs.declared.initial_space.HelloState.TheVariants.{Held, Waits};

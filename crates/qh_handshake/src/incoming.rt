@@ -1,10 +1,9 @@
-ghost use Rattle.std.specs.Prelude.{◌≡◌, ◌⊎◌, ◌<◌, ◌≤◌, ◌^◌, ℕ, List, length, Option, Some, None, true, OnOk, OnErr, IfOk, IfErr, IfSome};
+ghost use Rattle.std.specs.Prelude.{◌≡◌, ◌⊎◌, ◌<◌, ◌≤◌, ◌^◌, ℕ, List, length, Option, Some, None, true, OnOk, IfOk, IfErr, IfSome};
 ghost use Rattle.qh_base.specs.declared.connection_error.ConnectionError.TheVariants.{Memory as Wanting};
 ghost use Rattle.qh_handshake.specs.Handshake.{IsHandshake};
 ghost use Rattle.qh_handshake.specs.Incoming.{ArePacketsTaken, IsDatagramTaken, IsInitialTaken, IsOpenedBy, IsPacketHandled, IsSessionAfter, Learns, form_of, knowing};
 ghost use Rattle.qh_handshake.specs.Lost.{AreInitialsLost, IsLeft, IsLost};
 ghost use Rattle.qh_handshake.specs.Unread.{IsInitialUnread, IsPacketUnread};
-ghost use Rattle.qh_handshake.specs.declared.handshake.Handshake.{Handshake as AHandshake};
 ghost use Rattle.qh_handshake.specs.declared.initial_space.InitialSpace.{InitialSpace as ASpace};
 
 use crate::Handshake;

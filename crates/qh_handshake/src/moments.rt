@@ -1,9 +1,7 @@
-ghost use Rattle.std.specs.Prelude.{◌≡◌, ◌⊎◌, ◌<◌, ◌≤◌, ℕ, Some, None, true, false, MatchOption};
-ghost use Rattle.qh_base.specs.declared.time.Moment.{Moment as AMoment};
+ghost use Rattle.std.specs.Prelude.{◌≡◌, ℕ, MatchOption};
 ghost use Rattle.qh_handshake.specs.Handshake.{IsHandshake};
 ghost use Rattle.qh_handshake.specs.InitialSpace.{IsInitialSpace};
 ghost use Rattle.qh_handshake.specs.Moments.{AreLostByAge, IsDueAt, IsFirstDue, IsProbeMoment, IsTimedOut, is_awaited};
-ghost use Rattle.qh_handshake.specs.declared.initial_space.InitialSpace.{InitialSpace as ASpace};
 
 use crate::{Handshake, InitialSpace};
 use qh_base::{Moment, Side, earlier, is_due};
