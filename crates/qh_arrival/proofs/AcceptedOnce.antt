@@ -56,10 +56,10 @@ one_more p q xs ys space sender number frames same =
 
 module _ (accepts : AcceptsTag) (id : List ℕ) (sender : Side) where
   -- a datagram opens in one way
-  opened_once : (e f : ℕ) (d g : List ℕ) (m n : ℕ) (xs ys : List ℕ) → e ≡ f → d ≡ g → IsOpened accepts id sender e d m xs → IsOpened accepts id sender f g n ys → (m ≡ n) × (xs ≡ ys)
+  opened_once : (e f : ℕ) (d g : List ℕ) (m n : ℕ) (xs ys : List ℕ) → e ≡ f → d ≡ g → IsOpened accepts (length id) sender e d m xs → IsOpened accepts (length id) sender f g n ys → (m ≡ n) × (xs ≡ ys)
   opened_once e f d g m n xs ys same is p q =
-      let there : IsOpened accepts id sender e d n ys = rw (same, is) q in
-      let parts = parts_of accepts id sender e d p.packet n ys p.is.fits p.is.whole there in
+      let there : IsOpened accepts (length id) sender e d n ys = rw (same, is) q in
+      let parts = parts_of accepts (length id) sender e d p.packet n ys p.is.fits p.is.whole there in
       (meant_once e (be_value p.packet.number) (length p.packet.number) m n p.expanded parts.expanded, sym p.frames_are ∙ parts.frames_are)
 
   -- where one list has the packet as new, it is so in the other
@@ -85,7 +85,7 @@ module _ (accepts : AcceptsTag) (id : List ℕ) (sender : Side) where
   accepted_same ds es xs ys (taken fs f ps p e bytes before next opened are space from new) (dropped gs g qs e' before' next' never') same =
       let s = same_last fs gs f g same in
       let all = accepted_same fs gs ps qs before before' s.0 in
-      let there : IsOpened accepts id sender e' g p.number bytes = rw (sym (next_same ps qs e e' all next next'), sym s.1) opened in
+      let there : IsOpened accepts (length id) sender e' g p.number bytes = rw (sym (next_same ps qs e e' all next next'), sym s.1) opened in
       absurd (never' p.number bytes there)
   accepted_same ds es xs ys (repeated fs f _ _ _ _ _ _ _ _) none same = absurd (never_empty fs f (sym same))
   accepted_same ds es xs ys (repeated fs f ps e number bytes before next opened old) (taken gs g qs q e' bytes' before' next' opened' are' space' from' new') same =
@@ -99,18 +99,18 @@ module _ (accepts : AcceptsTag) (id : List ℕ) (sender : Side) where
   accepted_same ds es xs ys (repeated fs f ps e number bytes before next opened old) (dropped gs g qs e' before' next' never') same =
       let s = same_last fs gs f g same in
       let all = accepted_same fs gs ps qs before before' s.0 in
-      let there : IsOpened accepts id sender e' g number bytes = rw (sym (next_same ps qs e e' all next next'), sym s.1) opened in
+      let there : IsOpened accepts (length id) sender e' g number bytes = rw (sym (next_same ps qs e e' all next next'), sym s.1) opened in
       absurd (never' number bytes there)
   accepted_same ds es xs ys (dropped fs f _ _ _ _ _) none same = absurd (never_empty fs f (sym same))
   accepted_same ds es xs ys (dropped fs f ps e before next never) (taken gs g qs q e' bytes' before' next' opened' are' space' from' new') same =
       let s = same_last fs gs f g same in
       let all = accepted_same fs gs ps qs before before' s.0 in
-      let there : IsOpened accepts id sender e f q.number bytes' = rw (next_same ps qs e e' all next next', s.1) opened' in
+      let there : IsOpened accepts (length id) sender e f q.number bytes' = rw (next_same ps qs e e' all next next', s.1) opened' in
       absurd (never q.number bytes' there)
   accepted_same ds es xs ys (dropped fs f ps e before next never) (repeated gs g qs e' number' bytes' before' next' opened' old') same =
       let s = same_last fs gs f g same in
       let all = accepted_same fs gs ps qs before before' s.0 in
-      let there : IsOpened accepts id sender e f number' bytes' = rw (next_same ps qs e e' all next next', s.1) opened' in
+      let there : IsOpened accepts (length id) sender e f number' bytes' = rw (next_same ps qs e e' all next next', s.1) opened' in
       absurd (never number' bytes' there)
   accepted_same ds es xs ys (dropped fs f ps e before next never) (dropped gs g qs e' before' next' never') same =
       let s = same_last fs gs f g same in

@@ -83,11 +83,10 @@ module _ (sealed : Side → Space → ℕ → List ℕ) (tags : MakesTags sealed
   fits = record { destination = refl; some_number = omega arith; short_number = omega arith; tag = tag_length tag from Data q.number (tags from q.number s.below) }
 
   module _ (accepts : Side → Space → ℕ → List ℕ → Bool) (e : ℕ) (told : IsTold e q.number) where
-    pub opens : AcceptsWhatIsMade accepts sealed → IsOpened accepts id from e d q.number s.bytes
+    pub opens : AcceptsWhatIsMade accepts sealed → IsOpened accepts (length id) from e d q.number s.bytes
     opens takes = record {
       packet = short;
       is = record { whole = whole; fits = fits };
-      destination_is = refl;
       expanded = expanded_four e q.number s.below (near_by e q.number s.below told);
       is_number = s.below;
       accepted = takes from q.number s.below;
@@ -95,7 +94,7 @@ module _ (sealed : Side → Space → ℕ → List ℕ) (tags : MakesTags sealed
     }
 
     -- and with no other number, and no other frames
-    pub opens_once : (number : ℕ) (frames : List ℕ) → IsOpened accepts id from e d number frames → (number ≡ q.number) × (s.bytes ≡ frames)
+    pub opens_once : (number : ℕ) (frames : List ℕ) → IsOpened accepts (length id) from e d number frames → (number ≡ q.number) × (s.bytes ≡ frames)
     opens_once number frames is =
-        let parts = parts_of accepts id from e d short number frames fits whole is in
+        let parts = parts_of accepts (length id) from e d short number frames fits whole is in
         (only_four e q.number number s.below (near_by e q.number s.below told) parts.expanded, parts.frames_are)

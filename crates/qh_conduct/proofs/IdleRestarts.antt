@@ -94,19 +94,18 @@ module _ (sealed : Side → Space → ℕ → List ℕ) (tags : MakesTags sealed
   fits = record { destination = refl; some_number = omega arith; short_number = omega arith; tag = tag_length tag from Data s.number (tags from s.number s.is_number) }
 
   module _ (accepts : Side → Space → ℕ → List ℕ → Bool) (e : ℕ) (least : e ≤ s.number) (small : s.number < 2 ^ 31) where
-    opens : AcceptsWhatIsMade accepts sealed → IsOpened accepts id from e d s.number s.frames
+    opens : AcceptsWhatIsMade accepts sealed → IsOpened accepts (length id) from e d s.number s.frames
     opens takes = record {
       packet = short;
       is = record { whole = whole; fits = fits };
-      destination_is = refl;
       expanded = expanded_four e s.number least small;
       is_number = s.is_number;
       accepted = takes from s.number s.is_number;
       frames_are = refl;
     }
 
-    opens_once : (number : ℕ) (frames : List ℕ) → IsOpened accepts id from e d number frames → number ≡ s.number
-    opens_once number frames is = only_four e s.number number least small (parts_of accepts id from e d short number frames fits whole is).expanded
+    opens_once : (number : ℕ) (frames : List ℕ) → IsOpened accepts (length id) from e d number frames → number ≡ s.number
+    opens_once number frames is = only_four e s.number number least small (parts_of accepts (length id) from e d short number frames fits whole is).expanded
 
 -- ---- the end that it is for
 

@@ -88,7 +88,7 @@ opened_first : (p : ShortPacket) (d : List ℕ) → d ≡ short_packet p → len
 opened_first p d e short = let first : get_or d 0 0 ≡ 63 + length p.number = ap (λ (z : List ℕ). get_or z 0 0) e in omega (arith, first, short)
 
 pub opened_frames : (accepts : Side → Space → ℕ → List ℕ → Bool) (destination : List ℕ) (from : Side) (expected : ℕ) (d : List ℕ) (number : ℕ) (bytes : List ℕ) (p : Packet)
-    → IsOpened accepts destination from expected d number bytes → HasPacket (length destination) p d → AreQuicFrames bytes p.frames
+    → IsOpened accepts (length destination) from expected d number bytes → HasPacket (length destination) p d → AreQuicFrames bytes p.frames
 opened_frames accepts destination from expected d number bytes p o (one_rtt b h) =
     let same = same_parts (length destination) o.packet h.short o.is.fits h.fits (sym o.is.whole ∙ h.whole) in
     subst (λ (z : List ℕ). AreQuicFrames z p.frames) (sym same.frames ∙ o.frames_are) h.content.frames

@@ -2,15 +2,15 @@
 use Rattle.std.proofs.Common.{◌≡◌, ℕ, Bool, true, false, List, [], ◌∷◌, Option, Some, None, refl, sym, ap, subst, ◌∙◌}
 use Rattle.qh_base.specs.TransportFault.{IsFault}
 use Rattle.std.specs.Option.{option_map}
-use Rattle.std.specs.Prelude.{◌||◌, OnErr, OnOk, Result, Ok, Err, is_err}
+use Rattle.std.specs.Prelude.{◌||◌, OnOk, Result, Ok, Err, is_err}
 use Rattle.qh_base.specs.declared.connection_error.ConnectionError.{ConnectionError}
 use Rattle.qh_base.specs.declared.connection_error.ConnectionError.TheVariants.{Memory, TransportError as Fault}
-use Rattle.qh_base.specs.declared.memory.Memory.{Memory as OutOfMemory}
 use Rattle.qh_base.specs.declared.time.Moment.{Moment}
 use Rattle.qh_base.specs.declared.transport_error.TransportError.{TransportError}
 use Rattle.qh_core.specs.Inner.{IsConnection, is_open}
-use Rattle.qh_core.specs.Receiving.{AreFramesTaken, GoesOnWith, IsAccepted, IsFaulted, IsNewTo, IsPacketHandled, IsPacketUnread, StopsUnrefused}
-use Rattle.qh_core.specs.Receiving.IsPacketHandled.{empty, faulty, taken, unnoted}
+use Rattle.qh_core.specs.Receiving.{AreFramesTaken, GoesOnWith, IsAccepted, IsDatagramTaken, IsFaulted, IsNewTo, IsPacketHandled, IsPacketTaken}
+use Rattle.qh_core.specs.Receiving.IsDatagramTaken.{dropped, handled, told_again, closed_too, draining, drained}
+use Rattle.qh_core.specs.Receiving.IsPacketHandled.{empty, faulty, unnoted}
 use Rattle.qh_core.specs.Timers.{restarted}
 use Rattle.qh_core.specs.declared.idle.IdleTimer.{IdleTimer}
 use Rattle.qh_core.specs.declared.inner.Inner.{Inner}
@@ -27,6 +27,8 @@ use Rattle.qh_recovery.specs.PendingAcks.{IsJoined}
 use Rattle.qh_space.specs.Space.{IsSpace}
 use Rattle.qh_space.specs.declared.data_space.DataSpace.{DataSpace}
 use Rattle.qh_spec.specs.Codes as codes
+use Rattle.qh_spec.specs.declared.sides.Side.{Side}
+use Rattle.qh_spec.specs.declared.sides.Space.{Space}
 
 -- its number is noted where memory wasn't wanting for that
 pub noted_by : {E : Type 0} (number : ℕ) (is_eliciting : Bool) (old mid : DataSpace) (answer : Result Unit E) → false ≡ is_err answer
@@ -60,23 +62,23 @@ module _ {S : Type 0} where
       }
 
   -- a packet whose number was noted is taken
-  pub noted_taken : (now : Moment) (number : ℕ) (frames : List ℕ) (old new : Inner S) (is_eliciting : Bool) (mid space : DataSpace) (end : Option ConnectionError) → IsNewTo old.space number
-      → AreValidFrames frames is_eliciting → IsAccepted number is_eliciting old.space mid → HasTaken now.0 frames mid space end → GoesOnWith now end (record old { space = space; idle = restarted now old.idle }) new
-      → IsPacketHandled now number frames old new
-  noted_taken now number frames old new is_eliciting mid space end fresh valid accepted t on =
-      taken fresh (record { is_eliciting = is_eliciting; surveyed = valid; mid = mid; accepted = accepted; space = space; taken = t.0; end = end; are_taken = t.1; goes_on = on })
+  pub noted_taken : (now : Moment) (number : ℕ) (frames : List ℕ) (old new : Inner S) (is_eliciting : Bool) (mid space : DataSpace) (end : Option ConnectionError) → AreValidFrames frames is_eliciting
+      → IsAccepted number is_eliciting old.space mid → HasTaken now.0 frames mid space end → GoesOnWith now end (record old { space = space; idle = restarted now old.idle }) new → IsPacketTaken now number frames old new
+  noted_taken now number frames old new is_eliciting mid space end valid accepted t on =
+      record { is_eliciting = is_eliciting; surveyed = valid; mid = mid; accepted = accepted; space = space; taken = t.0; end = end; are_taken = t.1; goes_on = on }
 
   -- one whose number couldn't be noted is read no farther than its first frame, if that is refused
-  pub unnoted_refused : (now : Moment) (number : ℕ) (frames : List ℕ) (old new : Inner S) (is_eliciting : Bool) (mid : DataSpace) (answer : Result Unit OutOfMemory) → IsNewTo old.space number
-      → AreValidFrames frames is_eliciting → mid ≡ old.space
-      → OnOk answer ((e : TransportError) × AreFramesTaken now.0 frames mid mid [] (Some (Fault e)) × IsFaulted now e (record old { space = mid }) new) → OnOk answer (IsPacketHandled now number frames old new)
-  unnoted_refused now number frames old new is_eliciting mid (Ok done) fresh valid same r =
+  pub unnoted_refused : (now : Moment) (number : ℕ) (frames : List ℕ) (old new : Inner S) (is_eliciting : Bool) (mid : DataSpace) → IsNewTo old.space number → AreValidFrames frames is_eliciting → mid ≡ old.space
+      → (e : TransportError) × AreFramesTaken now.0 frames mid mid [] (Some (Fault e)) × IsFaulted now e (record old { space = mid }) new → IsPacketHandled now number frames old new
+  unnoted_refused now number frames old new is_eliciting mid fresh valid same r =
       let refused = subst (λ (s : DataSpace). (e : TransportError) × AreFramesTaken now.0 frames s s [] (Some (Fault e)) × IsFaulted now e (record old { space = s }) new) same r in
       unnoted refused.0 is_eliciting fresh valid refused.1 refused.2
-  unnoted_refused now number frames old new is_eliciting mid (Err e) fresh valid same r = tt
 
-  -- memory was wanting for a packet
-  pub unread_at : (now : Moment) (number : ℕ) (frames : List ℕ) (old : Inner S) (is_eliciting : Bool) (mid : DataSpace) (answer : Result Unit OutOfMemory) → IsNewTo old.space number → AreValidFrames frames is_eliciting
-      → mid ≡ record old.space { dedup = mid.dedup; acks = mid.acks } → OnErr answer (StopsUnrefused now.0 frames mid) → OnErr answer (IsPacketUnread now number frames old)
-  unread_at now number frames old is_eliciting mid (Ok done) fresh valid is r = tt
-  unread_at now number frames old is_eliciting mid (Err e) fresh valid is r = record { is_new = fresh; is_eliciting = is_eliciting; surveyed = valid; mid = mid; mid_is = is; stops = r }
+  -- an end that isn't open takes nothing into its space
+  pub closed_space : (accepts : Side → Space → ℕ → List ℕ → Bool) (now : Moment) (datagram : List ℕ) (old new : Inner S) → IsDatagramTaken accepts now datagram old new → is_open old.state ≡ false → new.space ≡ old.space
+  closed_space accepts now d old new (dropped up none e) down = ap (λ (c : Inner S). c.space) e
+  closed_space accepts now d old new (handled number bytes up opened h) down = absurd (let both : true ≡ false = sym up ∙ down in cc)
+  closed_space accepts now d old new (told_again reason is_due until is none e) down = ap (λ (c : Inner S). c.space) e
+  closed_space accepts now d old new (closed_too reason is_due until is brings e) down = ap (λ (c : Inner S). c.space) e
+  closed_space accepts now d old new (draining until is e) down = ap (λ (c : Inner S). c.space) e
+  closed_space accepts now d old new (drained is e) down = ap (λ (c : Inner S). c.space) e

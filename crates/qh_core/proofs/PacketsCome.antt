@@ -1,8 +1,7 @@
 -- What is handed in from outside: how the connection stands to all that was done then.
 use Rattle.std.proofs.Common.{◌≡◌, ℕ, Bool, true, false, List, [], ◌∷◌, ◌++◌, length, Option, Some, None, refl, sym, ap, subst, ◌∙◌, inl, inr}
 use Rattle.std.proofs.lemmas.List.{append-nil}
-use Rattle.std.specs.Prelude.{MatchBool, OnErr, OnOk, Result, Ok, Err}
-use Rattle.std.specs.declared.net.socket_addr.SocketAddr.{SocketAddr}
+use Rattle.std.specs.Prelude.{OnErr, OnOk, Result, Ok, Err}
 use Rattle.qh_base.specs.declared.connection_error.ConnectionError.{ConnectionError}
 use Rattle.qh_base.specs.declared.connection_error.ConnectionError.TheVariants as error
 use Rattle.qh_base.specs.declared.memory.Memory.{Memory as OutOfMemory}
@@ -15,14 +14,13 @@ use Rattle.qh_core.proofs.Followed.{FollowsOf, carried_on, space_follows, unchan
 use Rattle.qh_core.proofs.Following.{close_follows}
 use Rattle.qh_core.proofs.FramesCome.{frames_follow}
 use Rattle.qh_core.specs.Follows.{Following, Follows, HasFrame, HasNumber, event_acts}
-use Rattle.qh_core.specs.Inner.{IsConnection, IsFailedBy, IsSameEnd, counted, is_open}
-use Rattle.qh_core.specs.Receiving.{GoesOnWith, HasContent, HasWhatOpens, IsClosedWith, IsFaulted, IsDatagramTaken, IsEventTaken, IsPacketHandled, IsPacketTaken, received}
+use Rattle.qh_core.specs.Inner.{IsConnection, IsFailedBy, IsSameEnd, is_open}
+use Rattle.qh_core.specs.Receiving.{GoesOnWith, HasContent, HasWhatOpens, IsClosedWith, IsFaulted, IsDatagramTaken, IsPacketHandled, IsPacketTaken}
 use Rattle.qh_core.specs.Receiving.IsDatagramTaken.{dropped, handled, told_again, closed_too, draining, drained}
 use Rattle.qh_core.specs.Receiving.IsPacketHandled.{repeated, empty, faulty, unnoted, taken}
 use Rattle.qh_core.specs.declared.event.ConnectionEvent.{ConnectionEvent}
-use Rattle.qh_core.specs.declared.event.ConnectionEvent.TheVariants.{Datagram, Close}
+use Rattle.qh_core.specs.declared.event.ConnectionEvent.TheVariants.{Close}
 use Rattle.qh_core.specs.declared.inner.Inner.{Inner}
-use Rattle.qh_core.specs.declared.state.Close.{Close as CloseReason}
 use Rattle.qh_core.specs.declared.state.Close.TheVariants.{Application}
 use Rattle.qh_core.specs.declared.stats.UdpStats.{UdpStats}
 use Rattle.qh_space.specs.declared.data_space.DataSpace.{DataSpace}
@@ -102,24 +100,6 @@ module _ {S : Type 0} where
         packet_follows now number bytes datagram old new t a has
         (subst (λ (s : DataSpace). FollowsOf old.side (length old.local_id) (length old.remote_id) old.config s (t ++ HandedIn datagram ∷ [])) (sym same) h)
 
-    handled_end : (number : ℕ) (bytes : List ℕ) (old new : Inner S) → IsPacketHandled now number bytes old new → IsSameEnd old new
-    handled_end number bytes old new (repeated is e) = GoesTo.same (rw e (parts refl refl refl refl refl))
-    handled_end number bytes old new (empty fault is no_byte says f) = (faulted now fault old new f).same
-    handled_end number bytes old new (faulty fault kind is at says f) = (faulted now fault old new f).same
-    handled_end number bytes old new (unnoted fault eliciting is read at f) = (faulted now fault old new f).same
-    handled_end number bytes old new (taken is a) =
-        let to = goes_on now a.end _ new a.goes_on in
-        record { side = to.same.side; local_id = to.same.local_id; remote_id = to.same.remote_id; config = to.same.config }
-
-    -- what each way leaves, but for a packet that is handled
-    datagram_to : (old new : Inner S) → IsDatagramTaken accepts now datagram old new → IsSameEnd old new
-    datagram_to old new (dropped up none e) = GoesTo.same (rw e (parts refl refl refl refl refl))
-    datagram_to old new (handled number bytes up opened h) = handled_end number bytes old new h
-    datagram_to old new (told_again reason is_due until is none e) = GoesTo.same (rw e (parts refl refl refl refl refl))
-    datagram_to old new (closed_too reason is_due until is brings e) = GoesTo.same (rw e (parts refl refl refl refl refl))
-    datagram_to old new (draining until is e) = GoesTo.same (rw e (parts refl refl refl refl refl))
-    datagram_to old new (drained is e) = GoesTo.same (rw e (parts refl refl refl refl refl))
-
     datagram_follows : (old new : Inner S) (t : List Act) → IsDatagramTaken accepts now datagram old new → (is_open old.state ≡ true → old.error ≡ None)
         → (is_open old.state ≡ true → HasWhatOpens accepts old datagram)
         → Following old t → Following new (t ++ HandedIn datagram ∷ [])
@@ -130,37 +110,6 @@ module _ {S : Type 0} where
     datagram_follows old new t (draining until is e) none has p = unmoved old new t datagram (rw e (parts refl refl refl refl refl)) (ap (λ (c : Inner S). c.error) e) p
     datagram_follows old new t (drained is e) none has p = unmoved old new t datagram (rw e (parts refl refl refl refl refl)) (ap (λ (c : Inner S). c.error) e) p
 
-  -- ---- what is handed in from outside
-
-  closes : (up : Bool) (now : Moment) (reason : CloseReason) (old new : Inner S) → MatchBool up (IsClosedWith now reason error.LocallyClosed old new) (new ≡ old)
-      → GoesTo old new × ((up ≡ true → old.error ≡ None) → old.error ≡ Some error.Memory → new.error ≡ Some error.Memory)
-  closes true now reason old new c = (rw c.rest_is (parts refl refl refl refl refl), λ none failed. none_some _ old.error error.Memory (none refl) failed)
-  closes false now reason old new e = (rw e (parts refl refl refl refl refl), λ none failed. ap (λ (c : Inner S). c.error) e ∙ failed)
-
-  -- what is counted changes nothing of it
-  counts_follow : (event : ConnectionEvent) (c : Inner S) (t : List Act) → Following c t → Following (received event c) t
-  counts_follow (Datagram now remote payload) c t p = unchanged c (received (Datagram now remote payload) c) t (record { side = refl; local_id = refl; remote_id = refl; config = refl }) refl (λ failed. failed) p
-  counts_follow (Close now code reason) c t p = p
-
-  -- each datagram that a connection opened has the packet
-  abbrev HasContents : (accepts : Side → Space → ℕ → List ℕ → Bool) → ConnectionEvent → Inner S → Type 0
-  HasContents accepts (Datagram now remote payload) c = is_open c.state ≡ true → HasWhatOpens accepts (received (Datagram now remote payload) c) payload
-  HasContents accepts (Close now code reason) c = Unit {0}
-
-  event_follows : (accepts : Side → Space → ℕ → List ℕ → Bool) (event : ConnectionEvent) (old new : Inner S) (t : List Act) → IsEventTaken accepts event old new → IsConnection old → HasContents accepts event old
-      → Following old t → Following new (t ++ event_acts event)
-  event_follows accepts (Datagram now remote payload) old new t came c has p =
-      datagram_follows accepts now payload (received (Datagram now remote payload) old) new t came c.not_lost has (counts_follow (Datagram now remote payload) old t p)
-  event_follows accepts (Close now code reason) old new t came c has p =
-      let to = closes (is_open old.state) now (Application (record { error_code = code; reason = reason })) old new came in
-      behind_none (λ t. Following new t) t (unchanged old new t to.0.same to.0.space (to.1 c.not_lost) p)
-
-  pub event_end : (accepts : Side → Space → ℕ → List ℕ → Bool) (event : ConnectionEvent) (old new : Inner S) → IsEventTaken accepts event old new → IsSameEnd old new
-  event_end accepts (Datagram now remote payload) old new came =
-      let same = datagram_to accepts now payload (received (Datagram now remote payload) old) new came in
-      record { side = same.side; local_id = same.local_id; remote_id = same.remote_id; config = same.config }
-  event_end accepts (Close now code reason) old new came = (closes (is_open old.state) now (Application (record { error_code = code; reason = reason })) old new came).0.same
-
   -- ---- want of memory
 
   pub failed_end : (old new : Inner S) → IsFailedBy old new → IsSameEnd old new
@@ -169,33 +118,27 @@ module _ {S : Type 0} where
   pub failed_follows : (old new : Inner S) (t : List Act) → IsFailedBy old new → Following old t → Following new t
   failed_follows old new t f p = carried_on old new t p.space (failed_end old new f) (inl (ap (λ (c : Inner S). c.error) f.rest_is)) (space_follows old t p)
 
-  event_failed : (event : ConnectionEvent) (old new : Inner S) (t : List Act) → IsFailedBy (received event old) new → Following old t → Following new (t ++ event_acts event)
-  event_failed (Datagram now remote payload) old new t f p =
-      let c : Inner S = received (Datagram now remote payload) old in
-      let q = counts_follow (Datagram now remote payload) old t p in
-      carried_on c new (t ++ HandedIn payload ∷ []) q.space (failed_end c new f) (inl (ap (λ (c : Inner S). c.error) f.rest_is)) (arrived c t payload q)
-  event_failed (Close now code reason) old new t f p = behind_none (λ t. Following new t) t (failed_follows old new t f p)
+  -- ---- a datagram came, and was counted
 
-  -- ---- whatever it answers
+  -- what is counted changes nothing of it
+  counts_follow : (c : Inner S) (counts : UdpStats) (t : List Act) → Following c t → Following (record c { udp_rx = counts }) t
+  counts_follow c counts t p = unchanged c (record c { udp_rx = counts }) t (record { side = refl; local_id = refl; remote_id = refl; config = refl }) refl (λ failed. failed) p
 
-  module _ (accepts : Side → Space → ℕ → List ℕ → Bool) (event : ConnectionEvent) (old new : Inner S) where
-    following : (answer : Result Unit OutOfMemory) → OnOk answer (IsEventTaken accepts event old new) → OnErr answer (IsFailedBy (received event old) new) → IsConnection old → HasContents accepts event old
-        → (t : List Act) → Following old t → Following new (t ++ event_acts event)
-    following (Ok x) ok err c has t p = event_follows accepts event old new t ok c has p
-    following (Err e) ok err c has t p = event_failed event old new t err p
+  datagram_failed : (c new : Inner S) (t : List Act) (datagram : List ℕ) → IsFailedBy c new → Following c t → Following new (t ++ HandedIn datagram ∷ [])
+  datagram_failed c new t datagram f p = carried_on c new (t ++ HandedIn datagram ∷ []) p.space (failed_end c new f) (inl (ap (λ (c : Inner S). c.error) f.rest_is)) (arrived c t datagram p)
 
-    handled_event_follows : (answer : Result Unit OutOfMemory) → OnOk answer (IsEventTaken accepts event old new) → OnErr answer (IsFailedBy (received event old) new) → IsConnection old → HasContents accepts event old
-        → (t : List Act) → Follows old t → Follows new (t ++ event_acts event)
+  module _ {A : Type 0} (accepts : Side → Space → ℕ → List ℕ → Bool) (now : Moment) (datagram : List ℕ) (old new : Inner S) (counts : UdpStats) where
+    following : (answer : Result A OutOfMemory) → OnOk answer (IsDatagramTaken accepts now datagram (record old { udp_rx = counts }) new)
+        → OnErr answer (IsFailedBy (record old { udp_rx = counts }) new) → (is_open old.state ≡ true → HasWhatOpens accepts (record old { udp_rx = counts }) datagram) → IsConnection old
+        → (t : List Act) → Following old t → Following new (t ++ HandedIn datagram ∷ [])
+    following (Ok x) ok err has c t p = datagram_follows accepts now datagram (record old { udp_rx = counts }) new t ok c.not_lost has (counts_follow old counts t p)
+    following (Err e) ok err has c t p = datagram_failed (record old { udp_rx = counts }) new t datagram err (counts_follow old counts t p)
+
+    pub handled_datagram_follows : (answer : Result A OutOfMemory) → OnOk answer (IsDatagramTaken accepts now datagram (record old { udp_rx = counts }) new)
+        → OnErr answer (IsFailedBy (record old { udp_rx = counts }) new) → (is_open old.state ≡ true → HasWhatOpens accepts (record old { udp_rx = counts }) datagram) → IsConnection old
+        → (t : List Act) → Follows old t → Follows new (t ++ HandedIn datagram ∷ [])
     unfolding Follows
-    handled_event_follows answer ok err c has t p = following answer ok err c has t p
-
-  -- a datagram came, and was counted
-  pub datagram_event_follows : (accepts : Side → Space → ℕ → List ℕ → Bool) (event : ConnectionEvent) (old new : Inner S) (now : Moment) (remote : SocketAddr) (payload bytes : List ℕ) (size : ℕ) (counts : UdpStats)
-      (answer : Result Unit OutOfMemory) → event ≡ Datagram now remote payload → bytes ≡ payload → size ≡ length payload → counts ≡ counted size old.udp_rx
-      → OnOk answer (IsDatagramTaken accepts now bytes (record old { udp_rx = counts }) new) → OnErr answer (IsFailedBy (record old { udp_rx = counts }) new)
-      → (is_open old.state ≡ true → HasWhatOpens accepts (record old { udp_rx = counts }) bytes) → IsConnection old → (t : List Act) → Follows old t → Follows new (t ++ event_acts event)
-  datagram_event_follows accepts event old new now remote payload bytes size counts answer event_is bytes_are size_is counts_are ok err has c t f =
-      rw event_is (handled_event_follows accepts (Datagram now remote payload) old new answer (rw (bytes_are, counts_are, size_is) at ok) (rw (counts_are, size_is) at err) c (rw (bytes_are, counts_are, size_is) at has) t f)
+    handled_datagram_follows answer ok err has c t p = following answer ok err has c t p
 
   -- the application closed
   pub close_event_follows : (event : ConnectionEvent) (old new : Inner S) (now : Moment) (code : ℕ) (reason : List ℕ) → event ≡ Close now code reason

@@ -2,7 +2,6 @@
 use Rattle.std.proofs.Common.{◌≡◌, ℕ, Bool, true, false, List, length, Option, Some, None, refl, sym, ap, subst, ◌∙◌, inl, inr}
 use Rattle.std.proofs.lemmas.Option.{same_Some}
 use Rattle.std.specs.Prelude.{OnOk, Result, Ok, Err, if◌then◌else◌, nat_lt}
-use Rattle.std.specs.declared.net.socket_addr.SocketAddr.{SocketAddr}
 use Rattle.qh_base.specs.declared.connection_error.ConnectionError.{ConnectionError}
 use Rattle.qh_base.specs.declared.connection_error.ConnectionError.TheVariants as error
 use Rattle.qh_base.specs.declared.memory.Memory.{Memory as OutOfMemory}
@@ -17,7 +16,7 @@ use Rattle.qh_core.proofs.Transmitted.{IsTransmitted}
 use Rattle.qh_core.specs.Event.{IsPolledEvent}
 use Rattle.qh_core.specs.Event.IsPolledEvent.{stream, lost, none as nothing}
 use Rattle.qh_core.specs.Inner.{HaveSameCounts, with_streams}
-use Rattle.qh_core.specs.Receiving.{GoesOnWith, IsDatagramTaken, IsFaulted, IsPacketHandled, IsPacketTaken, handed_at}
+use Rattle.qh_core.specs.Receiving.{GoesOnWith, IsDatagramTaken, IsFaulted, IsPacketHandled, IsPacketTaken}
 use Rattle.qh_core.specs.Receiving.IsDatagramTaken.{dropped, handled, told_again, closed_too, draining, drained}
 use Rattle.qh_core.specs.Receiving.IsPacketHandled.{repeated, empty, faulty, unnoted, taken}
 use Rattle.qh_core.specs.Sending.{AreFramesMade}
@@ -26,8 +25,6 @@ use Rattle.qh_core.specs.Timers.{IsKeptByTimers, IsTimedOut, IsUndisturbed, Runs
 use Rattle.qh_core.specs.Timers.IsTimedOut.{idle, recovery, closed, draining as draining_over, waits, drained as drained_still}
 use Rattle.qh_core.specs.declared.control.ControlFrame.{ControlFrame}
 use Rattle.qh_core.specs.declared.control.ControlSent.{ControlSent}
-use Rattle.qh_core.specs.declared.event.ConnectionEvent.{ConnectionEvent}
-use Rattle.qh_core.specs.declared.event.ConnectionEvent.TheVariants.{Datagram}
 use Rattle.qh_core.specs.declared.event.Event.{Event}
 use Rattle.qh_core.specs.declared.idle.IdleTimer.{IdleTimer}
 use Rattle.qh_core.specs.declared.inner.Inner.{Inner}
@@ -99,12 +96,12 @@ module _ {S : Type 0} where
   datagram_undisturbed accepts now d old new (drained is e) = same_undisturbed now old new e
 
   -- a datagram came, and was counted
-  pub datagram_event_undisturbed : (accepts : Side → Space → ℕ → List ℕ → Bool) (event : ConnectionEvent) (old new : Inner S) (now : Moment) (remote : SocketAddr) (payload bytes : List ℕ) (counts : UdpStats)
-      (answer : Result Unit OutOfMemory) → event ≡ Datagram now remote payload → OnOk answer (IsDatagramTaken accepts now bytes (record old { udp_rx = counts }) new) → OnOk answer (IsUndisturbed (handed_at event) old new)
-  datagram_event_undisturbed accepts event old new now remote payload bytes counts (Ok _) is ok =
-      let u = datagram_undisturbed accepts now bytes (record old { udp_rx = counts }) new ok in
-      rw is (record { counts = u.counts; idle = u.idle; timed_out = u.timed_out })
-  datagram_event_undisturbed accepts event old new now remote payload bytes counts (Err e) is ok = tt
+  pub datagram_kept : {A : Type 0} (accepts : Side → Space → ℕ → List ℕ → Bool) (old new : Inner S) (now : Moment) (datagram : List ℕ) (counts : UdpStats) (answer : Result A OutOfMemory)
+      → OnOk answer (IsDatagramTaken accepts now datagram (record old { udp_rx = counts }) new) → OnOk answer (IsUndisturbed now old new)
+  datagram_kept accepts old new now datagram counts (Ok _) ok =
+      let u = datagram_undisturbed accepts now datagram (record old { udp_rx = counts }) new ok in
+      record { counts = u.counts; idle = u.idle; timed_out = u.timed_out }
+  datagram_kept accepts old new now datagram counts (Err e) ok = tt
 
   -- ---- what is handed out
 

@@ -120,11 +120,11 @@ module _ {S : Type 0} where
 
   -- ---- datagrams
 
-  -- the datagram is a 1-RTT packet for this end, by its id and its tag, with this number and these frames
+  -- the datagram is a 1-RTT packet for this end, by its form and its tag, with this number and these frames
   pub record IsOpenedBy (accepts : Side → Space → ℕ → List ℕ → Bool) (c : Inner S) (datagram : List ℕ) (number : ℕ) (frames : List ℕ) : Type 0 where
     pub expected : ℕ
     pub is_expected : IsExpectedOf c.space expected
-    pub is : IsOpened accepts c.local_id (other c.side) expected datagram number frames
+    pub is : IsOpened accepts (length c.local_id) (other c.side) expected datagram number frames
 
   -- the datagram has a 1-RTT packet of the peer's with this number and these frames
   abbrev pub HasContent : Inner S → (datagram : List ℕ) → (number : ℕ) → (frames : List QuicFrame) → Type 0
@@ -184,7 +184,15 @@ module _ {S : Type 0} where
     pub in_range : AllByRecursion IsInRange frames
     pub closes : list_any is_close frames ≡ true
 
-  -- What a datagram does. One that isn't a packet for this end, by its id and its tag, is dropped. An end that closed tells so
+  -- The datagram brings a packet that is accepted, with these frames, which are taken up to one that closes or is refused.
+  pub record BringsPacket (accepts : Side → Space → ℕ → List ℕ → Bool) (now : Moment) (datagram frames : List ℕ) (old new : Inner S) : Type 0 where
+    pub opened : is_open old.state ≡ true
+    pub number : ℕ
+    pub is : IsOpenedBy accepts old datagram number frames
+    pub is_new : IsNewTo old.space number
+    pub taken : IsPacketTaken now number frames old new
+
+  -- What a datagram does. One that isn't a packet for this end, by its form and its tag, is dropped. An end that closed tells so
   -- again, until the peer says that it closed too; an end that is drained, or that the peer closed, takes nothing.
   pub data IsDatagramTaken (accepts : Side → Space → ℕ → List ℕ → Bool) (now : Moment) (datagram : List ℕ) (old new : Inner S) : Type 0 where
     dropped : is_open old.state ≡ true → ((number : ℕ) (frames : List ℕ) → IsOpenedBy accepts old datagram number frames → ⊥) → new ≡ old → IsDatagramTaken accepts now datagram old new
@@ -197,9 +205,12 @@ module _ {S : Type 0} where
     draining : (until : Moment) → old.state ≡ Draining until → new ≡ old → IsDatagramTaken accepts now datagram old new
     drained : old.state ≡ Drained → new ≡ old → IsDatagramTaken accepts now datagram old new
 
-  -- a datagram that came is counted
+  -- a datagram of so many bytes that came is counted
+  abbrev pub counted_in : (size : ℕ) → Inner S → Inner S
+  counted_in size c = record c { udp_rx = counted size c.udp_rx }
+
   abbrev pub received : ConnectionEvent → Inner S → Inner S
-  received (Datagram now remote payload) c = record c { udp_rx = counted (length payload) c.udp_rx }
+  received (Datagram now remote payload) c = counted_in (length payload) c
   received (Close now code reason) c = c
 
   -- what is handed in from outside: a datagram, or the application closes, where the connection isn't closed yet

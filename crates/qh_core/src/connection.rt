@@ -1,11 +1,11 @@
-ghost use Rattle.std.specs.Prelude.{◌≡◌, ◌↔◌, ◌++◌, [], ℕ, List, true, false, not, None, is_some, OnOk, OnErr, IfOk, IfSome, MatchOption};
+ghost use Rattle.std.specs.Prelude.{◌≡◌, ◌↔◌, ◌++◌, [], ℕ, List, true, false, not, None, is_some, OnOk, OnErr, IfOk, IfSome, MatchOption, ◌∷◌, length};
 ghost use Rattle.qh_base.specs.declared.connection_error.ConnectionError.TheVariants.{LocallyClosed};
 ghost use Rattle.qh_core.specs.Event.{IsDrainedTold, IsPolledEvent, is_drained};
 ghost use Rattle.std.specs.List.{AllByRecursion};
 ghost use Rattle.qh_core.specs.Control.{MaySend};
 ghost use Rattle.qh_core.specs.Follows.{Follows, control_acts, event_acts, transmit_acts};
 ghost use Rattle.qh_core.specs.Inner.{HaveSameCounts, IsFailedBy, IsNewSpace, IsSameEnd, fresh_stats, is_client, is_open};
-ghost use Rattle.qh_core.specs.Receiving.{IsClosedWith, IsEventTaken, IsWantingFor, handed_at, received};
+ghost use Rattle.qh_core.specs.Receiving.{BringsPacket, IsClosedWith, IsDatagramTaken, IsDatagramUnread, IsEventTaken, IsWantingFor, counted_in, handed_at, received};
 ghost use Rattle.qh_core.specs.Sending.{BearsNoControl, ClosesReadBack, IsControlKept, IsControlSent, IsDatagramMade, MaySendControl, NothingIsSent};
 ghost use Rattle.qh_core.specs.Timers.{IsDueAt, IsFirstDue, IsKeptByTimers, IsTimedOut, IsUndisturbed};
 ghost use Rattle.qh_core.specs.declared.state.Close.TheVariants.{Application};
@@ -13,7 +13,7 @@ ghost use Rattle.qh_core.specs.declared.state.State.TheVariants.{Established};
 ghost use Rattle.qh_loss.specs.Owed.{AreOwed};
 ghost use Rattle.qh_recovery.specs.Rtt.{rtt_of};
 ghost use Rattle.qh_recovery.specs.SentPackets.{IsNext, packet_at};
-ghost use Rattle.qh_spec.specs.Transcript.{Act};
+ghost use Rattle.qh_spec.specs.Transcript.{Act, HandedIn};
 
 mod streams;
 
@@ -97,7 +97,7 @@ impl<S: Session> Connection<S> {
         }
     }
 
-    /// Takes what is handed in from outside. A datagram that isn't a packet for this end, by its id and its tag, is dropped, and
+    /// Takes what is handed in from outside. A datagram that isn't a packet for this end, by its form and its tag, is dropped, and
     /// a packet whose number isn't new. A packet without a frame and a frame at fault close the connection with PROTOCOL_VIOLATION,
     /// FRAME_ENCODING_ERROR or the code of the frame's refusal (RFC 9000, section 20.1). Want of memory ends the connection: the
     /// error that it keeps is Memory then, and what waited to be read is dropped. It is answered only for a packet whose number is
@@ -112,9 +112,8 @@ impl<S: Session> Connection<S> {
     {
         match event {
             ConnectionEvent::Datagram { now, payload, .. } => {
-                self.inner.udp_rx.count(payload.len());
-                self.inner
-                    .handle_datagram(self.alloc, now, payload.as_slice())
+                self.handle_datagram(now, payload.as_slice())?;
+                Ok(())
             }
             ConnectionEvent::Close {
                 now,
@@ -125,6 +124,26 @@ impl<S: Session> Connection<S> {
                 Ok(())
             }
         }
+    }
+
+    /// Takes a datagram as `handle_event` does, and answers the frames of the packet that was accepted, if one was: its number is new and
+    /// was noted, and its frames were taken up to one that closes or is refused. None if no packet was accepted: the space is as it was.
+    pub fn handle_datagram<'a>(
+        &mut self,
+        now: Moment,
+        datagram: &'a [u8],
+    ) -> Result<Option<&'a [u8]>, Memory>
+        ensures ok { OnOk result (IsDatagramTaken (S.accepts self.old.session) now datagram.now (counted_in (length datagram.now) self.old) self.new) }
+        ensures brings { IfOk result (λ o. IfSome o (λ frames. BringsPacket (S.accepts self.old.session) now datagram.now frames.now (counted_in (length datagram.now) self.old) self.new)) }
+        ensures none { IfOk result (λ o. o ≡ None → self.new.space ≡ self.old.space) }
+        ensures err { OnErr result (IsFailedBy (counted_in (length datagram.now) self.old) self.new) }
+        ensures wanting { OnErr result (IsDatagramUnread (S.accepts self.old.session) now datagram.now (counted_in (length datagram.now) self.old)) }
+        ensures follows { (t : List Act) → Follows self.old t → Follows self.new (t ++ HandedIn datagram.now ∷ []) }
+        ensures undisturbed { OnOk result (IsUndisturbed now self.old self.new) }
+        ensures same_end { IsSameEnd self.old self.new }
+    {
+        self.inner.udp_rx.count(datagram.len());
+        self.inner.handle_datagram(self.alloc, now, datagram)
     }
 
     /// Appends the next datagram to the buffer, and says where it goes. None exactly where nothing is to be sent: no ACK is due,

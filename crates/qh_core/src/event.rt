@@ -21,7 +21,7 @@ pub enum ConnectionEvent {
     /// A datagram that came for it.
     Datagram {
         now: Moment,
-        /// Where it came from. A datagram is known by its id and its tag alone: it is taken from wherever it comes.
+        /// Where it came from. A datagram is known by its tag alone: it is taken from wherever it comes, and to whichever id.
         remote: SocketAddr,
         payload: Bytes,
     },

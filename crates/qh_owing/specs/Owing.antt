@@ -38,7 +38,7 @@ pub record WasAccepted (accepts : AcceptsTag) (local_id : List ℕ) (datagrams :
   pub among : In datagram datagrams
   pub expected : ℕ
   pub bytes : List ℕ
-  pub opened : IsOpened accepts local_id sender expected datagram packet.number bytes
+  pub opened : IsOpened accepts (length local_id) sender expected datagram packet.number bytes
   pub are : AreQuicFrames bytes packet.frames
   pub has : HasPacket (length local_id) packet datagram
   pub space_is : packet.space ≡ Data
@@ -55,14 +55,14 @@ pub data AreAccepted (accepts : AcceptsTag) (local_id : List ℕ) (sender : Side
   none : AreAccepted accepts local_id sender [] []
   taken : (datagrams : List (List ℕ)) (datagram : List ℕ) (packets : List Packet) (packet : Packet) (expected : ℕ) (bytes : List ℕ)
       → AreAccepted accepts local_id sender datagrams packets → IsNextOf (numbers_of packets) expected
-      → IsOpened accepts local_id sender expected datagram packet.number bytes → AreQuicFrames bytes packet.frames → packet.space ≡ Data → packet.sender ≡ sender
+      → IsOpened accepts (length local_id) sender expected datagram packet.number bytes → AreQuicFrames bytes packet.frames → packet.space ≡ Data → packet.sender ≡ sender
       → IsNew (numbers_of packets) packet.number → AreAccepted accepts local_id sender (datagrams ++ datagram ∷ []) (packet ∷ packets)
   repeated : (datagrams : List (List ℕ)) (datagram : List ℕ) (packets : List Packet) (expected number : ℕ) (bytes : List ℕ)
       → AreAccepted accepts local_id sender datagrams packets → IsNextOf (numbers_of packets) expected
-      → IsOpened accepts local_id sender expected datagram number bytes → (IsNew (numbers_of packets) number → ⊥) → AreAccepted accepts local_id sender (datagrams ++ datagram ∷ []) packets
+      → IsOpened accepts (length local_id) sender expected datagram number bytes → (IsNew (numbers_of packets) number → ⊥) → AreAccepted accepts local_id sender (datagrams ++ datagram ∷ []) packets
   dropped : (datagrams : List (List ℕ)) (datagram : List ℕ) (packets : List Packet) (expected : ℕ)
       → AreAccepted accepts local_id sender datagrams packets → IsNextOf (numbers_of packets) expected
-      → ((number : ℕ) (bytes : List ℕ) → IsOpened accepts local_id sender expected datagram number bytes → ⊥) → AreAccepted accepts local_id sender (datagrams ++ datagram ∷ []) packets
+      → ((number : ℕ) (bytes : List ℕ) → IsOpened accepts (length local_id) sender expected datagram number bytes → ⊥) → AreAccepted accepts local_id sender (datagrams ++ datagram ∷ []) packets
 
 -- ---- what the peer acknowledged
 

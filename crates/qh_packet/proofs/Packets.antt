@@ -47,19 +47,17 @@ read_small bytes i n short all e are =
     subst (λ (m : ℕ). m < 256 ^ length bytes) (sym same) (be_small bytes short are)
 
 -- what is told of the packet's parts where it is opened
-pub record HasParts (accepts : Side → Space → ℕ → List ℕ → Bool) (id : List ℕ) (sender : Side) (expected : ℕ) (p : ShortPacket) (number : ℕ) (frames : List ℕ) : Type 0 where
-  pub destination : p.destination ≡ id
+pub record HasParts (accepts : Side → Space → ℕ → List ℕ → Bool) (sender : Side) (expected : ℕ) (p : ShortPacket) (number : ℕ) (frames : List ℕ) : Type 0 where
   pub expanded : IsExpanded expected (be_value p.number) (length p.number) number
   pub is_number : number < 2 ^ 62
   pub accepted : accepts sender Data number p.tag ≡ true
   pub frames_are : p.frames ≡ frames
 
-pub parts_of : (accepts : Side → Space → ℕ → List ℕ → Bool) (id : List ℕ) (sender : Side) (expected : ℕ) (datagram : List ℕ) (p : ShortPacket) (number : ℕ) (frames : List ℕ)
-    → IsShortPacket (length id) p → datagram ≡ short_packet p → IsOpened accepts id sender expected datagram number frames → HasParts accepts id sender expected p number frames
-parts_of accepts id sender expected datagram p number frames is whole q =
-    let same = same_parts (length id) p q.packet is q.is.fits (sym whole ∙ q.is.whole) in
+pub parts_of : (accepts : Side → Space → ℕ → List ℕ → Bool) (id_length : ℕ) (sender : Side) (expected : ℕ) (datagram : List ℕ) (p : ShortPacket) (number : ℕ) (frames : List ℕ)
+    → IsShortPacket id_length p → datagram ≡ short_packet p → IsOpened accepts id_length sender expected datagram number frames → HasParts accepts sender expected p number frames
+parts_of accepts id_length sender expected datagram p number frames is whole q =
+    let same = same_parts id_length p q.packet is q.is.fits (sym whole ∙ q.is.whole) in
     record {
-      destination = same.destination ∙ q.destination_is;
       expanded = subst (λ (b : List ℕ). IsExpanded expected (be_value b) (length b) number) (sym same.number) q.expanded;
       is_number = q.is_number;
       accepted = ap (λ (t : List ℕ). accepts sender Data number t) same.tag ∙ q.accepted;

@@ -24,11 +24,11 @@ pub record IsPacketOf (id_length : ℕ) (bytes : List ℕ) (p : ShortPacket) : T
   pub whole : bytes ≡ short_packet p
   pub fits : IsShortPacket id_length p
 
--- The datagram is a 1-RTT packet to this id whose tag is accepted for its sender and its number; these are its frames.
-pub record IsOpened (accepts : Side → Space → ℕ → List ℕ → Bool) (destination : List ℕ) (sender : Side) (expected : ℕ) (datagram : List ℕ) (number : ℕ) (frames : List ℕ) : Type 0 where
+-- The datagram is a 1-RTT packet to an end whose ids have this length, and its tag is accepted for its sender and its number; these are its
+-- frames.
+pub record IsOpened (accepts : Side → Space → ℕ → List ℕ → Bool) (id_length : ℕ) (sender : Side) (expected : ℕ) (datagram : List ℕ) (number : ℕ) (frames : List ℕ) : Type 0 where
   pub packet : ShortPacket
-  pub is : IsPacketOf (length destination) datagram packet
-  pub destination_is : packet.destination ≡ destination
+  pub is : IsPacketOf id_length datagram packet
   pub expanded : IsExpanded expected (be_value packet.number) (length packet.number) number
   pub is_number : number < 2 ^ 62
   pub accepted : accepts sender Data number packet.tag ≡ true

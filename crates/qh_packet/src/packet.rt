@@ -44,27 +44,25 @@ pub fn written_packet()
         → HasPacket id_length packet (header_bytes destination number ++ (frames ++ tag)) → (packet.space ≡ Data) × AreQuicFrames frames packet.frames }
 {}
 
-/// The 1-RTT packet that the bytes are, if it goes to this id, and its tag is accepted for its sender and its number. The whole
-/// number is read with `expected` as one more than the greatest that was accepted. None exactly if the bytes aren't one in form, a
-/// reserved bit is 1, the id is another, the number is 2^62 or more, or the tag isn't accepted (RFC 9000, sections 12.2, 17.1 and
-/// 17.3.1; the tag is own).
+/// The 1-RTT packet that the bytes are, at an end whose ids have this length, if its tag is accepted for its sender and its number.
+/// The id isn't looked at: whoever hands the bytes in has found the connection by it. The whole number is read with `expected` as
+/// one more than the greatest that was accepted. None exactly if the bytes aren't one in form, a reserved bit is 1, the number is
+/// 2^62 or more, or the tag isn't accepted (RFC 9000, sections 12.2, 17.1 and 17.3.1; the tag is own).
 pub fn open_packet<'a, S: Session>(
     session: &S,
     bytes: &'a [u8],
-    destination: &ConnectionId,
+    id_length: usize,
     sender: Side,
     expected: u64,
 ) -> Option<OneRttPacket<'a>>
-    requires { expected ≤ 2 ^ 62 }
-    ensures some { IfSome result (λ p. IsOpened (S.accepts session.now) destination.now sender expected bytes.now p.number p.frames.now) }
-    ensures none { result ≡ None → (number : ℕ) (frames : List ℕ) → IsOpened (S.accepts session.now) destination.now sender expected bytes.now number frames → ⊥ }
+    requires expected { expected ≤ 2 ^ 62 }
+    requires short { id_length ≤ 20 }
+    ensures some { IfSome result (λ p. IsOpened (S.accepts session.now) id_length sender expected bytes.now p.number p.frames.now) }
+    ensures none { result ≡ None → (number : ℕ) (frames : List ℕ) → IsOpened (S.accepts session.now) id_length sender expected bytes.now number frames → ⊥ }
     ensures has { IfSome result (λ p. (fs : List QuicFrame) → AreQuicFrames p.frames.now fs
-        → HasPacket (length destination.now) (record { space = Data; sender = sender; number = p.number; frames = fs }) bytes.now) }
+        → HasPacket id_length (record { space = Data; sender = sender; number = p.number; frames = fs }) bytes.now) }
 {
-    let packet = get_packet(bytes, destination.len())?;
-    if packet.destination != destination.bytes() {
-        return None;
-    }
+    let packet = get_packet(bytes, id_length)?;
     let number = expand(expected, number_of(packet.number), packet.number.len());
     if number >= 1 << 62 {
         return None;

@@ -1,3 +1,4 @@
+ghost use Rattle.std.proofs.Common.{ap};
 ghost use Rattle.std.specs.Prelude.{◌≡◌, ◌==◌, ℕ, ◌+◌, ◌<◌, ◌≤◌, ◌^◌, ◌++◌, List, Bool, true, Ok, not, length, drop, bytes_eq, is_some, IsTrue, IfSome};
 ghost use Rattle.qh_spec.specs.declared.sides.Side.{Side as End};
 ghost use Rattle.qh_spec.specs.declared.sides.Space.{Space as NumberSpace};
@@ -67,6 +68,12 @@ pub trait Session {
     fn handshake_data(&self) -> Option<Self::HandshakeData>
         ensures known { is_some result ≡ knows self.now }
         ensures name { IfSome result (λ d. told d ≡ name self.now) };
+
+    /// The key alone tells which tags it makes.
+    ghost sealed_by_key: { (s t : Self) → key s ≡ key t → sealed s ≡ sealed t };
+
+    /// And which it takes.
+    ghost accepts_by_key: { (s t : Self) → key s ≡ key t → accepts s ≡ accepts t };
 }
 
 /// A session without a cipher. Its tags are made of the key id, which is the client's first destination id, or after a
@@ -131,6 +138,10 @@ impl Session for PlainSession {
     ghost key = { λ s. s.key_id };
 
     ghost told = { λ d. d.server_name };
+
+    ghost sealed_by_key = { λ s t same. ap tag_bytes same };
+
+    ghost accepts_by_key = { λ s t same. ap (λ id from space number tag. bytes_eq tag (tag_bytes id from space number)) same };
 
     fn tag(&self, from: Side, space: Space, number: u64) -> [u8; 32] {
         tag_of(&self.key_id, from, space, number)

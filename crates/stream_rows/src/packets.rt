@@ -83,6 +83,11 @@ pub(crate) fn head_len(to: Side) -> usize {
     local_id(to).len().saturating_add(5)
 }
 
+/// Whether a packet to an end has a byte of its id at this place.
+pub(crate) fn is_of_id(to: Side, place: usize) -> bool {
+    0 < place && place <= local_id(to).len()
+}
+
 /// Appends the number and the frames of a datagram to an end; all its bytes where it isn't a packet as it has to be.
 pub(crate) fn put_packet(
     alloc: Global,

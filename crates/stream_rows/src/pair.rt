@@ -2,7 +2,9 @@
 use crate::answers::{find, put_either, put_form, put_maybe, put_ok, put_reason, put_text};
 use crate::calls::{ConnectionEnd, StreamCalls};
 use crate::link::{Fate, Link, TURN};
-use crate::packets::{Packet, TAG_LEN, head_len, id_of, local_id, peer_of, put_packet, session};
+use crate::packets::{
+    Packet, TAG_LEN, head_len, id_of, is_of_id, local_id, peer_of, put_packet, session,
+};
 use crate::settings::{Settings, varint_of};
 use bytes::Bytes;
 use qh_base::{ConnectionError, ConnectionId, FourTuple, Memory, Moment, Reason, Side};
@@ -373,7 +375,8 @@ impl Pair {
         self.hand_in_copy(alloc, packet.to, &datagram)
     }
 
-    // A packet comes with each byte changed in turn, and cut before each, but for the bytes of its frames, which no tag covers.
+    // A packet comes with each byte changed in turn, and cut before each, but for the bytes of its frames, which no tag covers. The bytes of
+    // the id aren't changed: the end may have another one of its length.
     fn hear_others(
         &mut self,
         alloc: Global,
@@ -412,7 +415,10 @@ impl Pair {
     ) -> Result<u64, RowFault> {
         let mut count = 0u64;
         for place in 0..datagram.len() {
-            if place < head_len(to) || place.saturating_add(TAG_LEN) >= datagram.len() {
+            if is_of_id(to, place) {
+                self.hand_in_copy(alloc, to, &datagram[..place])?;
+                count = count.saturating_add(1);
+            } else if place < head_len(to) || place.saturating_add(TAG_LEN) >= datagram.len() {
                 self.hear_other(alloc, to, datagram, place)?;
                 count = count.saturating_add(2);
             }

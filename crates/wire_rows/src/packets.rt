@@ -115,7 +115,7 @@ fn takes(
     Ok(true)
 }
 
-// To whom a packet goes, from whom it comes, and the number that is expected.
+// To an id of which length a packet goes, from whom it comes, and the number that is expected.
 #[derive(Clone, Copy)]
 struct Way {
     destination: ConnectionId,
@@ -136,7 +136,7 @@ fn read_way(alloc: Global, words: &mut Words<'_>) -> Result<Way, RowFault> {
 
 fn opened<'a>(session: &PlainSession, bytes: &'a [u8], way: &Way) -> Option<OneRttPacket<'a>> {
     let expected = way.expected.min(1 << 62);
-    open_packet(session, bytes, &way.destination, way.sender, expected)
+    open_packet(session, bytes, way.destination.len(), way.sender, expected)
 }
 
 fn open(

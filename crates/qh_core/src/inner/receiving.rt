@@ -5,7 +5,7 @@ ghost use Rattle.qh_base.specs.declared.connection_error.ConnectionError.TheVari
 ghost use Rattle.qh_base.specs.declared.time.Moment.{Moment as AMoment};
 ghost use Rattle.qh_base.specs.declared.transport_error.TransportError.{TransportError as ATransportError};
 ghost use Rattle.qh_core.specs.Inner.{IsConnection, IsFailedBy, is_open};
-ghost use Rattle.qh_core.specs.Receiving.{AreFramesTaken, BringsClose, GoesOnWith, HasContent, HasWhatOpens, IsAccepted, IsDatagramTaken, IsDatagramUnread, IsExpectedOf, IsFaulted, IsNewTo, IsOpenedBy, IsPacketHandled, IsPacketUnread, StopsUnrefused, is_close};
+ghost use Rattle.qh_core.specs.Receiving.{AreFramesTaken, BringsClose, BringsPacket, GoesOnWith, HasContent, HasWhatOpens, IsAccepted, IsDatagramTaken, IsDatagramUnread, IsExpectedOf, IsFaulted, IsNewTo, IsOpenedBy, IsPacketHandled, IsPacketTaken, IsPacketUnread, StopsUnrefused, is_close};
 ghost use Rattle.qh_frame.specs.Plain.{plain_of};
 ghost use Rattle.qh_frame.specs.Range.{IsInRange};
 ghost use Rattle.qh_frame.specs.TypeOf.{named};
@@ -29,15 +29,18 @@ use qh_streams::StreamFault;
 use std::alloc::Global;
 
 impl<S: Session> Inner<S> {
-    // Takes a datagram. After want of memory the connection has failed.
-    pub(crate) fn handle_datagram(
+    // Takes a datagram, and answers the frames of the packet that was accepted, if one was. After want of memory the connection has
+    // failed.
+    pub(crate) fn handle_datagram<'a>(
         &mut self,
         alloc: Global,
         now: Moment,
-        datagram: &[u8],
-    ) -> Result<(), Memory>
+        datagram: &'a [u8],
+    ) -> Result<Option<&'a [u8]>, Memory>
         requires { IsConnection self.old }
         ensures ok { OnOk result (IsDatagramTaken (S.accepts self.old.session) now datagram.now self.old self.new) }
+        ensures brings { IfOk result (λ o. IfSome o (λ frames. BringsPacket (S.accepts self.old.session) now datagram.now frames.now self.old self.new)) }
+        ensures none { IfOk result (λ o. o ≡ None → self.new.space ≡ self.old.space) }
         ensures has { is_open self.old.state ≡ true → HasWhatOpens (S.accepts self.old.session) self.old datagram.now }
         ensures err { OnErr result (IsFailedBy self.old self.new) }
         ensures wanting { OnErr result (IsDatagramUnread (S.accepts self.old.session) now datagram.now self.old) }
@@ -47,22 +50,23 @@ impl<S: Session> Inner<S> {
             State::Established => {}
             State::Closed { .. } => {
                 self.hear_closed(datagram);
-                return Ok(());
+                return Ok(None);
             }
-            State::Draining { .. } | State::Drained => return Ok(()),
+            State::Draining { .. } | State::Drained => return Ok(None),
         }
         let Some(packet) = self.open(datagram) else {
-            return Ok(());
+            return Ok(None);
         };
         let stats = self.stats();
-        if self
-            .handle_packet(alloc, now, packet.number, packet.frames)
-            .is_err()
-        {
+        let Ok(is_accepted) = self.handle_packet(alloc, now, packet.number, packet.frames) else {
             self.fail(alloc, stats);
             return Err(Memory);
+        };
+        if is_accepted {
+            Ok(Some(packet.frames))
+        } else {
+            Ok(None)
         }
-        Ok(())
     }
 
     // The packet that a datagram is, where it is one for this end.
@@ -74,7 +78,7 @@ impl<S: Session> Inner<S> {
         open_packet(
             &self.session,
             datagram,
-            &self.local_id,
+            self.local_id.len(),
             self.side.other(),
             self.space.dedup.next_expected(),
         )
@@ -115,30 +119,33 @@ impl<S: Session> Inner<S> {
 }
 
 impl<S> Inner<S> {
-    // A packet came whose tag was accepted. After want of memory some of it may have been taken.
+    // A packet came whose tag was accepted. Whether it is accepted: its number was noted, and its frames are taken up to one that
+    // closes or is refused. After want of memory some of it may have been taken.
     fn handle_packet(
         &mut self,
         alloc: Global,
         now: Moment,
         number: u64,
         frames: &[u8],
-    ) -> Result<(), Memory>
+    ) -> Result<bool, Memory>
         requires whole { IsConnection self.old }
         requires open { is_open self.old.state ≡ true }
         requires number { number < 2 ^ 62 }
         ensures ok { OnOk result (IsPacketHandled now number frames.now self.old self.new) }
+        ensures accepted { IfOk result (λ yes. yes ≡ true → IsNewTo self.old.space number × IsPacketTaken now number frames.now self.old self.new) }
+        ensures not { IfOk result (λ yes. yes ≡ false → self.new.space ≡ self.old.space) }
         ensures err { OnErr result (self.new ≡ record self.old { space = self.new.space; idle = self.new.idle }) }
         ensures wanting { OnErr result (IsPacketUnread now number frames.now self.old) }
         ensures connection { OnOk result (IsConnection self.new) }
     {
         if !self.space.dedup.is_new(number) {
-            return Ok(());
+            return Ok(false);
         }
         let surveyed = match validate_frames(frames) {
             Ok(surveyed) => surveyed,
             Err(fault) => {
                 self.close_by_fault(now, fault.transport_error());
-                return Ok(());
+                return Ok(false);
             }
         };
         if self
@@ -146,13 +153,14 @@ impl<S> Inner<S> {
             .accept(number, surveyed.is_ack_eliciting)
             .is_err()
         {
-            return self.refuse_unnoted(alloc, now, frames);
+            self.refuse_unnoted(alloc, now, frames)?;
+            return Ok(false);
         }
         self.idle.on_accepted(now);
         if let Some(error) = take_frames(&mut self.space, alloc, now, frames)? {
             self.end_by(now, error);
         }
-        Ok(())
+        Ok(true)
     }
 
     // Memory is wanting to note the number of a packet. A fault of its first frame closes all the same.

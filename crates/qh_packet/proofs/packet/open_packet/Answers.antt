@@ -1,28 +1,17 @@
-use Rattle.std.proofs.Common.{◌≡◌, ℕ, true, false, not, bytes_eq, length, refl, sym, ap, ◌∙◌, subst, arith}
-use Rattle.std.proofs.lemmas.Slice.Eq.{bytes_eq-Decides}
+use Rattle.std.proofs.Common.{◌≡◌, ℕ, true, false, length, refl, ap, ◌∙◌, arith}
 use Rattle.qh_recovery.proofs.PacketNumbers.{meant_once}
 use Rattle.qh_spec.specs.declared.sides.Space.TheVariants.{Data}
-use Rattle.qh_spec.specs.Packet.{IsShortPacket, be_value}
+use Rattle.qh_spec.specs.Packet.{be_value}
 use Rattle.qh_packet.specs.View.{packet_of}
 use Rattle.qh_packet.proofs.Packets.{parts_of, has_packet}
 use Rattle.qh_packet.proofs.packet.open_packet.Goals as goal
 
-pub returns-then-ne-clause-none : goal.returns-then-ne-clause-none
-returns-then-ne-clause-none g c =
-    let is = subst (λ (n : ℕ). IsShortPacket n (packet_of c.in_ok-packet.packet)) c.len.ensures.value c.in_ok-packet.ensures.found.0 in
-    λ given number frames q.
-    let parts = parts_of (g.S.Session.accepts c.args.session.now) c.args.destination.now c.args.sender c.args.expected c.args.bytes.now (packet_of c.in_ok-packet.packet) number frames is c.in_ok-packet.ensures.found.1 q in
-    let e : bytes_eq c.in_ok-packet.packet.destination.now c.bytes.result.now ≡ true = (bytes_eq-Decides c.in_ok-packet.packet.destination.now c.bytes.result.now).1 (parts.destination ∙ sym c.bytes.ensures.value) in
-    let same : true ≡ not (bytes_eq c.in_ok-packet.packet.destination.now c.bytes.result.now) = c.if-ne.ensures in
-    let f : true ≡ false = same ∙ ap not e in
-    cc
-
 pub returns-then-number-clause-none : goal.returns-then-number-clause-none
 returns-then-number-clause-none g c =
-    let is = subst (λ (n : ℕ). IsShortPacket n (packet_of c.in_ok-packet.packet)) c.len.ensures.value c.in_ok-packet.ensures.found.0 in
+    let is = c.in_ok-packet.ensures.found.0 in
     let expanded = rw c.number_of.ensures.value at c.expand-number.ensures.expanded in
     λ given number frames q.
-    let parts = parts_of (g.S.Session.accepts c.args.session.now) c.args.destination.now c.args.sender c.args.expected c.args.bytes.now (packet_of c.in_ok-packet.packet) number frames is c.in_ok-packet.ensures.found.1 q in
+    let parts = parts_of (g.S.Session.accepts c.args.session.now) c.args.id_length c.args.sender c.args.expected c.args.bytes.now (packet_of c.in_ok-packet.packet) number frames is c.in_ok-packet.ensures.found.1 q in
     let same = meant_once c.args.expected (be_value c.in_ok-packet.packet.number.now) (length c.in_ok-packet.packet.number.now) c.expand-number.result number expanded parts.expanded in
     let small = parts.is_number in
     let great = c.if-number.true in
@@ -30,10 +19,10 @@ returns-then-number-clause-none g c =
 
 pub returns-then-not-open-clause-none : goal.returns-then-not-open-clause-none
 returns-then-not-open-clause-none g c =
-    let is = subst (λ (n : ℕ). IsShortPacket n (packet_of c.in_ok-packet.packet)) c.len.ensures.value c.in_ok-packet.ensures.found.0 in
+    let is = c.in_ok-packet.ensures.found.0 in
     let expanded = rw c.number_of.ensures.value at c.expand-number.ensures.expanded in
     λ given number frames q.
-    let parts = parts_of (g.S.Session.accepts c.args.session.now) c.args.destination.now c.args.sender c.args.expected c.args.bytes.now (packet_of c.in_ok-packet.packet) number frames is c.in_ok-packet.ensures.found.1 q in
+    let parts = parts_of (g.S.Session.accepts c.args.session.now) c.args.id_length c.args.sender c.args.expected c.args.bytes.now (packet_of c.in_ok-packet.packet) number frames is c.in_ok-packet.ensures.found.1 q in
     let same = meant_once c.args.expected (be_value c.in_ok-packet.packet.number.now) (length c.in_ok-packet.packet.number.now) c.expand-number.result number expanded parts.expanded in
     let accepted : g.S.Session.accepts c.args.session.now c.args.sender Data c.expand-number.result c.in_ok-packet.packet.tag.now ≡ true =
     ap (λ (n : ℕ). g.S.Session.accepts c.args.session.now c.args.sender Data n c.in_ok-packet.packet.tag.now) same ∙ parts.accepted in
@@ -42,7 +31,7 @@ returns-then-not-open-clause-none g c =
 
 pub returns-clause-has : goal.returns-clause-has
 returns-clause-has g c =
-    let is = subst (λ (n : ℕ). IsShortPacket n (packet_of c.in_ok-packet.packet)) c.len.ensures.value c.in_ok-packet.ensures.found.0 in
+    let is = c.in_ok-packet.ensures.found.0 in
     let expanded = rw c.number_of.ensures.value at c.expand-number.ensures.expanded in
     let tagged = c.if-not-open.ensures.named refl (let b = c.if-number.false in omega arith) in
-    λ fs are. has_packet (length c.args.destination.now) c.args.bytes.now (packet_of c.in_ok-packet.packet) c.args.sender c.args.expected c.expand-number.result fs is c.in_ok-packet.ensures.found.1 tagged expanded are
+    λ fs are. has_packet c.args.id_length c.args.bytes.now (packet_of c.in_ok-packet.packet) c.args.sender c.args.expected c.expand-number.result fs is c.in_ok-packet.ensures.found.1 tagged expanded are

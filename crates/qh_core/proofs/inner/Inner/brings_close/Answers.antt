@@ -1,4 +1,4 @@
-use Rattle.std.proofs.Common.{◌≡◌, ℕ, List, Bool, true, false, sym, ◌∙◌, subst}
+use Rattle.std.proofs.Common.{◌≡◌, ℕ, List, Bool, true, false, length, sym, ◌∙◌, subst}
 use Rattle.std.specs.List.{list_any}
 use Rattle.qh_core.specs.Receiving.{IsOpenedBy, is_close}
 use Rattle.qh_core.specs.declared.inner.Inner.{Inner}
@@ -13,7 +13,7 @@ use Rattle.qh_spec.specs.declared.sides.Space.{Space}
 same_frames : {S : Type 0} (accepts : Side → Space → ℕ → List ℕ → Bool) (c : Inner S) (datagram : List ℕ) (n m : ℕ) (xs ys : List ℕ) → IsOpenedBy accepts c datagram n xs
     → IsOpenedBy accepts c datagram m ys → xs ≡ ys
 same_frames accepts c datagram n m xs ys o p =
-    sym o.is.frames_are ∙ (parts_of accepts c.local_id (other c.side) p.expected datagram o.is.packet m ys o.is.is.fits o.is.is.whole p.is).frames_are
+    sym o.is.frames_are ∙ (parts_of accepts (length c.local_id) (other c.side) p.expected datagram o.is.packet m ys o.is.is.fits o.is.is.whole p.is).frames_are
 
 pub returns-in-Some-clause-no : goal.returns-in-Some-clause-no
 returns-in-Some-clause-no g c = λ e b.

@@ -1,6 +1,7 @@
-use Rattle.std.proofs.Common.{Err, None, Some, ap, ◌∙◌}
+use Rattle.std.proofs.Common.{Err, None, Some, refl, ap, ◌∙◌}
 use Rattle.qh_core.proofs.Ends.{frames_keep_end, goes_on_whole, not_for_memory}
-use Rattle.qh_core.proofs.PacketSteps.{handled_faulty, noted_by, noted_taken, spaced_whole, unnoted_refused, unread_at}
+use Rattle.qh_core.proofs.PacketSteps.{handled_faulty, noted_by, noted_taken, spaced_whole, unnoted_refused}
+use Rattle.qh_core.specs.Receiving.IsPacketHandled.{taken}
 use Rattle.qh_core.specs.declared.idle.IdleTimer.{IdleTimer}
 use Rattle.qh_streams.proofs.PhasesWritten.{when_err}
 use Rattle.qh_core.proofs.inner.Inner.handle_packet.Goals as goal
@@ -31,26 +32,29 @@ returns-in_default-clause-connection g c =
 
 pub returns-then-is_err-clause-ok : goal.returns-then-is_err-clause-ok
 returns-then-is_err-clause-ok g c =
-    unnoted_refused c.args.now c.args.number c.args.frames.now c.args.self.now c.refuse_unnoted.new.self c.in-Ok.surveyed.is_ack_eliciting c.accept.new.self c.refuse_unnoted.result
-    (λ accepted remembers. (c.is_new.ensures accepted remembers).0 c.if-not-is_new.false) c.in-Ok.ensures.ok (when_err c.accept.result c.if-is_err.ensures.value c.accept.ensures.err) c.refuse_unnoted.ensures.ok
+    unnoted_refused c.args.now c.args.number c.args.frames.now c.args.self.now c.refuse_unnoted.new.self c.in-Ok.surveyed.is_ack_eliciting c.accept.new.self
+    (λ accepted remembers. (c.is_new.ensures accepted remembers).0 c.if-not-is_new.false) c.in-Ok.ensures.ok (when_err c.accept.result c.if-is_err.ensures.value c.accept.ensures.err) c.in_ok-refuse_unnoted.ensures.ok
 
-pub returns-then-is_err-clause-wanting : goal.returns-then-is_err-clause-wanting
-returns-then-is_err-clause-wanting g c =
-    unread_at c.args.now c.args.number c.args.frames.now c.args.self.now c.in-Ok.surveyed.is_ack_eliciting c.accept.new.self c.refuse_unnoted.result
-    (λ accepted remembers. (c.is_new.ensures accepted remembers).0 c.if-not-is_new.false) c.in-Ok.ensures.ok c.accept.ensures.rest c.refuse_unnoted.ensures.wanting
+pub returns-in-Some-clause-accepted : goal.returns-in-Some-clause-accepted
+returns-in-Some-clause-accepted g c = λ _.
+    let made = c.accept.ensures in (
+      λ accepted remembers. (c.is_new.ensures accepted remembers).0 c.if-not-is_new.false,
+      noted_taken c.args.now c.args.number c.args.frames.now c.args.self.now c.end_by.new.self c.in-Ok.surveyed.is_ack_eliciting c.accept.new.self c.take_frames.new.space (Some c.in-Some.error) c.in-Ok.ensures.ok
+          (noted_by c.args.number c.in-Ok.surveyed.is_ack_eliciting c.args.self.now.space c.accept.new.self c.accept.result c.if-is_err.ensures.value made.remembers made.acks made.due made.rest)
+          (rw c.in-Some.is at c.in_ok-error.ensures.ok) (rw c.on_accepted.ensures at c.end_by.ensures),
+    )
 
 pub returns-in-Some-clause-ok : goal.returns-in-Some-clause-ok
-returns-in-Some-clause-ok g c =
-    let made = c.accept.ensures in
-    noted_taken c.args.now c.args.number c.args.frames.now c.args.self.now c.end_by.new.self c.in-Ok.surveyed.is_ack_eliciting c.accept.new.self c.take_frames.new.space (Some c.in-Some.error)
-    (λ accepted remembers. (c.is_new.ensures accepted remembers).0 c.if-not-is_new.false) c.in-Ok.ensures.ok
-    (noted_by c.args.number c.in-Ok.surveyed.is_ack_eliciting c.args.self.now.space c.accept.new.self c.accept.result c.if-is_err.ensures.value made.remembers made.acks made.due made.rest)
-    (rw c.in-Some.is at c.in_ok-error.ensures.ok) (rw c.on_accepted.ensures at c.end_by.ensures)
+returns-in-Some-clause-ok g c = let is = returns-in-Some-clause-accepted g c refl in taken is.0 is.1
+
+pub returns-in_default-clause-accepted : goal.returns-in_default-clause-accepted
+returns-in_default-clause-accepted g c = λ _.
+    let made = c.accept.ensures in (
+      λ accepted remembers. (c.is_new.ensures accepted remembers).0 c.if-not-is_new.false,
+      noted_taken c.args.now c.args.number c.args.frames.now c.args.self.now _ c.in-Ok.surveyed.is_ack_eliciting c.accept.new.self c.take_frames.new.space None c.in-Ok.ensures.ok
+          (noted_by c.args.number c.in-Ok.surveyed.is_ack_eliciting c.args.self.now.space c.accept.new.self c.accept.result c.if-is_err.ensures.value made.remembers made.acks made.due made.rest)
+          (rw c.in_default.is at c.in_ok-error.ensures.ok) (ap (λ (i : IdleTimer). record c.args.self.now { space = c.take_frames.new.space; idle = i }) c.on_accepted.ensures),
+    )
 
 pub returns-in_default-clause-ok : goal.returns-in_default-clause-ok
-returns-in_default-clause-ok g c =
-    let made = c.accept.ensures in
-    noted_taken c.args.now c.args.number c.args.frames.now c.args.self.now _ c.in-Ok.surveyed.is_ack_eliciting c.accept.new.self c.take_frames.new.space None
-    (λ accepted remembers. (c.is_new.ensures accepted remembers).0 c.if-not-is_new.false) c.in-Ok.ensures.ok
-    (noted_by c.args.number c.in-Ok.surveyed.is_ack_eliciting c.args.self.now.space c.accept.new.self c.accept.result c.if-is_err.ensures.value made.remembers made.acks made.due made.rest)
-    (rw c.in_default.is at c.in_ok-error.ensures.ok) (ap (λ (i : IdleTimer). record c.args.self.now { space = c.take_frames.new.space; idle = i }) c.on_accepted.ensures)
+returns-in_default-clause-ok g c = let is = returns-in_default-clause-accepted g c refl in taken is.0 is.1

@@ -1,4 +1,4 @@
-use Rattle.std.proofs.Common.{◌≡◌, ℕ, Option, None, Some, IfNone, refl, sym, subst}
+use Rattle.std.proofs.Common.{◌≡◌, ℕ, Option, None, Some, IfNone, length, refl, sym, subst}
 use Rattle.qh_core.proofs.ExpectedNumbers.{one_expected}
 use Rattle.qh_core.proofs.inner.Inner.open.Goals as goal
 use Rattle.qh_packet.specs.Packet.{IsOpened}
@@ -16,5 +16,6 @@ returns-clause-none g c =
     if_none c.open_packet.result (λ none number frames o.
     let same = one_expected c.args.self.now.space o.expected c.next_expected.result o.is_expected c.next_expected.ensures.next in
     c.open_packet.ensures.none none number frames
-    (subst (λ (s : Side). IsOpened accepts id s c.next_expected.result c.args.datagram.now number frames) (sym c.other.ensures)
-    (subst (λ (n : ℕ). IsOpened accepts id (other c.args.self.now.side) n c.args.datagram.now number frames) same o.is)))
+    (subst (λ (k : ℕ). IsOpened accepts k c.other.result c.next_expected.result c.args.datagram.now number frames) (sym c.len.ensures.value)
+    (subst (λ (s : Side). IsOpened accepts (length id) s c.next_expected.result c.args.datagram.now number frames) (sym c.other.ensures)
+    (subst (λ (n : ℕ). IsOpened accepts (length id) (other c.args.self.now.side) n c.args.datagram.now number frames) same o.is))))
