@@ -5,7 +5,7 @@ ghost use Rattle.qh_hello.specs.Greetings.{greeting};
 ghost use Rattle.qh_spec.specs.Hello.{IsSayable};
 ghost use Rattle.qh_spec.specs.declared.sides.Side.TheVariants.{Client, Server};
 
-use crate::say::put_named;
+use crate::say::{MILLISECOND, put_named};
 use bytes::Bytes;
 use qh_base::{
     ConnectionClose, ConnectionError, ConnectionId, Memory, Moment, Reason, Side, Space, Span,
@@ -80,12 +80,12 @@ impl End {
         buf: &mut Vec<u8>,
     ) -> Result<bool, RowFault> {
         let mut handshake = mem::replace(&mut self.handshake, server(alloc));
-        let size = match code {
+        let is_sent = match code {
             Some(code) => close_by(&mut handshake, alloc, &self.session, code, buf)?,
             None => poll(&mut handshake, alloc, &self.session, now, buf)?,
         };
         self.handshake = handshake;
-        Ok(size.is_some())
+        Ok(is_sent)
     }
 
     /// A datagram comes: what comes of it.
@@ -104,6 +104,11 @@ impl End {
             }
             Err(error) => put_error(out, &error),
         }
+    }
+
+    /// Whether a datagram brings its peer's close.
+    pub(crate) fn brings_close(&self, datagram: &[u8]) -> bool {
+        self.handshake.brings_close(&self.session, datagram)
     }
 
     /// The tag of a packet of its own with this number.
@@ -183,6 +188,14 @@ impl End {
             None => Ok(()),
         }
     }
+
+    /// Appends what was counted and measured in its Initial space.
+    pub(crate) fn put_stats(&self, out: &mut Vec<u8>) -> Result<(), Memory> {
+        let stats = self.handshake.stats();
+        put_named(out, "lost ", stats.packets_lost)?;
+        put_named(out, " probes ", stats.probes)?;
+        put_named(out, " rtt ", stats.rtt.get().0 / MILLISECOND)
+    }
 }
 
 // No datagram came or went.
@@ -247,26 +260,29 @@ fn server(alloc: Global) -> Handshake
     Handshake::server(alloc, parameters, id(CLIENT), original, INITIAL_RTT, START)
 }
 
+// Whether a datagram was appended.
 fn poll(
     handshake: &mut Handshake,
     alloc: Global,
     session: &PlainSession,
     now: Moment,
     buf: &mut Vec<u8>,
-) -> Result<Option<usize>, Memory>
+) -> Result<bool, Memory>
     requires { IsHandshake handshake.old }
     ensures { OnOk result (IsHandshake handshake.new) }
 {
-    handshake.poll_transmit(alloc, session, now, buf)
+    let sent = handshake.poll_transmit(alloc, session, now, buf)?;
+    Ok(sent.is_some())
 }
 
+// Whether one was that closes.
 fn close_by(
     handshake: &mut Handshake,
     alloc: Global,
     session: &PlainSession,
     code: u64,
     buf: &mut Vec<u8>,
-) -> Result<Option<usize>, Memory>
+) -> Result<bool, Memory>
     requires { IsHandshake handshake.old }
     ensures { OnOk result (IsHandshake handshake.new) }
 {
@@ -275,7 +291,8 @@ fn close_by(
         frame: Some(6),
         reason: Reason::of(b"why"),
     };
-    handshake.transmit_close(alloc, session, &close, buf)
+    let sent = handshake.transmit_close(alloc, session, &close, buf)?;
+    Ok(sent.is_some())
 }
 
 // Answers how many bytes are left behind the Initial packets.

@@ -1,7 +1,7 @@
 //! Both ends of a handshake, and the datagrams between them.
 use crate::end::End;
 use crate::packets::tell_opened;
-use crate::say::{id, put_named, side};
+use crate::say::{MILLISECOND, id, put_named, side};
 use bytes::Bytes;
 use qh_base::{ConnectionId, Moment, Side};
 use qh_packet::put_initial;
@@ -11,8 +11,6 @@ use std::mem;
 
 // Frames that are made by hand have fewer bytes.
 const END: usize = 16_000;
-
-const MILLISECOND: u64 = 1_000_000;
 
 /// Both ends, the moment, and the datagrams so far.
 #[derive(Drop)]
@@ -85,8 +83,10 @@ impl Ends {
         let answered = match word {
             "give" => self.give(alloc, words, out),
             "hand" => self.hand(alloc, words, out),
+            "brings" => self.put_brings(alloc, words, out),
             "when" => self.put_due(words, out),
             "show" => self.put_state(words, out),
+            "stats" => self.put_stats(words, out),
             _ => return Ok(false),
         };
         answered?;
@@ -241,6 +241,25 @@ impl Ends {
         let side = side(words)?;
         self.end(side).put_state(out)?;
         Ok(())
+    }
+
+    fn put_stats(&mut self, words: &mut Words<'_>, out: &mut Vec<u8>) -> Result<(), RowFault> {
+        let side = side(words)?;
+        self.end(side).put_stats(out)?;
+        Ok(())
+    }
+
+    // SIDE BYTES: whether a datagram of these bytes would bring the peer's close.
+    fn put_brings(
+        &mut self,
+        alloc: Global,
+        words: &mut Words<'_>,
+        out: &mut Vec<u8>,
+    ) -> Result<(), RowFault> {
+        let side = side(words)?;
+        let payload = words.bytes(alloc)?;
+        let brings_close = self.end(side).brings_close(&payload);
+        Ok(put_text(out, if brings_close { "close" } else { "no" })?)
     }
 }
 

@@ -3,6 +3,9 @@ use qh_base::{ConnectionId, Memory, Side};
 use row_text::{RowFault, Words, put_bytes, put_number, put_text};
 use std::alloc::Global;
 
+/// A millisecond, in nanoseconds.
+pub(crate) const MILLISECOND: u64 = 1_000_000;
+
 /// The next word as a side.
 pub(crate) fn side(words: &mut Words<'_>) -> Result<Side, RowFault> {
     match words.next() {

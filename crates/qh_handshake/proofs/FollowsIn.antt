@@ -14,8 +14,9 @@ use Rattle.qh_frame.specs.FrameAt.{Begins}
 use Rattle.qh_frame.specs.Plain.{plain_of}
 use Rattle.qh_frame.specs.WrittenForm.{ack_values, or_frame, written_form}
 use Rattle.qh_frame.specs.declared.frame.Frame.{Frame}
-use Rattle.qh_handshake.proofs.FollowsOn.{SpaceFollows, loss_same, others_follow, same_both, same_by, same_follows, space_of}
+use Rattle.qh_handshake.proofs.FollowsOn.{SpaceFollows, without_counts, loss_same, others_follow, same_both, same_by, same_follows, space_of}
 use Rattle.qh_handshake.specs.Follows.{Follows, HasInitial, IsGreetedWith, IsItsHello, bytes_of}
+use Rattle.qh_handshake.specs.Handshake.{dropping}
 use Rattle.qh_handshake.specs.Incoming.{AreFramesTaken, ArePacketsTaken, Form, IsAccepted, IsDatagramTaken, IsHelloRead, IsHelloThere, IsInitialTaken, IsOpenedBy, IsPacketHandled, knowing, received}
 use Rattle.qh_handshake.specs.Incoming.AreFramesTaken.{none as none_taken, more as more_taken, closed as closed_taken, refused as refused_taken}
 use Rattle.qh_handshake.specs.Incoming.ArePacketsTaken.{done, more as one_more, ended as ended_by}
@@ -376,16 +377,16 @@ taken_follows accepts now datagram rest hello old new retried learned end t name
 
 -- memory is wanting for it, and the space isn't used any more
 pub lost_follows : (accepts : AcceptsTag) (now : Moment) (datagram hello : List ℕ) (old new : Handshake) (learned : Option (List ℕ)) (t : List Act) → NamesTags accepts
-    → IsLost accepts now datagram old new learned → Follows hello old t → Follows hello (record new { space = None }) (t ++ HandedIn datagram ∷ [])
+    → IsLost accepts now datagram old new learned → Follows hello old t → Follows hello (dropping new) (t ++ HandedIn datagram ∷ [])
 lost_follows accepts now datagram hello old new learned t names (retry_lost s source token may is e) p =
     let u = t ++ HandedIn datagram ∷ [] in
     let h = received (length datagram) old in
-    subst (λ (z : Handshake). Follows hello (record z { space = None }) u) (sym e)
-    (others_follow hello h u h.remote_id h.retry_id h.token h.knows_peer None (λ s is. absurd (none-some s is)) (heard_follows hello old t datagram p))
+    subst (λ (z : Handshake). Follows hello (dropping z) u) (sym e)
+    (without_counts hello h u (others_follow hello h u h.remote_id h.retry_id h.token h.knows_peer None (λ s is. absurd (none-some s is)) (heard_follows hello old t datagram p)))
 lost_follows accepts now datagram hello old new learned t names (initials_lost _ no_retry no_mismatch lost) p =
     let u = t ++ HandedIn datagram ∷ [] in
     let mid = lost.mid in
     let before = begun_in hello accepts names now datagram u (in_last_act t datagram) datagram lost.rest (received (length datagram) old) mid learned (λ id_length q has. has) lost.begun
     (heard_follows hello old t datagram p) in
-    subst (λ (z : Handshake). Follows hello (record z { space = None }) u) (sym lost.left.rest_is)
-    (others_follow hello mid u lost.form.source mid.retry_id mid.token true None (λ s is. absurd (none-some s is)) before)
+    subst (λ (z : Handshake). Follows hello (dropping z) u) (sym lost.left.rest_is)
+    (without_counts hello (knowing mid lost.form.source lost.left.space) u (others_follow hello mid u lost.form.source mid.retry_id mid.token true None (λ s is. absurd (none-some s is)) before))

@@ -3,7 +3,7 @@ use Rattle.std.proofs.Common.{◌≡◌, ◌⊎◌, ℕ, ◌+◌, ◌<◌, Bool,
 use Rattle.std.proofs.lemmas.Option.{none-some, same_Some}
 use Rattle.qh_base.specs.declared.time.Moment.{Moment}
 use Rattle.qh_handshake.specs.Follows.{Follows, HasInitial, IsFresh, IsItsHello}
-use Rattle.qh_handshake.specs.Handshake.{IsHandshake, with_origin}
+use Rattle.qh_handshake.specs.Handshake.{IsHandshake, dropping, with_origin}
 use Rattle.qh_handshake.specs.Moments.{AreLostByAge, IsProbed, IsTimedOut}
 use Rattle.qh_handshake.specs.Moments.AreLostByAge.{due as some_lost, not_yet as no_loss}
 use Rattle.qh_handshake.specs.Moments.IsProbed.{due as some_probe, not_yet as no_probe}
@@ -152,9 +152,29 @@ borne_fresh hello token h f = record {
   sent = f.sent;
 }
 
--- ---- the space is discarded
+-- ---- the space is dropped, or discarded
 
-pub discarded_follows : (hello : List ℕ) (h : Handshake) (t : List Act) → Follows hello h t → Follows hello (record h { space = None; is_validated = true }) t
+-- the counts that are kept of it say nothing here
+pub without_counts : (hello : List ℕ) (h : Handshake) (t : List Act) → Follows hello (record h { space = None }) t → Follows hello (dropping h) t
+without_counts hello h t p = record {
+  own = p.own;
+  kept = p.kept;
+  came = p.came;
+  greeted = p.greeted;
+  says = p.says;
+  answers = p.answers;
+  once = p.once;
+  numbers = p.numbers;
+  accepted = p.accepted;
+  received = p.received;
+  sent = p.sent;
+  limit = p.limit;
+}
+
+pub dropped_follows : (hello : List ℕ) (h : Handshake) (t : List Act) → Follows hello h t → Follows hello (dropping h) t
+dropped_follows hello h t p = without_counts hello h t (others_follow hello h t h.remote_id h.retry_id h.token h.knows_peer None (λ s is. absurd (none-some s is)) p)
+
+pub discarded_follows : (hello : List ℕ) (h : Handshake) (t : List Act) → Follows hello h t → Follows hello (record (dropping h) { is_validated = true }) t
 discarded_follows hello h t p = record {
   own = p.own;
   kept = λ s is. absurd (none-some s is);

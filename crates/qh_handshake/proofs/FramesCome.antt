@@ -33,7 +33,7 @@ pub record AreInRange (bytes : List ℕ) : Type 0 where
   pub in_range : AllByRecursion IsInRange frames
 
 -- so they are behind the first of them
-range_behind : (bytes rest : List ℕ) (form : QuicFrame) → AreInRange bytes → Begins bytes form rest → AreInRange rest
+pub range_behind : (bytes rest : List ℕ) (form : QuicFrame) → AreInRange bytes → Begins bytes form rest → AreInRange rest
 range_behind bytes rest form h b = behind h.frames h.are h.in_range where
   behind : (fs : List QuicFrame) → AreQuicFrames bytes fs → AllByRecursion IsInRange fs → AreInRange rest
   behind [] are all = absurd (omega (arith, frame_takes bytes rest form b, ap length are))
@@ -44,7 +44,7 @@ range_behind bytes rest form h b = behind h.frames h.are h.in_range where
   }
 
 -- there is none where none can be read
-range_none : (bytes : List ℕ) → AreInRange bytes → HasNoFrame bytes → bytes ≡ []
+pub range_none : (bytes : List ℕ) → AreInRange bytes → HasNoFrame bytes → bytes ≡ []
 range_none bytes h unread = all h.frames h.are h.in_range where
   all : (fs : List QuicFrame) → AreQuicFrames bytes fs → AllByRecursion IsInRange fs → bytes ≡ []
   all [] are in_range = are

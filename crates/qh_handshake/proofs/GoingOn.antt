@@ -6,6 +6,7 @@ use Rattle.qh_base.specs.declared.connection_error.ConnectionClose.{ConnectionCl
 use Rattle.qh_base.specs.declared.connection_error.ConnectionError.{ConnectionError}
 use Rattle.qh_base.specs.declared.time.Moment.{Moment}
 use Rattle.qh_handshake.specs.GoesOn.{GoesOn}
+use Rattle.qh_handshake.specs.Handshake.{dropping}
 use Rattle.qh_handshake.specs.Incoming.{ArePacketsTaken, Form, IsDatagramTaken, IsHelloRead, IsInitialTaken, knowing, received}
 use Rattle.qh_handshake.specs.Incoming.ArePacketsTaken.{done, more as one_more, ended as ended_by}
 use Rattle.qh_handshake.specs.Incoming.IsDatagramTaken.{retry, mismatch, packets}
@@ -23,29 +24,32 @@ use Rattle.qh_handshake.specs.Unread.{IsInitialUnread}
 use Rattle.qh_handshake.specs.Unread.IsInitialUnread.{packet as packet_unread, hello as hello_unread}
 use Rattle.qh_handshake.specs.declared.handshake.Handshake.{Handshake}
 use Rattle.qh_handshake.specs.declared.initial_space.InitialSpace.{InitialSpace}
+use Rattle.qh_handshake.specs.declared.initial_space.InitialStats.{InitialStats}
 use Rattle.qh_hello.specs.declared.transport_parameters.TransportParameters.{TransportParameters}
 use Rattle.qh_packet.specs.Session.{AcceptsTag, SealsTag}
 
 -- a handshake goes on if what it knew stays, that it was validated, and that its space is gone
-goes : (h : Handshake) {remote_id token : List ℕ} {retry_id : Option (List ℕ)} {space : Option InitialSpace} {peer : Option TransportParameters} {knows_peer is_validated : Bool} {came sent : ℕ}
+goes : (h : Handshake) {remote_id token : List ℕ} {retry_id : Option (List ℕ)} {space : Option InitialSpace} {peer : Option TransportParameters} {knows_peer is_validated : Bool} {came sent : ℕ} {stats : InitialStats}
     → ((p : TransportParameters) → h.peer ≡ Some p → peer ≡ Some p) → ((id : List ℕ) → h.retry_id ≡ Some id → retry_id ≡ Some id) → (retry_id ≡ h.retry_id → token ≡ h.token)
     → (h.knows_peer ≡ true → (knows_peer ≡ true) × (remote_id ≡ h.remote_id) × (retry_id ≡ h.retry_id)) → (h.is_validated ≡ true → is_validated ≡ true)
     → (h.space ≡ None → space ≡ None)
-    → GoesOn h (record h { remote_id = remote_id; token = token; retry_id = retry_id; space = space; peer = peer; knows_peer = knows_peer; is_validated = is_validated; bytes_received = came; bytes_sent = sent })
+    → GoesOn h (record h { remote_id = remote_id; token = token; retry_id = retry_id; space = space; peer = peer; knows_peer = knows_peer; is_validated = is_validated; bytes_received = came; bytes_sent = sent; stats = stats })
 goes h peer retry_id token knows validated spent =
     record { side = refl; version = refl; local_id = refl; original_id = refl; parameters = refl; peer = peer; retry_id = retry_id; token = token; known = knows; validated = validated; gone = spent }
 
 -- with another space, and other counts
-spaced : (h : Handshake) {space : Option InitialSpace} {came sent : ℕ} → (h.space ≡ None → space ≡ None) → GoesOn h (record h { space = space; bytes_received = came; bytes_sent = sent })
+spaced : (h : Handshake) {space : Option InitialSpace} {came sent : ℕ} {stats : InitialStats} → (h.space ≡ None → space ≡ None)
+    → GoesOn h (record h { space = space; bytes_received = came; bytes_sent = sent; stats = stats })
 spaced h spent = goes h (λ p is. is) (λ id is. is) (λ is. refl) (λ is. (is, refl, refl)) (λ is. is) spent
 
 -- with this id of the peer, and another space
-met : (h : Handshake) {source : List ℕ} {space : Option InitialSpace} → (h.knows_peer ≡ true → source ≡ h.remote_id) → (h.space ≡ None → space ≡ None)
-    → GoesOn h (record h { remote_id = source; knows_peer = true; space = space })
+met : (h : Handshake) {source : List ℕ} {space : Option InitialSpace} {stats : InitialStats} → (h.knows_peer ≡ true → source ≡ h.remote_id) → (h.space ≡ None → space ≡ None)
+    → GoesOn h (record h { remote_id = source; knows_peer = true; space = space; stats = stats })
 met h source_is spent = goes h (λ p is. is) (λ id is. is) (λ is. refl) (λ is. (refl, source_is is, refl)) (λ is. is) spent
 
 -- greeted, and with another space
-greeted : (h : Handshake) (p : TransportParameters) {space : Option InitialSpace} → h.peer ≡ None → (h.space ≡ None → space ≡ None) → GoesOn h (record h { peer = Some p; space = space })
+greeted : (h : Handshake) (p : TransportParameters) {space : Option InitialSpace} {stats : InitialStats} → h.peer ≡ None → (h.space ≡ None → space ≡ None)
+    → GoesOn h (record h { peer = Some p; space = space; stats = stats })
 greeted h p unread spent = goes h (λ q is. absurd (none-some q (sym unread ∙ is))) (λ id is. is) (λ is. refl) (λ is. (is, refl, refl)) (λ is. is) spent
 
 pub same_goes : (h : Handshake) → GoesOn h h
@@ -54,7 +58,10 @@ same_goes h = spaced h (λ is. is)
 heard : (h : Handshake) (size : ℕ) → GoesOn h (received size h)
 heard h size = spaced h (λ is. is)
 
-pub discarded_goes : (h : Handshake) → GoesOn h (record h { space = None; is_validated = true })
+pub dropped_goes : (h : Handshake) → GoesOn h (dropping h)
+dropped_goes h = spaced h (λ is. refl)
+
+pub discarded_goes : (h : Handshake) → GoesOn h (record (dropping h) { is_validated = true })
 discarded_goes h = goes h (λ p is. is) (λ id is. is) (λ is. refl) (λ is. (is, refl, refl)) (λ is. refl) (λ is. refl)
 
 -- what is kept once it is there, and is the same at last, was the same between
@@ -127,20 +134,20 @@ module _ (accepts : AcceptsTag) (now : Moment) where
       both_go old (received (length datagram) old) new (heard old (length datagram)) (packets_go datagram rest (received (length datagram) old) new learned end all)
 
   -- memory is wanting for it: the packet was opened, and the space isn't used any more
-  left_goes : (f : Form) (old new : Handshake) → IsInitialUnread accepts now f old → IsLeft f.source old new → GoesOn old (record new { space = None })
+  left_goes : (f : Form) (old new : Handshake) → IsInitialUnread accepts now f old → IsLeft f.source old new → GoesOn old (dropping new)
   left_goes f old new unread left =
       let source_is : old.knows_peer ≡ true → f.source ≡ old.remote_id = elim unread [
         | packet_unread s number frames is opened none ↦ opened.source_is
         | hello_unread s mid number frames is opened h none ↦ opened.source_is
       ] in
-      subst (λ (z : Handshake). GoesOn old (record z { space = None })) (sym left.rest_is) (met old source_is (λ none. refl))
+      subst (λ (z : Handshake). GoesOn old (dropping z)) (sym left.rest_is) (met old source_is (λ none. refl))
 
-  pub lost_goes : (datagram : List ℕ) (old new : Handshake) (learned : Option (List ℕ)) → IsLost accepts now datagram old new learned → GoesOn old (record new { space = None })
+  pub lost_goes : (datagram : List ℕ) (old new : Handshake) (learned : Option (List ℕ)) → IsLost accepts now datagram old new learned → GoesOn old (dropping new)
   lost_goes datagram old new learned (retry_lost s source token may is e) =
-      subst (λ (z : Handshake). GoesOn old (record z { space = None })) (sym e) (spaced old (λ none. refl))
+      subst (λ (z : Handshake). GoesOn old (dropping z)) (sym e) (spaced old (λ none. refl))
   lost_goes datagram old new learned (initials_lost _ no_retry no_mismatch lost) =
       let counted = received (length datagram) old in
-      both_go old lost.mid (record new { space = None })
+      both_go old lost.mid (dropping new)
       (both_go old counted lost.mid (heard old (length datagram)) (begun_goes datagram lost.rest counted lost.mid learned lost.begun))
       (left_goes lost.form lost.mid new lost.unread lost.left)
 

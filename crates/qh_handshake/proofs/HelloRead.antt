@@ -5,7 +5,7 @@ use Rattle.qh_base.specs.TransportFault.{IsFault}
 use Rattle.qh_base.specs.declared.connection_error.ConnectionError.{ConnectionError}
 use Rattle.qh_base.specs.declared.connection_error.ConnectionError.TheVariants.{Memory as Wanting, TransportError as Fault}
 use Rattle.qh_base.specs.declared.transport_error.TransportError.{TransportError}
-use Rattle.qh_handshake.specs.Handshake.{ids_used}
+use Rattle.qh_handshake.specs.Handshake.{dropping, ids_used}
 use Rattle.qh_handshake.specs.Incoming.{IsHelloRead, IsHelloThere}
 use Rattle.qh_handshake.specs.Incoming.IsHelloRead.{at_client, at_server, known, refused}
 use Rattle.qh_handshake.specs.Unread.{IsHelloUnread}
@@ -43,7 +43,7 @@ pub read_before : (h : Handshake) → true ≡ is_some h.peer → IsHelloRead h 
 read_before h e = let p = there h.peer e in known p.0 p.1 refl
 
 -- a client was greeted
-pub client_read : (h mid new : Handshake) (name : List ℕ) (p : TransportParameters) → IsHelloThere h name p → h.side ≡ Client → new ≡ mid → mid ≡ record h { peer = Some p; space = None }
+pub client_read : (h mid new : Handshake) (name : List ℕ) (p : TransportParameters) → IsHelloThere h name p → h.side ≡ Client → new ≡ mid → mid ≡ record (dropping h) { peer = Some p }
     → IsHelloRead h new None None
 client_read h mid new name p t side same left = at_client name p t side (same ∙ left)
 

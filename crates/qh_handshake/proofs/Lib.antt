@@ -1,3 +1,5 @@
+pub mod CloseDatagrams
+pub mod CloseFrames
 pub mod DatagramSize
 pub mod DatagramsCome
 pub mod DueMoments
@@ -14,6 +16,7 @@ pub mod HeldKept
 pub mod HelloHeld
 pub mod HelloRead
 pub mod InitialsCome
+pub mod OneForm
 pub mod OneInitial
 pub mod PacketMade
 pub mod PacketsCome

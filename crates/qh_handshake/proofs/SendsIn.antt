@@ -9,6 +9,7 @@ use Rattle.qh_buffers.specs.Ranges.{has}
 use Rattle.qh_frame.specs.declared.frame.Frame.{Frame}
 use Rattle.qh_handshake.proofs.SendsOn.{AcksCame, IsSameEnd, loss_acks, same_acks, sends_on}
 use Rattle.qh_handshake.specs.Follows.{HasInitial}
+use Rattle.qh_handshake.specs.Handshake.{dropping}
 use Rattle.qh_handshake.specs.Incoming.{AreFramesTaken, ArePacketsTaken, Form, IsAccepted, IsDatagramTaken, IsHelloRead, IsInitialTaken, IsOpenedBy, IsPacketHandled, knowing, received, restarted}
 use Rattle.qh_handshake.specs.Incoming.AreFramesTaken.{none as none_taken, more as more_taken, closed as closed_taken, refused as refused_taken}
 use Rattle.qh_handshake.specs.Incoming.ArePacketsTaken.{done, more as one_more, ended as ended_by}
@@ -123,7 +124,7 @@ hello_in hello old new learned end u (cut s is none e) p = subst (λ (z : Handsh
 hello_in hello old new learned end u (refused s front rest fault error is unread whole form has code e) p = subst (λ (z : Handshake). Sends hello z u) (sym e) p
 hello_in hello old new learned end u (at_client name q there client e) p =
     subst (λ (z : Handshake). Sends hello z u) (sym e)
-    (sends_on hello old (record old { peer = Some q; space = None }) u (record { side = refl; id = refl }) (λ s is. absurd (none-some s is)) p)
+    (sends_on hello old (record (dropping old) { peer = Some q }) u (record { side = refl; id = refl }) (λ s is. absurd (none-some s is)) p)
 hello_in hello old new learned end u (at_server s name q there server is e) p =
     subst (λ (z : Handshake). Sends hello z u) (sym e)
     (next_sends hello old _ _ u (record { side = refl; id = refl }) refl (λ number id_length at. p.acked s number id_length is at) p)
@@ -203,12 +204,12 @@ taken_sends accepts now datagram rest hello old new retried learned end t names 
     (received (length datagram) old) new learned end (λ id_length q has. has) taken_all (received_sends hello old t datagram p)
 
 -- the space isn't used any more
-gone_sends : (hello : List ℕ) (old new : Handshake) (u : List Act) → IsSameEnd old new → Sends hello old u → Sends hello (record new { space = None }) u
-gone_sends hello old new u same p = sends_on hello old (record new { space = None }) u (record { side = same.side; id = same.id }) (λ s is. absurd (none-some s is)) p
+gone_sends : (hello : List ℕ) (old new : Handshake) (u : List Act) → IsSameEnd old new → Sends hello old u → Sends hello (dropping new) u
+gone_sends hello old new u same p = sends_on hello old (dropping new) u (record { side = same.side; id = same.id }) (λ s is. absurd (none-some s is)) p
 
 -- memory is wanting for it
 pub lost_sends : (accepts : AcceptsTag) (now : Moment) (datagram hello : List ℕ) (old new : Handshake) (learned : Option (List ℕ)) (t : List Act) → NamesTags accepts
-    → IsLost accepts now datagram old new learned → Sends hello old t → Sends hello (record new { space = None }) (t ++ HandedIn datagram ∷ [])
+    → IsLost accepts now datagram old new learned → Sends hello old t → Sends hello (dropping new) (t ++ HandedIn datagram ∷ [])
 lost_sends accepts now datagram hello old new learned t names (retry_lost s source token may is e) p =
     gone_sends hello (received (length datagram) old) new (t ++ HandedIn datagram ∷ []) (record { side = ap (λ (z : Handshake). z.side) e; id = ap (λ (z : Handshake). z.local_id) e }) (received_sends hello old t datagram p)
 lost_sends accepts now datagram hello old new learned t names (initials _ no_retry no_mismatch lost) p =

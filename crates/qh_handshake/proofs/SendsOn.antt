@@ -1,9 +1,10 @@
 -- How what a handshake sends stands at first, and once something passed by itself.
-use Rattle.std.proofs.Common.{◌≡◌, ℕ, true, false, List, [], ◌∷◌, ◌++◌, length, Some, None, refl, sym, ap, subst, ◌∙◌, arith}
+use Rattle.std.proofs.Common.{◌≡◌, ℕ, true, false, List, [], ◌∷◌, ◌++◌, length, Some, refl, sym, ap, subst, ◌∙◌, arith}
 use Rattle.std.proofs.lemmas.Bool.{both_ways}
 use Rattle.std.proofs.lemmas.Option.{none-some, same_Some}
 use Rattle.qh_base.specs.declared.time.Moment.{Moment}
 use Rattle.qh_buffers.specs.Ranges.{PlainRange, has}
+use Rattle.qh_handshake.specs.Handshake.{dropping}
 use Rattle.qh_handshake.specs.Follows.{HasInitial, IsFresh}
 use Rattle.qh_handshake.specs.Moments.{AreLostByAge, IsProbed, IsTimedOut}
 use Rattle.qh_handshake.specs.Moments.AreLostByAge.{due as some_lost, not_yet as no_loss}
@@ -75,10 +76,13 @@ fresh_sends hello h f = record {
       absurd (both_ways (has s.acks.ranges number) none there);
 }
 
--- ---- the space is discarded
+-- ---- the space is dropped, or discarded
 
-pub discarded_sends : (hello : List ℕ) (h : Handshake) (t : List Act) → Sends hello h t → Sends hello (record h { space = None; is_validated = true }) t
-discarded_sends hello h t p = sends_on hello h (record h { space = None; is_validated = true }) t (record { side = refl; id = refl }) (λ s is. absurd (none-some s is)) p
+pub dropped_sends : (hello : List ℕ) (h : Handshake) (t : List Act) → Sends hello h t → Sends hello (dropping h) t
+dropped_sends hello h t p = sends_on hello h (dropping h) t (record { side = refl; id = refl }) (λ s is. absurd (none-some s is)) p
+
+pub discarded_sends : (hello : List ℕ) (h : Handshake) (t : List Act) → Sends hello h t → Sends hello (record (dropping h) { is_validated = true }) t
+discarded_sends hello h t p = sends_on hello h (record (dropping h) { is_validated = true }) t (record { side = refl; id = refl }) (λ s is. absurd (none-some s is)) p
 
 -- ---- memory is wanting for a datagram, or a packet number is used up by a close that isn't handed out
 

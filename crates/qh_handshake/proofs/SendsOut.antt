@@ -1,5 +1,5 @@
 -- How what a handshake sends stands once one datagram more was handed out.
-use Rattle.std.proofs.Common.{◌≡◌, ℕ, ◌<◌, ◌≤◌, ◌+◌, ◌-◌, ◌^◌, false, List, [], ◌∷◌, ◌++◌, length, get_or, drop, Option, Some, refl, sym, ap, subst, ◌∙◌, inl, inr, arith}
+use Rattle.std.proofs.Common.{◌≡◌, ℕ, ◌<◌, ◌≤◌, ◌+◌, ◌-◌, ◌^◌, false, List, [], ◌∷◌, ◌++◌, length, drop, Option, Some, refl, sym, ap, subst, ◌∙◌, inl, inr, arith}
 use Rattle.std.proofs.Math.Seq.{drop-append_seam}
 use Rattle.std.proofs.lemmas.List.{append-nil, length-append}
 use Rattle.std.proofs.lemmas.Option.{same_Some}
@@ -10,6 +10,7 @@ use Rattle.qh_base.specs.declared.time.Moment.{Moment}
 use Rattle.qh_frame.specs.FrameBytes.{frame_bytes}
 use Rattle.qh_frame.specs.Range.{IsInRange}
 use Rattle.qh_handshake.proofs.FramesHonest.{AreFit, close_fit, frames_fit}
+use Rattle.qh_handshake.proofs.OneForm.{ids_agree}
 use Rattle.qh_handshake.proofs.OneInitial.{is_only, is_there}
 use Rattle.qh_handshake.proofs.SendsOn.{AcksCame, honest_later, same_acks}
 use Rattle.qh_handshake.specs.Follows.{Follows, HasInitial}
@@ -26,12 +27,12 @@ use Rattle.qh_packet.specs.Initial.{BeginsWithInitial, bare_size, body_length, f
 use Rattle.qh_packet.specs.LongHeader.{long_head}
 use Rattle.qh_packet.specs.Packet.{low_bytes}
 use Rattle.qh_packet.specs.Session.{MakesTags}
-use Rattle.qh_spec.proofs.Cuts.{halves, inner}
+use Rattle.qh_spec.proofs.Cuts.{halves}
 use Rattle.qh_spec.proofs.FrameLaws.{quic_frames_agree}
 use Rattle.qh_spec.proofs.PacketLaws.{forms_agree}
 use Rattle.qh_spec.proofs.PartLaws.{last_or_before}
 use Rattle.qh_spec.proofs.TranscriptLaws.{handed_in-append}
-use Rattle.qh_spec.specs.Datagram.{Packet, HasPacket, IsInitialForm}
+use Rattle.qh_spec.specs.Datagram.{Packet, HasPacket}
 use Rattle.qh_spec.specs.Link.{other}
 use Rattle.qh_spec.specs.QuicFrames.{QuicFrame, AreQuicFrames}
 use Rattle.qh_spec.specs.Transcript.{Act, HandedOut, handed_in}
@@ -39,26 +40,6 @@ use Rattle.qh_spec.specs.Varint.{varint}
 use Rattle.qh_spec.specs.declared.sides.Side.{Side}
 use Rattle.qh_spec.specs.declared.sides.Space.{Space}
 use Rattle.qh_spec.specs.declared.sides.Space.TheVariants.{Initial}
-
--- ---- the source id
-
--- the bytes are read as an Initial packet of one source id alone
-sources_agree : (a x b y : List ℕ) (m n : ℕ) (c d : List ℕ) (i : IsInitialForm a m c) (j : IsInitialForm b n d) → a ++ x ≡ b ++ y → i.source ≡ j.source
-sources_agree a x b y m n c d i j e =
-    let si : List ℕ = i.source ++ (i.token_length ++ (i.token ++ (i.body_length ++ c))) in
-    let sj : List ℕ = j.source ++ (j.token_length ++ (j.token ++ (j.body_length ++ d))) in
-    let di : List ℕ = i.destination ++ (length i.source ∷ si) in
-    let dj : List ℕ = j.destination ++ (length j.source ∷ sj) in
-    let both : m ∷ 0 ∷ 0 ∷ 0 ∷ 1 ∷ length i.destination ∷ (di ++ x) ≡ n ∷ 0 ∷ 0 ∷ 0 ∷ 1 ∷ length j.destination ∷ (dj ++ y)
-    = ap (λ (z : List ℕ). z ++ x) (sym i.whole) ∙ e ∙ ap (λ (z : List ℕ). z ++ y) j.whole in
-    let dlen : length i.destination ≡ length j.destination = ap (λ (z : List ℕ). get_or z 5 0) both in
-    let drest : di ++ x ≡ dj ++ y = ap (λ (z : List ℕ). drop 6 z) both in
-    let dcut = halves i.destination ((length i.source ∷ si) ++ x) j.destination ((length j.source ∷ sj) ++ y) dlen (inner i.destination (length i.source ∷ si) x j.destination (length j.source ∷ sj) y drest) in
-    let slen : length i.source ≡ length j.source = ap (λ (z : List ℕ). get_or z 0 0) dcut.1 in
-    let srest : si ++ x ≡ sj ++ y = ap (λ (z : List ℕ). drop 1 z) dcut.1 in
-    let ti : List ℕ = i.token_length ++ (i.token ++ (i.body_length ++ c)) in
-    let tj : List ℕ = j.token_length ++ (j.token ++ (j.body_length ++ d)) in
-    (halves i.source (ti ++ x) j.source (tj ++ y) slen (inner i.source ti x j.source tj y srest)).0
 
 -- ---- the datagram
 
@@ -141,7 +122,7 @@ module _ (sealed : Side → Space → ℕ → List ℕ) (old : Handshake) (s : I
       can.short_destination can.short_source can.short_token can.short_frames can.whole_tag in
       let e : own.front ++ [] ≡ b.front ++ behind = sym own.whole ∙ append-nil datagram ∙ b.whole in
       let all = forms_agree own.front [] b.front behind 195 first (low_bytes s.next_number ++ (all_frames ++ tag)) body own.form b.form e in
-      let id = sources_agree own.front [] b.front behind 195 first (low_bytes s.next_number ++ (all_frames ++ tag)) body own.form b.form e in
+      let id = (ids_agree own.front [] b.front behind 195 first (low_bytes s.next_number ++ (all_frames ++ tag)) body own.form b.form e).0 in
       (sym b.source_is ∙ sym id ∙ own.source_is, sym all.2)
 
   module _ (hello : List ℕ) (t : List Act) (fit : AreFit hello (handed_in t) old.side all_frames) (p : Sends hello old t) where

@@ -1,10 +1,11 @@
 -- A handshake as a value, and what holds of it at every moment (RFC 9000, section 7).
 use Rattle.std.specs.Prelude.{◌≡◌, ℕ, ◌+◌, ◌-◌, ◌*◌, ◌≤◌, ◌^◌, nat_lt, min, Bool, true, not, ◌&&◌, List, [], length, Option, Some, None, is_some, IfSome}
-use Rattle.qh_handshake.specs.InitialSpace.{IsInitialSpace}
+use Rattle.qh_handshake.specs.InitialSpace.{IsInitialSpace, stats_of}
 use Rattle.qh_handshake.specs.Settled.{IsHelloOut}
 use Rattle.qh_handshake.specs.declared.handshake.Handshake.{Handshake}
 use Rattle.qh_handshake.specs.declared.initial_space.HelloState.TheVariants.{Held}
 use Rattle.qh_handshake.specs.declared.initial_space.InitialSpace.{InitialSpace}
+use Rattle.qh_handshake.specs.declared.initial_space.InitialStats.{InitialStats}
 use Rattle.qh_hello.specs.Greetings.{greeting}
 use Rattle.qh_spec.specs.Hello.{IsSayable, hello_bytes, hello_of}
 use Rattle.qh_spec.specs.HelloFaults.{IdsUsed}
@@ -48,6 +49,17 @@ pub record IsHandshake (h : Handshake) : Type 0 where
   pub greeted : h.side ≡ Client → is_some h.peer ≡ true → h.space ≡ None
   pub held : h.side ≡ Server → h.peer ≡ None → IfSome h.space IsHeld
   pub said : h.side ≡ Server → is_some h.peer ≡ true → IfSome h.space (IsSaid (hello_bytes (hello_of (greeting Server [] h.parameters))))
+
+-- ---- the space is dropped
+
+-- what was counted and measured in it: so far, or when it was dropped
+abbrev pub stats_in : Option InitialSpace → (kept : InitialStats) → InitialStats
+stats_in (Some s) kept = stats_of s
+stats_in None kept = kept
+
+-- the space isn't used any more, and what was counted and measured in it is kept
+abbrev pub dropping : Handshake → Handshake
+dropping h = record h { space = None; stats = stats_in h.space h.stats }
 
 -- ---- the limit before the client's address is validated (section 8.1)
 

@@ -11,7 +11,7 @@ use Rattle.qh_frame.specs.FrameAt.{Begins}
 use Rattle.qh_frame.specs.Plain.{plain_of}
 use Rattle.qh_frame.specs.TypeOf.{HasType, named}
 use Rattle.qh_frame.specs.declared.frame.Frame.{Frame}
-use Rattle.qh_handshake.specs.Handshake.{counted, ids_used}
+use Rattle.qh_handshake.specs.Handshake.{counted, dropping, ids_used}
 use Rattle.qh_handshake.specs.Receiving.{IsFrameTaken, IsRefusal, frame_refusal}
 use Rattle.qh_handshake.specs.declared.handshake.Handshake.{Handshake}
 use Rattle.qh_handshake.specs.declared.initial_space.HelloState.TheVariants.{Waits}
@@ -75,7 +75,7 @@ pub record IsAccepted (now : Moment) (number : ℕ) (is_eliciting : Bool) (old n
   pub bound : ℕ
   pub acks : IsJoined old.acks.ranges new.acks.ranges number bound
   pub due : new.acks.is_due ≡ (old.acks.is_due || is_eliciting)
-  pub rest_is : new ≡ record old { dedup = new.dedup; acks = new.acks; last_active = now }
+  pub rest_is : new ≡ record old { dedup = new.dedup; acks = new.acks; last_active = now; last_accepted = Some now }
 
 -- The frames that the bytes are are taken one after another. If one closes, or is refused, those behind it aren't taken: the error says
 -- which. One that is refused is named by the type with which its bytes begin.
@@ -142,7 +142,7 @@ pub data IsHelloRead (old new : Handshake) : (learned : Option (List ℕ)) → O
       → s.crypto.bytes ≡ front ++ rest → IsHelloForm front → IsHelloFault (other old.side) (ids_used old) front fault
       → IsFault codes.transport_parameter_error None e → new ≡ old → IsHelloRead old new None (Some (Fault e))
   at_client : (name : List ℕ) (p : TransportParameters) → IsHelloThere old name p → old.side ≡ Client
-      → new ≡ record old { peer = Some p; space = None } → IsHelloRead old new None None
+      → new ≡ record (dropping old) { peer = Some p } → IsHelloRead old new None None
   at_server : (s : InitialSpace) (name : List ℕ) (p : TransportParameters) → IsHelloThere old name p → old.side ≡ Server → old.space ≡ Some s
       → new ≡ record old { peer = Some p; space = Some (record s { hello = hello_bytes (hello_of (greeting Server [] old.parameters)); state = Waits }) }
       → IsHelloRead old new (Some name) None

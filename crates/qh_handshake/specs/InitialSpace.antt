@@ -6,6 +6,7 @@ use Rattle.qh_handshake.specs.Settled.{IsHelloOut}
 use Rattle.qh_handshake.specs.declared.initial_space.HelloState.{HelloState}
 use Rattle.qh_handshake.specs.declared.initial_space.HelloState.TheVariants.{Out}
 use Rattle.qh_handshake.specs.declared.initial_space.InitialSpace.{InitialSpace}
+use Rattle.qh_handshake.specs.declared.initial_space.InitialStats.{InitialStats}
 use Rattle.qh_recovery.specs.Accepted.{Remembers}
 use Rattle.qh_recovery.specs.Rtt.{new_estimator}
 use Rattle.qh_recovery.specs.SentPackets.{IsNext, IsReordered, NoneIs}
@@ -34,5 +35,13 @@ pub record IsUnused (hello : List ℕ) (state : HelloState) (initial_rtt : ℕ) 
   pub acks : s.acks ≡ record { ranges = []; is_due = false }
   pub rtt : s.rtt ≡ new_estimator initial_rtt
   pub probes : (s.pto_count ≡ 0) × (s.is_probe_due ≡ false) × (s.is_ping_due ≡ false)
-  pub last : s.last_active ≡ now
+  pub last : (s.last_active ≡ now) × (s.last_accepted ≡ None)
   pub counts : (s.packets_lost ≡ 0) × (s.probes_sent ≡ 0)
+
+-- what was counted and measured in it
+abbrev pub stats_of : InitialSpace → InitialStats
+stats_of s = record { packets_lost = s.packets_lost; probes = s.probes_sent; rtt = s.rtt }
+
+-- what it begins with
+abbrev pub first_stats : (initial_rtt : ℕ) → InitialStats
+first_stats initial_rtt = record { packets_lost = 0; probes = 0; rtt = new_estimator initial_rtt }

@@ -1,3 +1,4 @@
+pub mod Closing
 pub mod Follows
 pub mod GoesOn
 pub mod Handshake

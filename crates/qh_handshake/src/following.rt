@@ -4,7 +4,7 @@ ghost use Rattle.qh_base.specs.declared.connection_error.ConnectionError.{Connec
 ghost use Rattle.qh_base.specs.declared.time.Moment.{Moment as AMoment};
 ghost use Rattle.qh_handshake.specs.Follows.{Follows, IsFresh};
 ghost use Rattle.qh_packet.specs.Session.{MakesTags, NamesTags};
-ghost use Rattle.qh_handshake.specs.Handshake.{IsHandshake, with_origin};
+ghost use Rattle.qh_handshake.specs.Handshake.{IsHandshake, dropping, with_origin};
 ghost use Rattle.qh_handshake.specs.Incoming.{IsDatagramTaken};
 ghost use Rattle.qh_packet.specs.Session.{AcceptsTag};
 ghost use Rattle.qh_handshake.specs.Lost.{IsLost};
@@ -21,7 +21,7 @@ ghost use Rattle.qh_spec.specs.declared.sides.Space.{Space as ASpaceOf};
 /// A handshake follows all that was done with it: what it knows of the peer came, what it hands out of its hello is its hello, a server's
 /// only after the client's whole hello came, and before the client's address is validated at most three times as many bytes go as came
 /// (RFC 9000, sections 7 and 8.1). One that begins does so, also behind `set_origin` and `bear`, and each call carries it on, also one that
-/// returns for want of memory: for a datagram that came, with the space discarded.
+/// returns for want of memory: for a datagram that came, with the space dropped.
 pub fn follows()
     ensures fresh { (hello : List ℕ) (h : AHandshake) → IsFresh hello h → Follows hello h [] }
     ensures origin { (hello original : List ℕ) (retry : Option (List ℕ)) (is_validated : Bool) (h : AHandshake) → h.side ≡ Server → IsFresh hello h
@@ -37,9 +37,10 @@ pub fn follows()
         → MakesTags sealed → IsHandshake old → IsCloseMade sealed close old new before after size → Follows hello old t
         → Follows hello new (t ++ HandedOut (drop (length before) after) ∷ []) }
     ensures lost { (accepts : AcceptsTag) (now : AMoment) (datagram hello : List ℕ) (old new : AHandshake) (learned : Option (List ℕ)) (t : List Act)
-        → NamesTags accepts → IsLost accepts now datagram old new learned → Follows hello old t → Follows hello (record new { space = None }) (t ++ HandedIn datagram ∷ []) }
+        → NamesTags accepts → IsLost accepts now datagram old new learned → Follows hello old t → Follows hello (dropping new) (t ++ HandedIn datagram ∷ []) }
     ensures unsent { (now : AMoment) (hello : List ℕ) (old new : AHandshake) (t : List Act) → IsUnsent now old new → Follows hello old t → Follows hello new t }
     ensures close_unsent { (hello : List ℕ) (old new : AHandshake) (t : List Act) → IsCloseUnsent old new → Follows hello old t → Follows hello new t }
     ensures timed_out { (now : ℕ) (hello : List ℕ) (old new : AHandshake) (t : List Act) → IsTimedOut now old new → Follows hello old t → Follows hello new t }
-    ensures discarded { (hello : List ℕ) (h : AHandshake) (t : List Act) → Follows hello h t → Follows hello (record h { space = None; is_validated = true }) t }
+    ensures dropped { (hello : List ℕ) (h : AHandshake) (t : List Act) → Follows hello h t → Follows hello (dropping h) t }
+    ensures discarded { (hello : List ℕ) (h : AHandshake) (t : List Act) → Follows hello h t → Follows hello (record (dropping h) { is_validated = true }) t }
 {}

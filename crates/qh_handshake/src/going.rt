@@ -3,6 +3,7 @@ ghost use Rattle.qh_base.specs.declared.connection_error.ConnectionClose.{Connec
 ghost use Rattle.qh_base.specs.declared.connection_error.ConnectionError.{ConnectionError as AnError};
 ghost use Rattle.qh_base.specs.declared.time.Moment.{Moment as AMoment};
 ghost use Rattle.qh_handshake.specs.GoesOn.{GoesOn};
+ghost use Rattle.qh_handshake.specs.Handshake.{dropping};
 ghost use Rattle.qh_handshake.specs.Incoming.{IsDatagramTaken};
 ghost use Rattle.qh_handshake.specs.Lost.{IsLost};
 ghost use Rattle.qh_handshake.specs.Moments.{IsTimedOut};
@@ -20,11 +21,12 @@ pub fn goes_on()
     ensures taken { (accepts : AcceptsTag) (now : AMoment) (datagram rest : List ℕ) (old new : AHandshake) (retried learned : Option (List ℕ)) (end : Option AnError)
         → IsDatagramTaken accepts now datagram old new rest retried learned end → GoesOn old new }
     ensures lost { (accepts : AcceptsTag) (now : AMoment) (datagram : List ℕ) (old new : AHandshake) (learned : Option (List ℕ))
-        → IsLost accepts now datagram old new learned → GoesOn old (record new { space = None }) }
+        → IsLost accepts now datagram old new learned → GoesOn old (dropping new) }
     ensures made { (sealed : SealsTag) (now : AMoment) (before after : List ℕ) (old new : AHandshake) (size : ℕ) → IsDatagramMade sealed now old new before after size → GoesOn old new }
     ensures closed { (sealed : SealsTag) (close : AClose) (before after : List ℕ) (old new : AHandshake) (size : ℕ) → IsCloseMade sealed close old new before after size → GoesOn old new }
     ensures unsent { (now : AMoment) (old new : AHandshake) → IsUnsent now old new → GoesOn old new }
     ensures close_unsent { (old new : AHandshake) → IsCloseUnsent old new → GoesOn old new }
     ensures timed_out { (now : ℕ) (old new : AHandshake) → IsTimedOut now old new → GoesOn old new }
-    ensures discarded { (h : AHandshake) → GoesOn h (record h { space = None; is_validated = true }) }
+    ensures dropped { (h : AHandshake) → GoesOn h (dropping h) }
+    ensures discarded { (h : AHandshake) → GoesOn h (record (dropping h) { is_validated = true }) }
 {}

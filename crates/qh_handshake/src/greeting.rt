@@ -2,7 +2,7 @@ ghost use Rattle.std.specs.Prelude.{◌≡◌, ◌⊎◌, ◌≤◌, ℕ, List, 
 ghost use Rattle.qh_base.specs.TransportFault.{IsFault};
 ghost use Rattle.qh_base.specs.declared.connection_error.ConnectionError.TheVariants.{Memory as Wanting, TransportError as Fault};
 ghost use Rattle.qh_base.specs.declared.transport_error.TransportError.{TransportError as ATransportError};
-ghost use Rattle.qh_handshake.specs.Handshake.{IsHandshake, ids_used};
+ghost use Rattle.qh_handshake.specs.Handshake.{IsHandshake, dropping, ids_used};
 ghost use Rattle.qh_handshake.specs.Incoming.{IsHelloRead, IsHelloThere, Learns};
 ghost use Rattle.qh_handshake.specs.Unread.{IsHelloUnread};
 ghost use Rattle.qh_handshake.specs.declared.initial_space.HelloState.TheVariants.{Waits};
@@ -101,10 +101,10 @@ impl Handshake {
 
     // A client was greeted so: it has no use for the space any more.
     fn leave(&mut self, peer: TransportParameters)
-        ensures { self.new ≡ record self.old { peer = Some peer; space = None } }
+        ensures { self.new ≡ record (dropping self.old) { peer = Some peer } }
     {
         self.peer = Some(peer);
-        self.space = None;
+        self.leave_space();
     }
 
     // A server was greeted so: its own hello is to be sent.

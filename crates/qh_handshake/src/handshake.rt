@@ -1,12 +1,12 @@
 ghost use Rattle.std.specs.Prelude.{◌≡◌, ◌≤◌, [], None, Some, true, false, is_some, length, IfOk, IsSomeAnd};
-ghost use Rattle.qh_handshake.specs.Handshake.{IsHandshake, with_origin};
-ghost use Rattle.qh_handshake.specs.InitialSpace.{IsUnused};
+ghost use Rattle.qh_handshake.specs.Handshake.{IsHandshake, dropping, stats_in, with_origin};
+ghost use Rattle.qh_handshake.specs.InitialSpace.{IsUnused, first_stats};
 ghost use Rattle.qh_handshake.specs.declared.initial_space.HelloState.TheVariants.{Held, Waits};
 ghost use Rattle.qh_hello.specs.Greetings.{greeting};
 ghost use Rattle.qh_spec.specs.Hello.{IsSayable, hello_bytes, hello_of};
 ghost use Rattle.qh_spec.specs.declared.sides.Side.TheVariants.{Client, Server};
 
-use crate::{HelloState, InitialSpace};
+use crate::{HelloState, InitialSpace, InitialStats};
 use bytes::Bytes;
 use qh_base::{ConnectionId, Memory, Moment, Side, Span};
 use qh_hello::{TransportParameters, put_hello};
@@ -36,6 +36,8 @@ pub struct Handshake {
     pub parameters: TransportParameters,
     /// The Initial packet number space, while it is in use.
     pub space: Option<InitialSpace>,
+    /// What was counted and measured in the Initial space when it was dropped; until then, what it began with.
+    pub stats: InitialStats,
     /// What the peer says of itself, once its whole hello was read: this end is greeted then.
     pub peer: Option<TransportParameters>,
     /// Whether the peer's id is known: at a server always, at a client once it accepted a packet.
@@ -63,6 +65,7 @@ impl Handshake {
         ensures ids { IfOk result (λ h. (h.side ≡ Client) × (h.local_id ≡ parameters.initial_source_connection_id) × (h.remote_id ≡ original_id) × (h.original_id ≡ original_id) × (h.retry_id ≡ None)) }
         ensures parts { IfOk result (λ h. (h.parameters ≡ parameters) × (h.token ≡ []) × (h.peer ≡ None) × (h.knows_peer ≡ false) × (h.is_validated ≡ true) × (h.bytes_received ≡ 0) × (h.bytes_sent ≡ 0)) }
         ensures space { IfOk result (λ h. IsSomeAnd h.space (IsUnused (hello_bytes (hello_of (greeting Client (S.name session.now) parameters))) Waits initial_rtt.0 now)) }
+        ensures stats { IfOk result (λ h. h.stats ≡ first_stats initial_rtt.0) }
     {
         let mut hello = Vec::new(alloc);
         put_hello(&mut hello, Side::Client, session.server_name(), &parameters)?;
@@ -78,6 +81,7 @@ impl Handshake {
             token: Bytes::new(),
             parameters,
             space: Some(space),
+            stats: InitialStats::new(initial_rtt),
             peer: None,
             knows_peer: false,
             is_validated: true,
@@ -101,6 +105,7 @@ impl Handshake {
         ensures ids { (result.side ≡ Server) × (result.local_id ≡ parameters.initial_source_connection_id) × (result.remote_id ≡ remote_id) × (result.original_id ≡ original_id) × (result.retry_id ≡ None) }
         ensures parts { (result.parameters ≡ record parameters { original_destination_connection_id = Some original_id; retry_source_connection_id = None }) × (result.token ≡ []) × (result.peer ≡ None) × (result.knows_peer ≡ true) × (result.is_validated ≡ false) × (result.bytes_received ≡ 0) × (result.bytes_sent ≡ 0) }
         ensures space { IsSomeAnd result.space (IsUnused [] Held initial_rtt.0 now) }
+        ensures stats { result.stats ≡ first_stats initial_rtt.0 }
     {
         // Its length is read for the bound alone.
         let _ = original_id.len();
@@ -118,6 +123,7 @@ impl Handshake {
             token: Bytes::new(),
             parameters,
             space: Some(space),
+            stats: InitialStats::new(initial_rtt),
             peer: None,
             knows_peer: true,
             is_validated: false,
@@ -169,10 +175,37 @@ impl Handshake {
     pub fn discard_space(&mut self)
         requires whole { IsHandshake self.old }
         requires greeted { is_some self.old.peer ≡ true }
-        ensures gone { self.new ≡ record self.old { space = None; is_validated = true } }
+        ensures gone { self.new ≡ record (dropping self.old) { is_validated = true } }
         ensures whole { IsHandshake self.new }
     {
-        self.space = None;
+        self.leave_space();
         self.is_validated = true;
+    }
+
+    /// The connection is over: nothing of the handshake is sent or taken any more.
+    pub fn drop_space(&mut self)
+        requires { IsHandshake self.old }
+        ensures gone { self.new ≡ dropping self.old }
+        ensures whole { IsHandshake self.new }
+    {
+        self.leave_space();
+    }
+
+    // The Initial space isn't used any more: what was counted and measured in it is kept.
+    pub(crate) fn leave_space(&mut self)
+        ensures { self.new ≡ dropping self.old }
+    {
+        self.stats = self.stats();
+        self.space = None;
+    }
+
+    /// What was counted and measured in the Initial space: so far, or when it was dropped.
+    pub fn stats(&self) -> InitialStats
+        ensures { result ≡ stats_in self.now.space self.now.stats }
+    {
+        match &self.space {
+            Some(space) => space.stats(),
+            None => self.stats,
+        }
     }
 }

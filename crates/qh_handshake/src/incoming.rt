@@ -104,7 +104,11 @@ impl Handshake {
     }
 
     // The Initial packet of this form, if it is one for this end.
-    fn open<'a, S: Session>(&self, session: &S, form: &InitialForm<'a>) -> Option<InitialPacket<'a>>
+    pub(crate) fn open<'a, S: Session>(
+        &self,
+        session: &S,
+        form: &InitialForm<'a>,
+    ) -> Option<InitialPacket<'a>>
         ensures some { IfSome result (λ p. (s : ASpace) × (self.now.space ≡ Some s) × IsOpenedBy (S.accepts session.now) self.now s (form_of form.now) p.number p.frames.now) }
         ensures none { result ≡ None → (s : ASpace) → self.now.space ≡ Some s → (number : ℕ) (frames : List ℕ) → IsOpenedBy (S.accepts session.now) self.now s (form_of form.now) number frames → ⊥ }
         ensures number { IfSome result (λ p. p.number < 2 ^ 62) }

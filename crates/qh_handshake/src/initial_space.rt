@@ -1,6 +1,6 @@
 ghost use Rattle.std.specs.Prelude.{◌≡◌, ◌≤◌, [], None, false, length};
 ghost use Rattle.qh_buffers.specs.Assembler.{empty_assembler};
-ghost use Rattle.qh_handshake.specs.InitialSpace.{IsInitialSpace};
+ghost use Rattle.qh_handshake.specs.InitialSpace.{IsInitialSpace, first_stats, stats_of};
 ghost use Rattle.qh_handshake.specs.declared.initial_space.HelloState.TheVariants.{Out};
 ghost use Rattle.qh_recovery.specs.Accepted.{Remembers};
 ghost use Rattle.qh_recovery.specs.Rtt.{new_estimator};
@@ -27,6 +27,30 @@ pub enum HelloState {
 /// The CRYPTO frame that a packet bears: that of the whole hello.
 #[derive(Clone, Copy)]
 pub struct HelloFrame;
+
+/// What was counted and measured in the Initial space.
+#[derive(Clone, Copy)]
+pub struct InitialStats {
+    /// How many packets were lost.
+    pub packets_lost: u64,
+    /// How many probe packets were sent.
+    pub probes: u64,
+    /// The round-trip time.
+    pub rtt: RttEstimator,
+}
+
+impl InitialStats {
+    /// What a space begins with.
+    pub(crate) fn new(initial_rtt: Span) -> InitialStats
+        ensures { result ≡ first_stats initial_rtt.0 }
+    {
+        InitialStats {
+            packets_lost: 0,
+            probes: 0,
+            rtt: RttEstimator::new(initial_rtt),
+        }
+    }
+}
 
 /// The Initial packet number space (RFC 9000, section 12.3; RFC 9002). Its parts are whole by themselves; what holds of them
 /// together is `IsInitialSpace`.
@@ -61,6 +85,8 @@ pub struct InitialSpace {
     pub is_probe_due: bool,
     /// When a packet was last sent or accepted; before the first, when the space began.
     pub last_active: Moment,
+    /// When a packet was accepted last, None if none was.
+    pub last_accepted: Option<Moment>,
     /// How many packets were lost so far.
     pub packets_lost: u64,
     /// How many probe packets were sent so far.
@@ -83,7 +109,7 @@ impl InitialSpace {
         ensures received { Remembers [] result.dedup }
         ensures crypto { result.crypto ≡ record { waiting = empty_assembler; bytes = []; end = 0 } }
         ensures parts { (result.sent ≡ []) × (result.next_number ≡ 0) × (result.largest_acked ≡ None) × (result.acks ≡ record { ranges = []; is_due = false }) }
-        ensures recovery { (result.rtt ≡ new_estimator initial_rtt.0) × (result.pto_count ≡ 0) × (result.is_probe_due ≡ false) × (result.is_ping_due ≡ false) × (result.last_active ≡ now) }
+        ensures recovery { (result.rtt ≡ new_estimator initial_rtt.0) × (result.pto_count ≡ 0) × (result.is_probe_due ≡ false) × (result.is_ping_due ≡ false) × (result.last_active ≡ now) × (result.last_accepted ≡ None) }
         ensures counts { (result.packets_lost ≡ 0) × (result.probes_sent ≡ 0) }
     {
         InitialSpace {
@@ -100,8 +126,20 @@ impl InitialSpace {
             pto_count: 0,
             is_probe_due: false,
             last_active: now,
+            last_accepted: None,
             packets_lost: 0,
             probes_sent: 0,
+        }
+    }
+
+    /// What was counted and measured in it so far.
+    pub(crate) fn stats(&self) -> InitialStats
+        ensures { result ≡ stats_of self.now }
+    {
+        InitialStats {
+            packets_lost: self.packets_lost,
+            probes: self.probes_sent,
+            rtt: self.rtt,
         }
     }
 }

@@ -6,6 +6,7 @@
 #![tactic(auto)]
 
 mod agreeing;
+mod closing;
 mod following;
 mod going;
 mod greeting;
@@ -28,7 +29,8 @@ pub use following::follows;
 pub use going::goes_on;
 pub use handshake::Handshake;
 pub use honest::sends;
-pub use initial_space::{HelloFrame, HelloState, InitialSpace};
+pub use initial_space::{HelloFrame, HelloState, InitialSpace, InitialStats};
 pub use laws::{made_frames, written_datagram};
+pub use outgoing::InitialSent;
 pub use receiving::SpaceFault;
 pub use sending::MadePacket;

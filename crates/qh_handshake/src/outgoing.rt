@@ -17,8 +17,17 @@ use std::alloc::Global;
 /// No datagram has more bytes, and those that are filled up have as many (RFC 9000, section 14).
 const DATAGRAM_SIZE: usize = 1_200;
 
+/// A datagram of one Initial packet that was sent.
+#[derive(Clone, Copy)]
+pub struct InitialSent {
+    /// How many bytes it has.
+    pub size: usize,
+    /// Whether its packet wants an acknowledgement.
+    pub is_ack_eliciting: bool,
+}
+
 impl Handshake {
-    /// Appends the next datagram, one Initial packet, and answers its size; None if nothing is to be sent, or may be sent (RFC 9000,
+    /// Appends the next datagram, one Initial packet, and answers what was sent; None if nothing is to be sent, or may be sent (RFC 9000,
     /// section 8.1). After want of memory nothing is appended. A packet that was counted as sent by then is in flight, as one that
     /// doesn't arrive.
     pub fn poll_transmit<S: Session>(
@@ -27,9 +36,9 @@ impl Handshake {
         session: &S,
         now: Moment,
         buf: &mut Vec<u8>,
-    ) -> Result<Option<usize>, Memory>
+    ) -> Result<Option<InitialSent>, Memory>
         requires { IsHandshake self.old }
-        ensures some { IfOk result (λ o. IfSome o (λ size. IsDatagramMade (S.sealed session.now) now self.old self.new buf.old.items buf.new.items size)) }
+        ensures some { IfOk result (λ o. IfSome o (λ sent. (made : IsDatagramMade (S.sealed session.now) now self.old self.new buf.old.items buf.new.items sent.size) × (sent.is_ack_eliciting ≡ made.is_eliciting))) }
         ensures none { IfOk result (λ o. o ≡ None → (buf.new.items ≡ buf.old.items) × (self.new ≡ self.old) × IsSilent self.old) }
         ensures err { OnErr result (buf.new.items ≡ buf.old.items) }
         ensures wanted { OnErr result (IsSilent self.old → ⊥) }
@@ -49,7 +58,10 @@ impl Handshake {
         };
         let least = self.least_size(made.is_ack_eliciting);
         let size = self.append(session, made.number, &frames, least, buf)?;
-        Ok(Some(size))
+        Ok(Some(InitialSent {
+            size,
+            is_ack_eliciting: made.is_ack_eliciting,
+        }))
     }
 
     /// Appends a datagram that closes the connection, one Initial packet with a CONNECTION_CLOSE of the transport (RFC 9000, section

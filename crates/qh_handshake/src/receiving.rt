@@ -1,4 +1,4 @@
-ghost use Rattle.std.specs.Prelude.{◌≡◌, ◌∷◌, ◌+◌, ◌<◌, ◌≤◌, ◌^◌, length, ◌||◌, if◌then◌else◌, ℕ, List, None, nat_lt, OnOk, OnErr, IfOk, IfErr};
+ghost use Rattle.std.specs.Prelude.{◌≡◌, ◌∷◌, ◌+◌, ◌<◌, ◌≤◌, ◌^◌, length, ◌||◌, if◌then◌else◌, ℕ, List, None, Some, nat_lt, OnOk, OnErr, IfOk, IfErr};
 ghost use Rattle.qh_frame.specs.Plain.{ack_of};
 ghost use Rattle.qh_handshake.specs.InitialSpace.{IsInitialSpace};
 ghost use Rattle.qh_handshake.specs.Receiving.{IsAckReceived, IsCryptoFault, IsFrameTaken, IsLossTaken, IsPieceTaken, IsRefusal, IsRefusedBy, KeepsAfter, KeepsPieceAfter, Says, again, frame_refusal, greatest_of, measured, refused, some_type};
@@ -39,12 +39,13 @@ impl InitialSpace {
         ensures remembers { OnOk result ((accepted : List ℕ) → Remembers accepted self.old.dedup → Remembers (number ∷ accepted) self.new.dedup) }
         ensures acks { OnOk result ((bound : ℕ) × IsJoined self.old.acks.ranges self.new.acks.ranges number bound) }
         ensures due { OnOk result (self.new.acks.is_due ≡ (self.old.acks.is_due || is_ack_eliciting)) }
-        ensures rest { OnOk result (self.new ≡ record self.old { dedup = self.new.dedup; acks = self.new.acks; last_active = now }) }
+        ensures rest { OnOk result (self.new ≡ record self.old { dedup = self.new.dedup; acks = self.new.acks; last_active = now; last_accepted = Some now }) }
         ensures err { OnErr result (self.new ≡ self.old) }
         ensures space { IsInitialSpace self.new }
     {
         insert_received(&mut self.dedup, &mut self.acks, number, is_ack_eliciting)?;
         self.last_active = now;
+        self.last_accepted = Some(now);
         Ok(())
     }
 

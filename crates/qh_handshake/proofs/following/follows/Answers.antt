@@ -1,5 +1,5 @@
 use Rattle.qh_handshake.proofs.FollowsIn.{lost_follows, taken_follows}
-use Rattle.qh_handshake.proofs.FollowsOn.{borne_fresh, close_unsent_follows, discarded_follows, fresh_follows, origin_fresh, timed_out_follows, unsent_follows}
+use Rattle.qh_handshake.proofs.FollowsOn.{borne_fresh, close_unsent_follows, discarded_follows, dropped_follows, fresh_follows, origin_fresh, timed_out_follows, unsent_follows}
 use Rattle.qh_handshake.proofs.FollowsOut.{close_follows, made_follows}
 use Rattle.qh_handshake.proofs.following.follows.Goals as goal
 
@@ -35,3 +35,6 @@ returns-clause-unsent c = unsent_follows
 
 pub returns-clause-close_unsent : goal.returns-clause-close_unsent
 returns-clause-close_unsent c = close_unsent_follows
+
+pub returns-clause-dropped : goal.returns-clause-dropped
+returns-clause-dropped c = dropped_follows

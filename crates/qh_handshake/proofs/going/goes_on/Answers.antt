@@ -1,4 +1,4 @@
-use Rattle.qh_handshake.proofs.GoingOn.{both_go, close_goes, close_unsent_goes, discarded_goes, lost_goes, made_goes, same_goes, taken_goes, timed_out_goes, unsent_goes}
+use Rattle.qh_handshake.proofs.GoingOn.{both_go, close_goes, close_unsent_goes, discarded_goes, dropped_goes, lost_goes, made_goes, same_goes, taken_goes, timed_out_goes, unsent_goes}
 use Rattle.qh_handshake.proofs.going.goes_on.Goals as goal
 
 pub returns-clause-same : goal.returns-clause-same
@@ -30,3 +30,6 @@ returns-clause-timed_out c = timed_out_goes
 
 pub returns-clause-discarded : goal.returns-clause-discarded
 returns-clause-discarded c = discarded_goes
+
+pub returns-clause-dropped : goal.returns-clause-dropped
+returns-clause-dropped c = dropped_goes

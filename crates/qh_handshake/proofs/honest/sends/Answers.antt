@@ -1,5 +1,5 @@
 use Rattle.qh_handshake.proofs.SendsIn.{lost_sends, taken_sends}
-use Rattle.qh_handshake.proofs.SendsOn.{close_unsent_sends, discarded_sends, fresh_sends, timed_out_sends, unsent_sends}
+use Rattle.qh_handshake.proofs.SendsOn.{close_unsent_sends, discarded_sends, dropped_sends, fresh_sends, timed_out_sends, unsent_sends}
 use Rattle.qh_handshake.proofs.SendsOut.{close_sends, made_sends}
 use Rattle.qh_handshake.proofs.honest.sends.Goals as goal
 
@@ -29,3 +29,6 @@ returns-clause-unsent c = unsent_sends
 
 pub returns-clause-close_unsent : goal.returns-clause-close_unsent
 returns-clause-close_unsent c = close_unsent_sends
+
+pub returns-clause-dropped : goal.returns-clause-dropped
+returns-clause-dropped c = dropped_sends

@@ -1,7 +1,7 @@
 use Rattle.std.proofs.Common.{List, ℕ, refl, subst, sym, ap, ◌∙◌, inl, inr, Option, Some}
 use Rattle.qh_handshake.proofs.HeldKept.{made_whole}
 use Rattle.qh_buffers.proofs.AssemblerReads.{at_err}
-use Rattle.qh_handshake.proofs.Unsent.{packet_lost}
+use Rattle.qh_handshake.proofs.Unsent.{packet_lost, packet_sent}
 use Rattle.qh_handshake.specs.Handshake.{IsHandshake}
 use Rattle.qh_handshake.specs.Outgoing.IsSilent.{quiet, exhausted}
 use Rattle.qh_handshake.specs.declared.initial_space.InitialSpace.{InitialSpace}
@@ -17,6 +17,13 @@ returns-in_default-2-clause-none g c = λ _.
         | inr nothing ↦ quiet c.in-Some.space c.in-Some.is nothing
       ],
     )
+
+pub returns-clause-some : goal.returns-clause-some
+returns-clause-some g c =
+    packet_sent (g.S.Session.sealed c.args.session.now) c.args.now c.room-room.result c.args.self.now c.append.new.self c.in-Some.space c.write_packet.new.self c.new-frames.result.items c.write_packet.new.out.items
+    c.deref.result.now c.args.buf.now.items c.append.new.buf.items c.least_size-least.result c.in_ok-size.size c.in_ok-made.field-0 c.in-Some-2.made c.in-Some-2.is c.in_ok-made.ensures.some c.in-Some.is
+    (sym c.is_limited.ensures ∙ c.if-is_limited.false) c.room-room.ensures.value c.new-frames.ensures.items c.deref.ensures.value c.least_size-least.ensures c.in_ok-size.ensures.put c.in_ok-size.ensures.size
+    c.in_ok-size.ensures.tag c.room-room.ensures.ids c.in_ok-size.ensures.rest
 
 pub returns-clause-whole : goal.returns-clause-whole
 returns-clause-whole g c = subst IsHandshake (sym c.in_ok-size.ensures.rest)
