@@ -12,8 +12,8 @@ use Rattle.qh_core.proofs.MadeTogether.{carried_on}
 use Rattle.qh_core.specs.Follows.{Follows, event_acts}
 use Rattle.qh_core.specs.Inner.{IsNewSpace, IsSameEnd, is_open}
 use Rattle.qh_core.specs.Made.{AcceptsTags, AreMade, IsAnyCall, IsLocalCall, MakesTagsOf}
-use Rattle.qh_core.specs.Made.IsAnyCall.{handed_in, lost, handed_out as datagram_out, nothing_sent, unsent, local}
-use Rattle.qh_core.specs.Made.IsLocalCall.{timeout, closed, polled, endpoint_polled, on_streams}
+use Rattle.qh_core.specs.Made.IsAnyCall.{handed_in, lost, handed_out as datagram_out, control_out, nothing_sent, unsent, local}
+use Rattle.qh_core.specs.Made.IsLocalCall.{timeout, closed, polled, endpoint_polled, turned, on_streams}
 use Rattle.qh_core.specs.declared.inner.Inner.{Inner}
 use Rattle.qh_owing.proofs.LedgerCalls.{ledger_fresh, ledger_made, ledger_open}
 use Rattle.qh_owing.proofs.LedgerStreams.{hands_none}
@@ -33,6 +33,7 @@ module _ {S : Type 0} where
   local_out b c u (closed _ _ _ _ _) = refl
   local_out b c u (polled _ _) = refl
   local_out b c u (endpoint_polled _ _) = refl
+  local_out b c u (turned _) = refl
   local_out b c u (on_streams _ call) = (hands_none b c u call).1
 
   -- ---- each datagram that is handed out is tagged
@@ -42,6 +43,7 @@ module _ {S : Type 0} where
   any_tagged accepts sealed b c u t (handed_in event _ _) same p = quiet_sealed (sealed b.session) b c t (event_acts event) same (event_out event) p
   any_tagged accepts sealed b c u t (lost event _ _) same p = quiet_sealed (sealed b.session) b c t (event_acts event) same (event_out event) p
   any_tagged accepts sealed b c u t (datagram_out now before after transmit made _ _) same p = made_sealed (sealed b.session) now b c before after transmit t made same p
+  any_tagged accepts sealed b c u t (control_out now before after frames sent is _) same p = made_sealed (sealed b.session) now b c before after sent.transmit t is.made same p
   any_tagged accepts sealed b c u t (nothing_sent _) same p = quiet_sealed (sealed b.session) b c t [] same refl p
   any_tagged accepts sealed b c u t (unsent _) same p = quiet_sealed (sealed b.session) b c t [] same refl p
   any_tagged accepts sealed b c u t (local _ call) same p = quiet_sealed (sealed b.session) b c t u same (local_out b c u call) p

@@ -13,6 +13,7 @@ use Rattle.qh_base.specs.declared.path.Transmit.{Transmit}
 use Rattle.qh_base.specs.declared.time.Moment.{Moment}
 use Rattle.qh_conduct.proofs.BehavingEnds.{event_out}
 use Rattle.qh_conduct.proofs.PacketsKept.{only_packet}
+use Rattle.qh_conduct.proofs.TurnedAside.{open_back, turned_aside}
 use Rattle.qh_conduct.specs.Announced.{MakesTags}
 use Rattle.qh_conduct.specs.Sized.{reset_frame}
 use Rattle.qh_core.proofs.Acts.{last_or_before, one_datagram}
@@ -25,9 +26,9 @@ use Rattle.qh_core.specs.Event.IsDrainedTold.{drained as drain_told, none as no_
 use Rattle.qh_core.specs.Event.IsPolledEvent.{stream, lost as lost_told, none as nothing}
 use Rattle.qh_core.specs.Follows.{HasFrame, event_acts, transmit_acts}
 use Rattle.qh_core.specs.Inner.{IsNewSpace, IsSameEnd, is_open}
-use Rattle.qh_core.specs.Made.{AcceptsTags, AreMade, IsAnyCall, IsLocalCall, IsStreamCall, MakesTagsOf}
-use Rattle.qh_core.specs.Made.IsAnyCall.{handed_in, lost, handed_out as datagram_out, nothing_sent, unsent, local}
-use Rattle.qh_core.specs.Made.IsLocalCall.{timeout, closed, polled, endpoint_polled, on_streams}
+use Rattle.qh_core.specs.Made.{AcceptsTags, AreMade, IsAnyCall, IsLocalCall, IsStreamCall, IsTurned, MakesTagsOf}
+use Rattle.qh_core.specs.Made.IsAnyCall.{handed_in, lost, handed_out as datagram_out, control_out, nothing_sent, unsent, local}
+use Rattle.qh_core.specs.Made.IsLocalCall.{timeout, closed, polled, endpoint_polled, turned, on_streams}
 use Rattle.qh_core.specs.Receiving.{IsClosedWith, IsDatagramTaken, IsEventTaken, IsPacketHandled, IsPacketTaken, received}
 use Rattle.qh_core.specs.Receiving.IsDatagramTaken.{dropped, handled, told_again, closed_too, draining, drained}
 use Rattle.qh_core.specs.Receiving.IsPacketHandled.{repeated, empty, faulty, unnoted, taken}
@@ -82,10 +83,10 @@ module _ {S : Type 0} where
   -- ---- what was handed out before
 
   -- a frame of the same end
-  same_frame : (old new : Inner S) (datagrams : List (List ℕ)) (f : QuicFrame) → new.side ≡ old.side → new.remote_id ≡ old.remote_id → HasFrame (length new.remote_id) datagrams new.side f → HasFrame (length old.remote_id) datagrams old.side f
-  same_frame old new datagrams f side remote h = subst (λ (id : List ℕ). HasFrame (length id) datagrams old.side f) remote (subst (λ (s : Side). HasFrame (length new.remote_id) datagrams s f) side h)
+  same_frame : (old new : Inner S) (datagrams : List (List ℕ)) (f : QuicFrame) → new.side ≡ old.side → length new.remote_id ≡ length old.remote_id → HasFrame (length new.remote_id) datagrams new.side f → HasFrame (length old.remote_id) datagrams old.side f
+  same_frame old new datagrams f side remote h = subst (λ (id : ℕ). HasFrame id datagrams old.side f) remote (subst (λ (s : Side). HasFrame (length new.remote_id) datagrams s f) side h)
 
-  were_on : (old new : Inner S) (t more : List Act) → new.side ≡ old.side → new.remote_id ≡ old.remote_id → handed_out more ≡ [] → WereAsked old t → WereAsked new (t ++ more)
+  were_on : (old new : Inner S) (t more : List Act) → new.side ≡ old.side → length new.remote_id ≡ length old.remote_id → handed_out more ≡ [] → WereAsked old t → WereAsked new (t ++ more)
   were_on old new t more side remote none p = record {
     resets = λ before after d stream code size e h.
         let r = before_those t more before after d none e in
@@ -103,7 +104,7 @@ module _ {S : Type 0} where
 
   asks_by : (old new : Inner S) (t more : List Act) → IsSameEnd old new → AsksOn old new → handed_out more ≡ [] → Asks old t → Asks new (t ++ more)
   asks_by old new t more same on none p = record {
-    were = were_on old new t more same.side same.remote_id none p.were;
+    were = were_on old new t more same.side same.remote_length none p.were;
     streams = λ up.
         let was = on up in
         asked_more new.space.streams t more (asked_after old.space.streams new.space.streams t was.1 (p.streams was.0));
@@ -185,16 +186,16 @@ module _ {S : Type 0} where
   -- ---- what is handed out
 
   -- what a frame says that stands in the datagram with these frames
-  said_there : (old new : Inner S) (t : List Act) (frames tag : List ℕ) (among : List (List ℕ)) (f : QuicFrame) → new.remote_id ≡ old.remote_id → IsTag tag old.side Data old.space.next_number → AreSaid t frames
+  said_there : (old new : Inner S) (t : List Act) (frames tag : List ℕ) (among : List (List ℕ)) (f : QuicFrame) → length new.remote_id ≡ length old.remote_id → IsTag tag old.side Data old.space.next_number → AreSaid t frames
       → (h : HasFrame (length new.remote_id) among new.side f) → header_bytes old.remote_id old.space.next_number ++ (frames ++ tag) ≡ h.datagram → IsSaid t f
   said_there old new t frames tag among f remote tagged k h it =
       let has : HasPacket (length old.remote_id) h.packet (header_bytes old.remote_id old.space.next_number ++ (frames ++ tag)) = subst (λ (x : List ℕ). HasPacket (length old.remote_id) h.packet x) (sym it)
-      (subst (λ (r : List ℕ). HasPacket (length r) h.packet h.datagram) remote h.has) in
+      (subst (λ (r : ℕ). HasPacket r h.packet h.datagram) remote h.has) in
       let one = only_packet old.remote_id old.side old.space.next_number frames tag k.frames tagged k.are h.packet has in
       k.said f (subst (λ (x : Packet). In f x.frames) one h.frame_among)
 
   -- one datagram more was handed out, whose frames were asked for
-  one_more : (old new : Inner S) (t : List Act) (frames tag : List ℕ) → new.side ≡ old.side → new.remote_id ≡ old.remote_id → IsTag tag old.side Data old.space.next_number → AreSaid t frames → WereAsked old t
+  one_more : (old new : Inner S) (t : List Act) (frames tag : List ℕ) → new.side ≡ old.side → length new.remote_id ≡ length old.remote_id → IsTag tag old.side Data old.space.next_number → AreSaid t frames → WereAsked old t
       → WereAsked new (t ++ HandedOut (header_bytes old.remote_id old.space.next_number ++ (frames ++ tag)) ∷ [])
   one_more old new t frames tag side remote tagged k were =
       let d = header_bytes old.remote_id old.space.next_number ++ (frames ++ tag) in
@@ -222,7 +223,7 @@ module _ {S : Type 0} where
       let b = packet_said t now.0 (overhead old) (1200 - overhead old) old.space new.space header (header ++ frames) m (p.streams was) in
       let same : b.bytes ≡ frames = sym (append_cancel_left header frames b.bytes b.appended) in
       record {
-        were = one_more old new t frames (sealed old.side Data old.space.next_number) (ap (λ (c : Inner S). c.side) e) (ap (λ (c : Inner S). c.remote_id) e) (tags old.side old.space.next_number below)
+        were = one_more old new t frames (sealed old.side Data old.space.next_number) (ap (λ (c : Inner S). c.side) e) (ap (λ (c : Inner S). length c.remote_id) e) (tags old.side old.space.next_number below)
             (subst (λ (z : List ℕ). AreSaid t z) same b.said) p.were;
         streams = λ up. asked_more new.space.streams t (HandedOut d ∷ []) (asked_after old.space.streams new.space.streams t less (p.streams was));
       }
@@ -231,8 +232,8 @@ module _ {S : Type 0} where
       let rest = bare_rest now.0 (overhead old + length frames) old.space new.space m.sent in
       let less : AsksNoMore old.space.streams new.space.streams = subst (λ (s : PlainStreams). AsksNoMore old.space.streams s) (sym rest.streams) (asks_same old.space.streams) in
       record {
-        were = one_more old new t frames (sealed old.side Data old.space.next_number) (ap (λ (c : Inner S). c.side) e) (ap (λ (c : Inner S). c.remote_id) e) (tags old.side old.space.next_number below)
-            (controls_said t old.side frames m.control) p.were;
+        were = one_more old new t frames (sealed old.side Data old.space.next_number) (ap (λ (c : Inner S). c.side) e) (ap (λ (c : Inner S). length c.remote_id) e) (tags old.side old.space.next_number below)
+            (controls_said t old.side old.config.peer_datagram frames m.control) p.were;
         streams = λ up. asked_more new.space.streams t (HandedOut d ∷ []) (asked_after old.space.streams new.space.streams t less (p.streams was));
       }
   frames_asked sealed tags now old new frames t (close_made reason until is bytes_are e) below back p =
@@ -245,7 +246,7 @@ module _ {S : Type 0} where
         said = λ f among. elim among [ inl same ↦ subst (λ (g : QuicFrame). IsSaid t g) same (close_said t reason) | inr none ↦ absurd none ];
       } in
       record {
-        were = one_more old new t frames (sealed old.side Data old.space.next_number) (ap (λ (c : Inner S). c.side) e) (ap (λ (c : Inner S). c.remote_id) e) (tags old.side old.space.next_number below) k p.were;
+        were = one_more old new t frames (sealed old.side Data old.space.next_number) (ap (λ (c : Inner S). c.side) e) (ap (λ (c : Inner S). length c.remote_id) e) (tags old.side old.space.next_number below) k p.were;
         streams = λ up. absurd (both_ways (is_open new.state) down up);
       }
 
@@ -260,21 +261,30 @@ module _ {S : Type 0} where
 
   call_asked : (b c : Inner S) (u t : List Act) → IsStreamCall b c u → IsSameEnd b c → Asks b t → Asks c (t ++ u)
   call_asked b c u t call same p = record {
-    were = were_on b c t u same.side same.remote_id (hands_none b c u call).1 p.were;
+    were = were_on b c t u same.side same.remote_length (hands_none b c u call).1 p.were;
     streams = λ up. called_asked b c u t call (p.streams (sym (ap (λ (z : Inner S). is_open z.state) (only_streams b c u call)) ∙ up));
   }
+
+  turned_on : (old new : Inner S) → IsTurned old new → AsksOn old new
+  turned_on old new is = elim (turned_aside old new is) [
+    | inl lacks ↦ shut_as old new _ lacks.rest_is refl
+    | inr aside ↦ λ up. (aside.opens up, subst (λ (s : DataSpace). AsksNoMore old.space.streams s.streams) (sym aside.space) (asks_same old.space.streams))
+  ]
 
   local_asked : (b c : Inner S) (u t : List Act) → IsLocalCall b c u → IsSameEnd b c → Asks b t → Asks c (t ++ u)
   local_asked b c u t (timeout now timed _) same p = asks_by b c t [] same (timed_on now b c timed) refl p
   local_asked b c u t (closed now code reason ends stays) same p = asks_by b c t [] same (close_on now _ b c ends stays) refl p
   local_asked b c u t (polled told is) same p = asks_by b c t [] same (told_on b c told is) refl p
   local_asked b c u t (endpoint_polled told is) same p = asks_by b c t [] same (drained_on b c told is) refl p
+  local_asked b c u t (turned is) same p = asks_by b c t [] same (turned_on b c is) refl p
   local_asked b c u t (on_streams _ call) same p = call_asked b c u t call same p
 
   any_asked : (accepts : AcceptsTags S) (sealed : MakesTagsOf S) (b c : Inner S) (u t : List Act) → MakesTags (sealed b.session) → IsAnyCall accepts sealed b c u → IsSameEnd b c → Asks b t → Asks c (t ++ u)
   any_asked accepts sealed b c u t tags (handed_in event came _) same p = asks_by b c t (event_acts event) same (event_on (accepts b.session) event b c came) (event_out event) p
   any_asked accepts sealed b c u t tags (lost event failed _) same p = asks_by b c t (event_acts event) same (shut_as b c _ failed.rest_is refl) (event_out event) p
   any_asked accepts sealed b c u t tags (datagram_out now before after transmit made back _) same p = datagram_asked (sealed b.session) tags now b c before after transmit t made back p
+  any_asked accepts sealed b c u t tags (control_out now before after frames sent is _) same p =
+      datagram_asked (sealed b.session) tags now b c before after sent.transmit t is.made (open_back b.state is.opened) p
   any_asked accepts sealed b c u t tags (nothing_sent none) same p = asks_by b c t [] same (kept b c none.0) refl p
   any_asked accepts sealed b c u t tags (unsent failed) same p = asks_by b c t [] same (shut_as b c _ failed.rest_is refl) refl p
   any_asked accepts sealed b c u t tags (local _ call) same p = local_asked b c u t call same p

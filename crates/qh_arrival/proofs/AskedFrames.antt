@@ -12,7 +12,7 @@ use Rattle.qh_core.proofs.ControlFrames.{control_frames, of_each}
 use Rattle.qh_core.specs.Control.{AreControl, control_frame}
 use Rattle.qh_core.specs.Sending.{close_frame}
 use Rattle.qh_core.specs.declared.control.ControlFrame.{ControlFrame}
-use Rattle.qh_core.specs.declared.control.ControlFrame.TheVariants.{NewToken, NewConnectionId, RetireConnectionId}
+use Rattle.qh_core.specs.declared.control.ControlFrame.TheVariants.{NewToken, NewConnectionId, RetireConnectionId, Datagram}
 use Rattle.qh_core.specs.declared.state.Close.{Close}
 use Rattle.qh_frame.proofs.FramesWritten.{ping_put}
 use Rattle.qh_frame.specs.AckWritten.{ack_frame}
@@ -112,12 +112,13 @@ module _ (t : List Act) where
   control_said (NewToken token) = later_frame 7 _ (omega arith)
   control_said (NewConnectionId sequence prior id reset_token) = later_frame 24 _ (omega arith)
   control_said (RetireConnectionId sequence) = later_frame 25 _ (omega arith)
+  control_said (Datagram payload) = later_frame 49 _ (omega arith)
 
   -- frames of the connection's own neither reset nor stop
-  pub controls_said : (side : Side) (bytes : List ℕ) → AreControl side bytes → AreSaid bytes
-  controls_said side bytes control =
-      let c = control_frames side bytes control in
-      record { frames = c.frames; are = c.are; said = of_each IsSaid side bytes c control_said }
+  pub controls_said : (side : Side) (peer_datagram : Option ℕ) (bytes : List ℕ) → AreControl side peer_datagram bytes → AreSaid bytes
+  controls_said side peer_datagram bytes control =
+      let c = control_frames side peer_datagram bytes control in
+      record { frames = c.frames; are = c.are; said = of_each IsSaid side peer_datagram bytes c control_said }
 
   none_said : AreSaid []
   none_said = record { frames = []; are = refl; said = λ f among. absurd among }

@@ -10,17 +10,18 @@ use Rattle.qh_arrival.specs.Said.{began_with, max_data_frame, max_stream_data_fr
 use Rattle.qh_base.specs.declared.connection_error.ConnectionError.{ConnectionError}
 use Rattle.qh_base.specs.declared.connection_error.ConnectionError.TheVariants.{LocallyClosed}
 use Rattle.qh_base.specs.declared.time.Moment.{Moment}
+use Rattle.qh_conduct.proofs.TurnedAside.{turned_aside}
 use Rattle.qh_core.proofs.ControlFrames.{bare_rest}
 use Rattle.qh_core.proofs.Ends.{goes_on_open}
 use Rattle.qh_core.proofs.MadeTogether.{carried_on}
 use Rattle.qh_core.specs.Event.{IsDrainedTold, IsPolledEvent}
 use Rattle.qh_core.specs.Event.IsDrainedTold.{drained as drain_told, none as no_drain_told}
 use Rattle.qh_core.specs.Event.IsPolledEvent.{stream, lost as lost_told, none as nothing}
-use Rattle.qh_core.specs.Follows.{event_acts, transmit_acts}
+use Rattle.qh_core.specs.Follows.{control_acts, event_acts, transmit_acts}
 use Rattle.qh_core.specs.Inner.{IsNewSpace, IsSameEnd, is_open}
-use Rattle.qh_core.specs.Made.{AcceptsTags, AreMade, IsAnyCall, IsLocalCall, MakesTagsOf}
-use Rattle.qh_core.specs.Made.IsAnyCall.{handed_in as datagram_in, lost, handed_out as datagram_out, nothing_sent, unsent, local}
-use Rattle.qh_core.specs.Made.IsLocalCall.{timeout, closed, polled, endpoint_polled, on_streams}
+use Rattle.qh_core.specs.Made.{AcceptsTags, AreMade, IsAnyCall, IsLocalCall, IsTurned, MakesTagsOf}
+use Rattle.qh_core.specs.Made.IsAnyCall.{handed_in as datagram_in, lost, handed_out as datagram_out, control_out, nothing_sent, unsent, local}
+use Rattle.qh_core.specs.Made.IsLocalCall.{timeout, closed, polled, endpoint_polled, turned, on_streams}
 use Rattle.qh_core.specs.Receiving.{AreFramesTaken, IsClosedWith, IsDatagramTaken, IsEventTaken, IsNewTo, IsOpenedBy, IsPacketHandled, IsPacketTaken, received}
 use Rattle.qh_core.specs.Receiving.IsDatagramTaken.{dropped, handled, told_again, closed_too, draining, drained}
 use Rattle.qh_core.specs.Receiving.IsPacketHandled.{repeated, empty, faulty, unnoted, taken}
@@ -177,11 +178,22 @@ module _ {S : Type 0} where
 
   -- ---- calls that bring no datagram
 
+  turned_on : (old new : Inner S) → IsTurned old new → StaysOn old new
+  turned_on old new is = elim (turned_aside old new is) [
+    | inl lacks ↦ shut_as old new _ lacks.rest_is refl
+    | inr aside ↦ λ up. record {
+      was = aside.opens up;
+      dedup = ap (λ (s : DataSpace). s.dedup) aside.space;
+      given = subst (λ (s : DataSpace). GivenOn Nothing old.space.streams s.streams) (sym aside.space) (given_same Nothing old.space.streams);
+    }
+  ]
+
   local_on : (b c : Inner S) (u : List Act) → IsLocalCall b c u → StaysOn b c
   local_on b c u (timeout now timed _) = timed_on now b c timed
   local_on b c u (closed now code reason ends stays) = close_on now _ b c ends stays
   local_on b c u (polled told is) = told_on b c told is
   local_on b c u (endpoint_polled told is) = drained_on b c told is
+  local_on b c u (turned is) = turned_on b c is
   local_on b c u (on_streams _ call) = as_is b c _ (only_streams b c u call) (λ up. up) refl (called_given Nothing b c u call)
 
   local_in : (b c : Inner S) (u : List Act) → IsLocalCall b c u → handed_in u ≡ []
@@ -189,6 +201,7 @@ module _ {S : Type 0} where
   local_in b c u (closed _ _ _ _ _) = refl
   local_in b c u (polled _ _) = refl
   local_in b c u (endpoint_polled _ _) = refl
+  local_in b c u (turned _) = refl
   local_in b c u (on_streams _ call) = (hands_none b c u call).0
 
   module _ (accepts : AcceptsTag) where
@@ -275,7 +288,7 @@ module _ {S : Type 0} where
 
     event_heard : (event : ConnectionEvent) (old new : Inner S) (t : List Act) → IsSameEnd old new → IsEventTaken accepts event old new → HearsOpen old t → HearsOpen new (t ++ event_acts event)
     event_heard (Datagram now remote payload) old new t same came p =
-        datagram_heard now payload (received (Datagram now remote payload) old) new t (record { side = same.side; local_id = same.local_id; remote_id = same.remote_id; config = same.config }) came
+        datagram_heard now payload (received (Datagram now remote payload) old) new t (record { side = same.side; local_id = same.local_id; remote_length = same.remote_length; config = same.config }) came
         (counted_heard old _ t p)
     event_heard (Close now code reason) old new t same came p = hears_by old new t [] same (maybe_closes (is_open old.state) now _ old new came) (none_come accepts old new t [] refl) p
 
@@ -288,6 +301,9 @@ module _ {S : Type 0} where
   any_heard accepts sealed b c u t (datagram_out now before after transmit made back _) same p =
       let acts = transmit_acts before after (Ok (Some transmit)) in
       hears_by (accepts b.session) b c t acts same (frames_on now b c _ made.bytes.frames made.bytes.made) (none_come (accepts b.session) b c t acts refl) p
+  any_heard accepts sealed b c u t (control_out now before after frames sent is _) same p =
+      let acts = control_acts before after (Ok (Some sent)) in
+      hears_by (accepts b.session) b c t acts same (frames_on now b c _ is.made.bytes.frames is.made.bytes.made) (none_come (accepts b.session) b c t acts refl) p
   any_heard accepts sealed b c u t (nothing_sent none) same p = hears_by (accepts b.session) b c t [] same (kept b c none.0) (none_come (accepts b.session) b c t [] refl) p
   any_heard accepts sealed b c u t (unsent failed) same p = down (accepts b.session) b c t [] (ap (λ (z : Inner S). is_open z.state) failed.rest_is)
   any_heard accepts sealed b c u t (local _ call) same p =

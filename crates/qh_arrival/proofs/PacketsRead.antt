@@ -1,5 +1,5 @@
 -- A packet whose number is told by its low four bytes opens, with its number and its frames.
-use Rattle.std.proofs.Common.{◌≡◌, ℕ, ◌+◌, ◌/◌, ◌%◌, ◌^◌, ◌<◌, ◌≤◌, Bool, List, ◌∷◌, ◌++◌, length, append_assoc, refl, ap, subst, ◌∙◌, inl, inr, arith}
+use Rattle.std.proofs.Common.{◌≡◌, ℕ, ◌+◌, ◌/◌, ◌%◌, ◌^◌, ◌<◌, ◌≤◌, Bool, List, ◌∷◌, ◌++◌, length, append_assoc, refl, sym, ap, subst, ◌∙◌, inl, inr, arith}
 use Rattle.std.proofs.lemmas.Bool.{cases_lt}
 use Rattle.qh_arrival.specs.Taking.{IsTold}
 use Rattle.qh_conduct.proofs.PacketsKept.{only_packet}
@@ -62,13 +62,17 @@ only_four e n m fits by is =
 
 -- ---- the packet
 
-module _ (sealed : Side → Space → ℕ → List ℕ) (tags : MakesTags sealed) (from : Side) (id d : List ℕ) (q : NumberedPacket) (s : IsSentIn sealed from id d q) where
+module _ (sealed : Side → Space → ℕ → List ℕ) (tags : MakesTags sealed) (from : Side) (own : ℕ) (d : List ℕ) (q : NumberedPacket) (s : IsSentIn sealed from own d q) where
+  abbrev id : List ℕ
+  id = s.destination
+
   abbrev tag : List ℕ
   tag = sealed from Data q.number
 
   -- the number of its packet is that of its tag
-  pub number_is : (p : Packet) → HasPacket (length id) p d → p.number ≡ q.number
-  number_is p there =
+  pub number_is : (p : Packet) → HasPacket own p d → p.number ≡ q.number
+  number_is p came =
+      let there : HasPacket (length id) p d = subst (λ (z : ℕ). HasPacket z p d) (sym s.length_is) came in
       let tagged = tags from q.number s.below in
       let parts = only_content (length id) q.number id s.bytes tag d p refl (tag_length tag from Data q.number tagged) s.is there in
       ap (λ (z : Packet). z.number) (only_packet id from q.number s.bytes tag p.frames tagged parts.1 p (subst (λ (z : List ℕ). HasPacket (length id) p z) s.is there))
@@ -83,8 +87,8 @@ module _ (sealed : Side → Space → ℕ → List ℕ) (tags : MakesTags sealed
   fits = record { destination = refl; some_number = omega arith; short_number = omega arith; tag = tag_length tag from Data q.number (tags from q.number s.below) }
 
   module _ (accepts : Side → Space → ℕ → List ℕ → Bool) (e : ℕ) (told : IsTold e q.number) where
-    pub opens : AcceptsWhatIsMade accepts sealed → IsOpened accepts (length id) from e d q.number s.bytes
-    opens takes = record {
+    opens_at : AcceptsWhatIsMade accepts sealed → IsOpened accepts (length id) from e d q.number s.bytes
+    opens_at takes = record {
       packet = short;
       is = record { whole = whole; fits = fits };
       expanded = expanded_four e q.number s.below (near_by e q.number s.below told);
@@ -93,8 +97,11 @@ module _ (sealed : Side → Space → ℕ → List ℕ) (tags : MakesTags sealed
       frames_are = refl;
     }
 
+    pub opens : AcceptsWhatIsMade accepts sealed → IsOpened accepts own from e d q.number s.bytes
+    opens takes = subst (λ (z : ℕ). IsOpened accepts z from e d q.number s.bytes) s.length_is (opens_at takes)
+
     -- and with no other number, and no other frames
-    pub opens_once : (number : ℕ) (frames : List ℕ) → IsOpened accepts (length id) from e d number frames → (number ≡ q.number) × (s.bytes ≡ frames)
+    pub opens_once : (number : ℕ) (frames : List ℕ) → IsOpened accepts own from e d number frames → (number ≡ q.number) × (s.bytes ≡ frames)
     opens_once number frames is =
-        let parts = parts_of accepts (length id) from e d short number frames fits whole is in
+        let parts = parts_of accepts (length id) from e d short number frames fits whole (subst (λ (z : ℕ). IsOpened accepts z from e d number frames) (sym s.length_is) is) in
         (only_four e q.number number s.below (near_by e q.number s.below told) parts.expanded, parts.frames_are)

@@ -1,5 +1,5 @@
 -- A packet of the peer's that is new is taken, and one that isn't came before.
-use Rattle.std.proofs.Common.{◌≡◌, ℕ, suc, Bool, true, false, List, [], ◌∷◌, Some, refl, sym, ap, subst, ◌∙◌, inl, inr, arith}
+use Rattle.std.proofs.Common.{◌≡◌, ℕ, suc, Bool, true, false, List, length, [], ◌∷◌, Some, refl, sym, ap, subst, ◌∙◌, inl, inr, arith}
 use Rattle.std.proofs.lemmas.Bool.{both_ways, cases_Bool}
 use Rattle.std.proofs.lemmas.Option.{same_Some}
 use Rattle.std.specs.Prelude.{slice_get}
@@ -38,13 +38,13 @@ use Rattle.qh_spec.specs.declared.sides.Space.{Space}
 module _ {S : Type 0} (sealed : Side → Space → ℕ → List ℕ) where
   -- as the end that it is for sees it
   sent_to : (c p : Inner S) (datagrams : List (List ℕ)) (sent : List NumberedPacket) (packet : NumberedPacket) (k : ℕ) (d : List ℕ) → ArePeers c p
-      → AreSent sealed p.side p.remote_id datagrams sent → slice_get datagrams k ≡ Some d → slice_get sent k ≡ Some packet → IsSentIn sealed (other c.side) c.local_id d packet
+      → AreSent sealed p.side (length p.remote_id) datagrams sent → slice_get datagrams k ≡ Some d → slice_get sent k ≡ Some packet → IsSentIn sealed (other c.side) (length c.local_id) d packet
   sent_to c p datagrams sent packet k d peers are at is =
-      let found = sent_numbers sealed p.side p.remote_id datagrams sent k d are at in
+      let found = sent_numbers sealed p.side (length p.remote_id) datagrams sent k d are at in
       let same : found.0 ≡ packet = same_Some found.0 packet (sym found.1 ∙ is) in
-      subst (λ (z : List ℕ). IsSentIn sealed (other c.side) z d packet) peers.there
-      (subst (λ (z : Side). IsSentIn sealed z p.remote_id d packet) peers.sides
-      (subst (λ (z : NumberedPacket). IsSentIn sealed p.side p.remote_id d z) same found.3))
+      subst (λ (z : ℕ). IsSentIn sealed (other c.side) z d packet) peers.there
+      (subst (λ (z : Side). IsSentIn sealed z (length p.remote_id) d packet) peers.sides
+      (subst (λ (z : NumberedPacket). IsSentIn sealed p.side (length p.remote_id) d z) same found.3))
 
 -- ---- numbers that were accepted
 
@@ -91,15 +91,15 @@ linked_from tc tp linked d among = linked.to d among
 -- ---- one that is new
 
 module _ {S : Type 0} (accepts : Side → Space → ℕ → List ℕ → Bool) (sealed : Side → Space → ℕ → List ℕ) (takes : AcceptsWhatIsMade accepts sealed) (tags : MakesTags sealed)
-    (c new : Inner S) (now : Moment) (d : List ℕ) (packet : NumberedPacket) (s : IsSentIn sealed (other c.side) c.local_id d packet) (told : IsReadable c packet.number)
+    (c new : Inner S) (now : Moment) (d : List ℕ) (packet : NumberedPacket) (s : IsSentIn sealed (other c.side) (length c.local_id) d packet) (told : IsReadable c packet.number)
     (up : is_open c.state ≡ true) (still : is_open new.state ≡ true) (fresh : IsNewTo c.space packet.number) (accepted : List ℕ) (known : Remembers accepted c.space.dedup) where
   is_opened : IsOpenedBy accepts c d packet.number s.bytes
   is_opened =
       let e = expected_of c.space in
-      record { expected = e.0; is_expected = e.1; is = opens sealed tags (other c.side) c.local_id d packet s accepts e.0 (told e.0 e.1) takes }
+      record { expected = e.0; is_expected = e.1; is = opens sealed tags (other c.side) (length c.local_id) d packet s accepts e.0 (told e.0 e.1) takes }
 
   same_number : (number : ℕ) (frames : List ℕ) → IsOpenedBy accepts c d number frames → (number ≡ packet.number) × (s.bytes ≡ frames)
-  same_number number frames o = opens_once sealed tags (other c.side) c.local_id d packet s accepts o.expected (told o.expected o.is_expected) number frames o.is
+  same_number number frames o = opens_once sealed tags (other c.side) (length c.local_id) d packet s accepts o.expected (told o.expected o.is_expected) number frames o.is
 
   not_faulted : (fault : TransportError) → IsFaulted now fault c new → ⊥
   not_faulted fault f = both_ways (is_open new.state) (ap (λ (x : Inner S). is_open x.state) f.closed.rest_is) still
@@ -129,7 +129,7 @@ module _ {S : Type 0} (accepts : Side → Space → ℕ → List ℕ → Bool) (
 module _ {S : Type 0} where
   pub new_taken : (accepts : Side → Space → ℕ → List ℕ → Bool) (sealed : Side → Space → ℕ → List ℕ) → AcceptsWhatIsMade accepts sealed → MakesTags sealed
       → (c p new : Inner S) (tc tp : List Act) (sent : List NumberedPacket) (packet : NumberedPacket) (k : ℕ) (now : Moment) (remote : SocketAddr) (datagram : List ℕ) → ArePeers c p
-      → (c.error ≡ Some Memory → ⊥) → Follows c tc → AreSent sealed p.side p.remote_id (handed_out tp) sent → slice_get (handed_out tp) k ≡ Some datagram → slice_get sent k ≡ Some packet → IsReadable c packet.number
+      → (c.error ≡ Some Memory → ⊥) → Follows c tc → AreSent sealed p.side (length p.remote_id) (handed_out tp) sent → slice_get (handed_out tp) k ≡ Some datagram → slice_get sent k ≡ Some packet → IsReadable c packet.number
       → is_open c.state ≡ true → IsEventTaken accepts (Datagram now remote datagram) c new → is_open new.state ≡ true → IsNewTo c.space packet.number
       → IsTakenFrom now packet (received (Datagram now remote datagram) c) new
   new_taken accepts sealed takes tags c p new tc tp sent packet k now remote datagram peers lives follows are at is told up event still fresh =
@@ -141,7 +141,7 @@ module _ {S : Type 0} where
 
   -- a number that isn't new, though it is near, was accepted
   pub repeated_came : (sealed : Side → Space → ℕ → List ℕ) → MakesTags sealed → (c p : Inner S) (tc tp : List Act) (sent : List NumberedPacket) (packet : NumberedPacket) (k : ℕ) (datagram : List ℕ)
-      → ArePeers c p → AreLinked tc tp → (c.error ≡ Some Memory → ⊥) → Follows c tc → AreSent sealed p.side p.remote_id (handed_out tp) sent
+      → ArePeers c p → AreLinked tc tp → (c.error ≡ Some Memory → ⊥) → Follows c tc → AreSent sealed p.side (length p.remote_id) (handed_out tp) sent
       → slice_get (handed_out tp) k ≡ Some datagram → slice_get sent k ≡ Some packet → IsReadable c packet.number → IsOldTo c.space packet.number → In datagram (handed_in tc)
   unfolding Follows
   repeated_came sealed tags c p tc tp sent packet k datagram peers linked lives f are at is told old =
@@ -151,11 +151,11 @@ module _ {S : Type 0} where
       let came = f.numbers packet.number among in
       let from : In came.datagram (handed_out tp) = linked_from tc tp linked came.datagram came.among in
       let place = at_place (handed_out tp) came.datagram from in
-      let there = sent_numbers sealed p.side p.remote_id (handed_out tp) sent place.0 came.datagram are place.1 in
-      let here = sent_numbers sealed p.side p.remote_id (handed_out tp) sent k datagram are at in
+      let there = sent_numbers sealed p.side (length p.remote_id) (handed_out tp) sent place.0 came.datagram are place.1 in
+      let here = sent_numbers sealed p.side (length p.remote_id) (handed_out tp) sent k datagram are at in
       let mine : here.0 ≡ packet = same_Some here.0 packet (sym here.1 ∙ is) in
       let seen = sent_to sealed c p (handed_out tp) sent there.0 place.0 came.datagram peers are place.1 there.1 in
-      let number : came.packet.number ≡ there.0.number = number_is sealed tags (other c.side) c.local_id came.datagram there.0 seen came.packet came.has in
+      let number : came.packet.number ≡ there.0.number = number_is sealed tags (other c.side) (length c.local_id) came.datagram there.0 seen came.packet came.has in
       let same : place.0 ≡ k = sym there.2 ∙ (sym number ∙ (came.number_is ∙ (sym (ap (λ (z : NumberedPacket). z.number) mine) ∙ here.2))) in
       let one : came.datagram ≡ datagram = same_Some came.datagram datagram (sym place.1 ∙ (ap (λ (z : ℕ). slice_get (handed_out tp) z) same ∙ at)) in
       subst (λ (z : List ℕ). In z (handed_in tc)) one came.among

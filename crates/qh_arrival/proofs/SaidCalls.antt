@@ -12,6 +12,7 @@ use Rattle.qh_base.specs.declared.connection_error.ConnectionError.TheVariants.{
 use Rattle.qh_base.specs.declared.path.Transmit.{Transmit}
 use Rattle.qh_base.specs.declared.time.Moment.{Moment}
 use Rattle.qh_conduct.proofs.PacketsKept.{packet_there}
+use Rattle.qh_conduct.proofs.TurnedAside.{turned_aside}
 use Rattle.qh_conduct.specs.Announced.{HasSent, MakesTags}
 use Rattle.qh_core.proofs.ControlFrames.{bare_rest}
 use Rattle.qh_core.proofs.Ends.{goes_on_space}
@@ -22,9 +23,9 @@ use Rattle.qh_core.specs.Event.IsDrainedTold.{drained as drain_told, none as no_
 use Rattle.qh_core.specs.Event.IsPolledEvent.{stream, lost as lost_told, none as nothing}
 use Rattle.qh_core.specs.Follows.{event_acts, transmit_acts}
 use Rattle.qh_core.specs.Inner.{IsNewSpace, IsSameEnd, is_open}
-use Rattle.qh_core.specs.Made.{AcceptsTags, AreMade, IsAnyCall, IsLocalCall, MakesTagsOf}
-use Rattle.qh_core.specs.Made.IsAnyCall.{handed_in, lost, handed_out as datagram_out, nothing_sent, unsent, local}
-use Rattle.qh_core.specs.Made.IsLocalCall.{timeout, closed, polled, endpoint_polled, on_streams}
+use Rattle.qh_core.specs.Made.{AcceptsTags, AreMade, IsAnyCall, IsLocalCall, IsTurned, MakesTagsOf}
+use Rattle.qh_core.specs.Made.IsAnyCall.{handed_in, lost, handed_out as datagram_out, control_out, nothing_sent, unsent, local}
+use Rattle.qh_core.specs.Made.IsLocalCall.{timeout, closed, polled, endpoint_polled, turned, on_streams}
 use Rattle.qh_core.specs.Receiving.{IsClosedWith, IsDatagramTaken, IsEventTaken, IsPacketHandled, IsPacketTaken, received}
 use Rattle.qh_core.specs.Receiving.IsDatagramTaken.{dropped, handled, told_again, closed_too, draining, drained}
 use Rattle.qh_core.specs.Receiving.IsPacketHandled.{repeated, empty, faulty, unnoted, taken}
@@ -73,7 +74,7 @@ module _ {S : Type 0} where
     datagram = h.datagram;
     among = subst (λ (l : List (List ℕ)). In h.datagram l) (sym (handed_out-append t u)) (in_left h.datagram (handed_out t) (handed_out u) h.among);
     packet = h.packet;
-    has = subst (λ (id : List ℕ). HasPacket (length id) h.packet h.datagram) (sym same.remote_id) h.has;
+    has = subst (λ (id : ℕ). HasPacket id h.packet h.datagram) (sym same.remote_length) h.has;
     space_is = h.space_is;
     sender_is = h.sender_is ∙ sym same.side;
     frame_among = h.frame_among;
@@ -216,7 +217,7 @@ module _ {S : Type 0} where
         datagram = d;
         among = subst (λ (l : List (List ℕ)). In d l) (sym (handed_out-append t (HandedOut d ∷ []))) (in_last d (handed_out t));
         packet = record { space = Data; sender = old.side; number = old.space.next_number; frames = k.frames };
-        has = rw (same.remote_id) (packet_there old.remote_id old.side old.space.next_number frames tag k.frames tagged k.are);
+        has = rw (same.remote_length) (packet_there old.remote_id old.side old.space.next_number frames tag k.frames tagged k.are);
         space_is = refl;
         sender_is = sym same.side;
         frame_among = among;
@@ -249,17 +250,25 @@ module _ {S : Type 0} where
 
   -- ---- calls
 
+  turned_on : (old new : Inner S) → IsTurned old new → StaysOn old new
+  turned_on old new is = elim (turned_aside old new is) [
+    | inl lacks ↦ shut_as old new _ lacks.rest_is refl
+    | inr aside ↦ λ up. (aside.opens up, subst (λ (s : DataSpace). LimitsStay old.space.streams s.streams) (sym aside.space) (limits_same Nothing old.space.streams))
+  ]
+
   local_on : (b c : Inner S) (u : List Act) → IsLocalCall b c u → StaysOn b c
   local_on b c u (timeout now timed _) = timed_on now b c timed
   local_on b c u (closed now code reason ends stays) = close_on now _ b c ends stays
   local_on b c u (polled told is) = told_on b c told is
   local_on b c u (endpoint_polled told is) = drained_on b c told is
+  local_on b c u (turned is) = turned_on b c is
   local_on b c u (on_streams _ call) = λ up. (sym (ap (λ (z : Inner S). is_open z.state) (only_streams b c u call)) ∙ up, called_limits Nothing b c u call)
 
   any_said : (accepts : AcceptsTags S) (sealed : MakesTagsOf S) (b c : Inner S) (u t : List Act) → MakesTags (sealed b.session) → IsAnyCall accepts sealed b c u → IsSameEnd b c → SaysOpen b t → SaysOpen c (t ++ u)
   any_said accepts sealed b c u t tags (handed_in event came _) same p = says_by b c t (event_acts event) same (event_on (accepts b.session) event b c came) p
   any_said accepts sealed b c u t tags (lost event failed _) same p = says_by b c t (event_acts event) same (shut_as b c _ failed.rest_is refl) p
   any_said accepts sealed b c u t tags (datagram_out now before after transmit made back _) same p = datagram_said (sealed b.session) tags now b c before after transmit t same made p
+  any_said accepts sealed b c u t tags (control_out now before after frames sent is _) same p = datagram_said (sealed b.session) tags now b c before after sent.transmit t same is.made p
   any_said accepts sealed b c u t tags (nothing_sent none) same p = says_by b c t [] same (kept b c none.0) p
   any_said accepts sealed b c u t tags (unsent failed) same p = says_by b c t [] same (shut_as b c _ failed.rest_is refl) p
   any_said accepts sealed b c u t tags (local _ call) same p = says_by b c t u same (local_on b c u call) p

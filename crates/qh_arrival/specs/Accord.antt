@@ -1,5 +1,5 @@
 -- How an end stands to all that was done with it, as one relation.
-use Rattle.std.specs.Prelude.{ℕ, List}
+use Rattle.std.specs.Prelude.{ℕ, List, length}
 use Rattle.qh_arrival.specs.Asked.{HasAsked}
 use Rattle.qh_arrival.specs.Heard.{HasHeard, LimitsAreHeard}
 use Rattle.qh_arrival.specs.Said.{HasSaid}
@@ -38,7 +38,7 @@ module _ {S : Type 0} (accepts : AcceptsTag) (sealed : Side → Space → ℕ �
   pub record IsInAccord (c : Inner S) (t : List Act) : Type 0 where
     pub owed : KeepsWhatIsOwed accepts c t
     pub sent : List NumberedPacket
-    pub sent_are : AreSent sealed c.side c.remote_id (handed_out t) sent
+    pub sent_are : AreSent sealed c.side (length c.remote_id) (handed_out t) sent
     pub accepted : List NumberedPacket
     pub ledger : IsLedger accepts sealed c sent accepted t
     pub heard : LimitsAreHeard c ledger.accepted_are.packets

@@ -1,4 +1,4 @@
-ghost use Rattle.std.specs.Prelude.{◌≡◌, ℕ, Bool, true, List, Some, slice_get};
+ghost use Rattle.std.specs.Prelude.{◌≡◌, ℕ, Bool, true, List, Some, length, slice_get};
 ghost use Rattle.std.specs.declared.net.socket_addr.SocketAddr.{SocketAddr as AnAddress};
 ghost use Rattle.qh_arrival.specs.Taking.{IsReadable, IsTakenFrom};
 ghost use Rattle.qh_base.specs.declared.connection_error.ConnectionError.TheVariants.{Memory};
@@ -24,10 +24,10 @@ ghost use Rattle.qh_spec.specs.declared.sides.Space.{Space as ASpace};
 pub fn taken<S>()
     ensures new { (accepts : ASide → ASpace → ℕ → List ℕ → Bool) (sealed : ASide → ASpace → ℕ → List ℕ) → AcceptsWhatIsMade accepts sealed → MakesTags sealed
         → (c p new : AnInner S) (tc tp : List Act) (sent : List APacket) (packet : APacket) (k : ℕ) (now : AMoment) (remote : AnAddress) (datagram : List ℕ) → ArePeers c p
-        → (c.error ≡ Some Memory → ⊥) → Follows c tc → AreSent sealed p.side p.remote_id (handed_out tp) sent → slice_get (handed_out tp) k ≡ Some datagram → slice_get sent k ≡ Some packet → IsReadable c packet.number
+        → (c.error ≡ Some Memory → ⊥) → Follows c tc → AreSent sealed p.side (length p.remote_id) (handed_out tp) sent → slice_get (handed_out tp) k ≡ Some datagram → slice_get sent k ≡ Some packet → IsReadable c packet.number
         → is_open c.state ≡ true → IsEventTaken accepts (ADatagram now remote datagram) c new → is_open new.state ≡ true → IsNewTo c.space packet.number
         → IsTakenFrom now packet (received (ADatagram now remote datagram) c) new }
     ensures repeated { (sealed : ASide → ASpace → ℕ → List ℕ) → MakesTags sealed → (c p : AnInner S) (tc tp : List Act) (sent : List APacket) (packet : APacket) (k : ℕ) (datagram : List ℕ)
-        → ArePeers c p → AreLinked tc tp → (c.error ≡ Some Memory → ⊥) → Follows c tc → AreSent sealed p.side p.remote_id (handed_out tp) sent
+        → ArePeers c p → AreLinked tc tp → (c.error ≡ Some Memory → ⊥) → Follows c tc → AreSent sealed p.side (length p.remote_id) (handed_out tp) sent
         → slice_get (handed_out tp) k ≡ Some datagram → slice_get sent k ≡ Some packet → IsReadable c packet.number → IsOldTo c.space packet.number → In datagram (handed_in tc) }
 {}

@@ -87,7 +87,7 @@ module _ {S : Type 0} where
     announced = announced.called old new t u call rest into out b.announced;
     granted = granted.called old new call rest b.granted;
     sized = sized.called_sized old new t u call may rest wrote out b.sized;
-    filled = quiet_filled old new t u (same_end old new _ rest (record { side = refl; local_id = refl; remote_id = refl; config = refl })) out b.filled;
+    filled = quiet_filled old new t u (same_end old new _ rest (record { side = refl; local_id = refl; remote_length = refl; config = refl })) out b.filled;
   }
 
   -- one that adds nothing

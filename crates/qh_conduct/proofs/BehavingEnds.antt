@@ -13,6 +13,7 @@ use Rattle.qh_conduct.proofs.FilledFrames.{fresh_filled, quiet_filled}
 use Rattle.qh_conduct.proofs.GrantedCalls as granted
 use Rattle.qh_conduct.proofs.ReachConnections as reached
 use Rattle.qh_conduct.proofs.SizedCalls as sized
+use Rattle.qh_conduct.proofs.TurnedAside.{IsAside, turned_aside}
 use Rattle.qh_conduct.specs.Announced.{MakesTags}
 use Rattle.qh_conduct.specs.Behaves.{Behaves}
 use Rattle.qh_conduct.specs.Filled.{AreFilled}
@@ -20,6 +21,7 @@ use Rattle.qh_conduct.specs.Reached.{AreNamed}
 use Rattle.qh_core.specs.Event.{IsDrainedTold, IsPolledEvent}
 use Rattle.qh_core.specs.Follows.{Follows, event_acts, transmit_acts}
 use Rattle.qh_core.specs.Inner.{IsFailedBy, IsNewSpace, IsSameEnd, is_open}
+use Rattle.qh_core.specs.Made.{IsTurned}
 use Rattle.qh_core.specs.Receiving.{IsClosedWith, IsEventTaken, received}
 use Rattle.qh_core.specs.Sending.{ClosesReadBack, IsDatagramMade, NothingIsSent}
 use Rattle.qh_core.specs.Timers.{IsTimedOut}
@@ -60,16 +62,16 @@ module _ {S : Type 0} where
   same_end old new c e same = subst (λ (c : Inner S). IsSameEnd old c) (sym e) same
 
   own_end : (c : Inner S) → IsSameEnd c c
-  own_end c = record { side = refl; local_id = refl; remote_id = refl; config = refl }
+  own_end c = record { side = refl; local_id = refl; remote_length = refl; config = refl }
 
   none_end : (old new : Inner S) → NothingIsSent old new → IsSameEnd old new
   none_end old new n = same_end old new old n.0 (own_end old)
 
   failed_end : (old new : Inner S) → IsFailedBy old new → IsSameEnd old new
-  failed_end old new f = same_end old new _ f.rest_is (record { side = refl; local_id = refl; remote_id = refl; config = refl })
+  failed_end old new f = same_end old new _ f.rest_is (record { side = refl; local_id = refl; remote_length = refl; config = refl })
 
   received_end : (event : ConnectionEvent) (old new : Inner S) → IsFailedBy (received event old) new → IsSameEnd old new
-  received_end (Datagram now remote payload) old new f = same_end old new _ f.rest_is (record { side = refl; local_id = refl; remote_id = refl; config = refl })
+  received_end (Datagram now remote payload) old new f = same_end old new _ f.rest_is (record { side = refl; local_id = refl; remote_length = refl; config = refl })
   received_end (Close now code reason) old new f = failed_end old new f
 
   pub still_filled : (old new : Inner S) (t : List Act) → IsSameEnd old new → AreFilled old t → AreFilled new t
@@ -137,6 +139,22 @@ module _ {S : Type 0} where
     sized = sized.failed_sized old new t failed b.sized;
     filled = still_filled old new t (failed_end old new failed) b.filled;
   }
+
+  aside_behaves : (old new : Inner S) (t : List Act) → IsAside old new → Follows new t → Behaves old t → Behaves new t
+  aside_behaves old new t aside follows b = record {
+    follows = follows;
+    reached = reached.aside_law old new t aside b.reached;
+    announced = announced.aside_announced old new t aside b.announced;
+    granted = granted.aside_granted old new aside b.granted;
+    sized = sized.aside_sized old new t aside b.sized;
+    filled = still_filled old new t aside.same b.filled;
+  }
+
+  pub turned_behaves : (old new : Inner S) (t : List Act) → IsTurned old new → Follows new t → Behaves old t → Behaves new t
+  turned_behaves old new t turned follows b = elim (turned_aside old new turned) [
+    | inl lacks ↦ failed_behaves old new t lacks follows b
+    | inr aside ↦ aside_behaves old new t aside follows b
+  ]
 
   -- its STREAM frames are filled, as is said of each datagram that is made
   pub made_behaves : (sealed : Side → Space → ℕ → List ℕ) → MakesTags sealed → (now : Moment) (old new : Inner S) (before after : List ℕ) (transmit : Transmit) (t : List Act) → IsDatagramMade sealed now old new before after transmit

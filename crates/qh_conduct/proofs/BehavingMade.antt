@@ -1,10 +1,10 @@
 -- An end goes on as it behaved, over whatever calls are made.
-use Rattle.std.proofs.Common.{◌≡◌, ℕ, Bool, List, [], ◌++◌, Option, Some, None, Result, Ok, Err, IfOk, IfErr, refl, sym, ap, subst, inr}
+use Rattle.std.proofs.Common.{◌≡◌, ℕ, Bool, List, [], ◌++◌, Option, Some, None, Result, Ok, Err, IfOk, IfErr, refl, sym, ap, subst, inl, inr}
 use Rattle.std.specs.Prelude.{MatchResult}
 use Rattle.std.proofs.lemmas.List.{append-nil}
 use Rattle.qh_buffers.specs.declared.assembler.Chunk.{Chunk}
 use Rattle.qh_conduct.proofs.BehavingCalls.{accepted_behaves, called_behaves, finished_behaves, on_own, opened_behaves, read_behaves, reset_behaves, same_behaves, unwritten_behaves, wrote_behaves}
-use Rattle.qh_conduct.proofs.BehavingEnds.{closed_behaves, drained_behaves, event_behaves, failed_behaves, failed_event, made_behaves, none_behaves, polled_behaves, timed_behaves}
+use Rattle.qh_conduct.proofs.BehavingEnds.{closed_behaves, drained_behaves, event_behaves, failed_behaves, failed_event, made_behaves, none_behaves, polled_behaves, timed_behaves, turned_behaves}
 use Rattle.qh_conduct.proofs.FilledFrames.{made_filled}
 use Rattle.qh_conduct.specs.Announced.{MakesTags}
 use Rattle.qh_conduct.specs.Behaves.{Behaves}
@@ -14,8 +14,8 @@ use Rattle.qh_core.proofs.MadeTogether.{carried_on}
 use Rattle.qh_core.specs.Follows.{Follows}
 use Rattle.qh_core.specs.Inner.{IsSameEnd}
 use Rattle.qh_core.specs.Made.{AcceptsTags, MakesTagsOf, AreMade, IsAnyCall, IsLocalCall, IsStreamCall}
-use Rattle.qh_core.specs.Made.IsAnyCall.{handed_in, lost, handed_out as datagram_out, nothing_sent, unsent, local}
-use Rattle.qh_core.specs.Made.IsLocalCall.{timeout, closed, polled, endpoint_polled, on_streams}
+use Rattle.qh_core.specs.Made.IsAnyCall.{handed_in, lost, handed_out as datagram_out, control_out, nothing_sent, unsent, local}
+use Rattle.qh_core.specs.Made.IsLocalCall.{timeout, closed, polled, endpoint_polled, turned, on_streams}
 use Rattle.qh_core.specs.Made.IsStreamCall.{unchanged, opened, accepted, wrote, unwritten, finished, reset, prioritized, read, stopped, took_reset, concurrent, send_window, receive_window}
 use Rattle.qh_core.specs.Streams.{IsRead, IsReadFault}
 use Rattle.qh_core.specs.declared.fault.TakeFault.{TakeFault}
@@ -84,6 +84,7 @@ module _ {S : Type 0} where
   local_behaves b c u t (closed now code reason ends stays) same follows p = with_nil c t follows (λ f. closed_behaves now code reason b c t ends stays same f p)
   local_behaves b c u t (polled told is) same follows p = with_nil c t follows (λ f. polled_behaves b c told t is same f p)
   local_behaves b c u t (endpoint_polled told is) same follows p = with_nil c t follows (λ f. drained_behaves b c told t is same f p)
+  local_behaves b c u t (turned is) same follows p = with_nil c t follows (λ f. turned_behaves b c t is f p)
   local_behaves b c u t (on_streams _ call) same follows p = stream_behaves b c u t call follows p
 
   any_behaves : (accepts : AcceptsTags S) (sealed : MakesTagsOf S) (b c : Inner S) (u t : List Act) → AreNamed (accepts b.session) → MakesTags (sealed b.session)
@@ -92,6 +93,9 @@ module _ {S : Type 0} where
   any_behaves accepts sealed b c u t named tags (lost event failed _) same follows p = failed_event event b c t failed follows p
   any_behaves accepts sealed b c u t named tags (datagram_out now before after transmit made back _) same follows p =
       made_behaves (sealed b.session) tags now b c before after transmit t made (inr back) follows (made_filled (sealed b.session) tags now b c before after transmit t made (inr back) p.filled) p
+  any_behaves accepts sealed b c u t named tags (control_out now before after frames sent is _) same follows p =
+      made_behaves (sealed b.session) tags now b c before after sent.transmit t is.made (inl is.opened) follows
+      (made_filled (sealed b.session) tags now b c before after sent.transmit t is.made (inl is.opened) p.filled) p
   any_behaves accepts sealed b c u t named tags (nothing_sent none) same follows p = with_nil c t follows (λ f. none_behaves b c t none f p)
   any_behaves accepts sealed b c u t named tags (unsent failed) same follows p = with_nil c t follows (λ f. failed_behaves b c t failed f p)
   any_behaves accepts sealed b c u t named tags (local _ call) same follows p = local_behaves b c u t call same follows p

@@ -1,5 +1,5 @@
 -- What a step of the connection leaves of how it stands to the datagrams.
-use Rattle.std.proofs.Common.{◌≡◌, ℕ, ◌≤◌, true, false, List, Option, Some, None, is_some, refl, ap, subst, arith, inl, inr}
+use Rattle.std.proofs.Common.{◌≡◌, ℕ, ◌≤◌, true, false, List, length, Option, Some, None, is_some, refl, ap, subst, arith, inl, inr}
 use Rattle.std.proofs.lemmas.Bool.{both_ways}
 use Rattle.qh_buffers.specs.Ranges.{has}
 use Rattle.qh_conduct.proofs.StreamsGoOn.{GoOn, reading_on, sending_on}
@@ -42,7 +42,8 @@ module _ {S : Type 0} where
   pub record Goes (old new : Inner S) : Type 0 where
     pub side : new.side ≡ old.side
     pub local_id : new.local_id ≡ old.local_id
-    pub remote_id : new.remote_id ≡ old.remote_id
+    pub remote_length : length new.remote_id ≡ length old.remote_id
+    pub config : new.config ≡ old.config
     pub streams : GoOn old.space.streams new.space.streams
     pub next : old.space.next_number ≤ new.space.next_number
     pub shut : is_open old.state ≡ false → is_open new.state ≡ false
@@ -63,7 +64,7 @@ module _ {S : Type 0} where
   frame_on old new came more f go among (max_stream_data id limit is named below) =
       max_stream_data id limit is (reading_on go.streams.later id named) (limited_on old.space.streams new.space.streams id limit go.streams named.0 below)
   frame_on old new came more f go among (max_streams dir count is below) = max_streams dir count is (let rises = go.streams.counts (is_two_way dir) in omega (arith, below, rises))
-  frame_on old new came more f go among (control g is may) = control g is (rw go.side may)
+  frame_on old new came more f go among (control g is may) = control g is (rw (go.side, go.config) may)
   frame_on old new came more f go among (close reason is shut) = close reason is (go.shut shut)
 
   pub datagram_on : (old new : Inner S) (came more : List (List ℕ)) (d : List ℕ) → Goes old new → ((d : List ℕ) → In d came → In d more) → IsKeptDatagram old came d → IsKeptDatagram new more d
@@ -72,8 +73,8 @@ module _ {S : Type 0} where
     used = let below = k.used in let rises = go.next in omega (arith, below, rises);
     frames = k.frames;
     some = k.some;
-    has = rw (go.side, go.remote_id) (k.has);
-    only = rw (go.side, go.remote_id) (k.only);
+    has = rw (go.side, go.remote_length) (k.has);
+    only = rw (go.side, go.remote_length) (k.only);
     kept = λ f is. frame_on old new came more f go among (k.kept f is);
   }
 

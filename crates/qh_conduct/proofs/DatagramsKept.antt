@@ -49,16 +49,16 @@ open_reads_back state (inr back) = back
 
 module _ {S : Type 0} where
   -- the datagram with these frames is as it should be
-  sealed_kept : (old new : Inner S) (came : List (List ℕ)) (frames tag : List ℕ) → new.side ≡ old.side → new.remote_id ≡ old.remote_id → old.space.next_number < new.space.next_number
+  sealed_kept : (old new : Inner S) (came : List (List ℕ)) (frames tag : List ℕ) → new.side ≡ old.side → length new.remote_id ≡ length old.remote_id → old.space.next_number < new.space.next_number
       → IsTag tag old.side Data old.space.next_number → (k : AreKept new came frames) → (k.frames ≡ [] → ⊥)
       → IsKeptDatagram new came (header_bytes old.remote_id old.space.next_number ++ (frames ++ tag))
-  sealed_kept old new came frames tag side remote_id used tagged k some = record {
+  sealed_kept old new came frames tag side remote_length used tagged k some = record {
     number = old.space.next_number;
     used = used;
     frames = k.frames;
     some = some;
-    has = rw (side, remote_id) (packet_there old.remote_id old.side old.space.next_number frames tag k.frames tagged k.are);
-    only = rw (side, remote_id) (only_packet old.remote_id old.side old.space.next_number frames tag k.frames tagged k.are);
+    has = rw (side, remote_length) (packet_there old.remote_id old.side old.space.next_number frames tag k.frames tagged k.are);
+    only = rw (side, remote_length) (only_packet old.remote_id old.side old.space.next_number frames tag k.frames tagged k.are);
     kept = k.kept;
   }
 
@@ -92,7 +92,8 @@ module _ {S : Type 0} where
       let goes : Goes old new = record {
         side = ap (λ (c : Inner S). c.side) e;
         local_id = ap (λ (c : Inner S). c.local_id) e;
-        remote_id = ap (λ (c : Inner S). c.remote_id) e;
+        remote_length = ap (λ (c : Inner S). length c.remote_id) e;
+        config = ap (λ (c : Inner S). c.config) e;
         streams = made_go now.0 (overhead old) (1200 - overhead old) old.space new.space header (header ++ frames) m;
         next = let one = rest.0 in omega (arith, one);
         shut = λ no. absurd (both_ways (is_open old.state) no up);
@@ -103,7 +104,7 @@ module _ {S : Type 0} where
       let same : b.bytes ≡ frames = sym (append_cancel_left header frames b.bytes b.appended) in
       let k : AreKept new (handed_in u) frames = subst (λ (z : List ℕ). AreKept new (handed_in u) z) same b.kept in
       one_more old new t d goes rest.1
-      (sealed_kept old new (handed_in u) frames (sealed old.side Data old.space.next_number) goes.side goes.remote_id (let one = rest.0 in omega (arith, one)) (tags old.side old.space.next_number below)
+      (sealed_kept old new (handed_in u) frames (sealed old.side Data old.space.next_number) goes.side goes.remote_length (let one = rest.0 in omega (arith, one)) (tags old.side old.space.next_number below)
       k (some_frames frames k.frames k.are (some_bytes header frames m.some))) p
   frames_go sealed tags now old new frames t (control_made up m e) below back (inl over) = absurd (both_ways (is_open old.state) (ap is_open over.1) up)
   frames_go sealed tags now old new frames t (control_made up m e) below back (inr p) =
@@ -113,19 +114,20 @@ module _ {S : Type 0} where
       let goes : Goes old new = record {
         side = ap (λ (c : Inner S). c.side) e;
         local_id = ap (λ (c : Inner S). c.local_id) e;
-        remote_id = ap (λ (c : Inner S). c.remote_id) e;
+        remote_length = ap (λ (c : Inner S). length c.remote_id) e;
+        config = ap (λ (c : Inner S). c.config) e;
         streams = bare_go now.0 (overhead old + length frames) old.space new.space m.sent;
         next = let one = rest.0 in omega (arith, one);
         shut = λ no. absurd (both_ways (is_open old.state) no up);
       } in
-      let r = control_frames old.side frames m.control in
+      let r = control_frames old.side old.config.peer_datagram frames m.control in
       let k : AreKept new (handed_in u) frames = record {
         frames = r.frames;
         are = r.are;
-        kept = λ f among. let g = r.all f among in controls g.0 g.1 (rw goes.side g.2);
+        kept = λ f among. let g = r.all f among in controls g.0 g.1 (rw (goes.side, goes.config) g.2);
       } in
       one_more old new t d goes rest.1
-      (sealed_kept old new (handed_in u) frames (sealed old.side Data old.space.next_number) goes.side goes.remote_id (let one = rest.0 in omega (arith, one)) (tags old.side old.space.next_number below)
+      (sealed_kept old new (handed_in u) frames (sealed old.side Data old.space.next_number) goes.side goes.remote_length (let one = rest.0 in omega (arith, one)) (tags old.side old.space.next_number below)
       k r.some) p
   frames_go sealed tags now old new frames t (close_made reason until is bytes_are e) below back (inl over) = absurd (not_over old (Closed reason true until) is (λ same. cc) over)
   frames_go sealed tags now old new frames t (close_made reason until is bytes_are e) below back (inr p) =
@@ -138,7 +140,8 @@ module _ {S : Type 0} where
       let goes : Goes old new = record {
         side = ap (λ (c : Inner S). c.side) e;
         local_id = ap (λ (c : Inner S). c.local_id) e;
-        remote_id = ap (λ (c : Inner S). c.remote_id) e;
+        remote_length = ap (λ (c : Inner S). length c.remote_id) e;
+        config = ap (λ (c : Inner S). c.config) e;
         streams = subst (λ (c : Inner S). GoOn old.space.streams c.space.streams) (sym e) (same_go old.space.streams);
         next = omega (arith, next);
         shut = λ no. shut;
@@ -149,7 +152,7 @@ module _ {S : Type 0} where
         kept = λ f among. elim among [ inl same ↦ subst (λ (g : QuicFrame). IsKeptFrame new (handed_in u) g) same (closes reason refl shut) | inr none ↦ absurd none ];
       } in
       one_more old new t d goes (ap (λ (c : Inner S). c.space.acks.ranges) e)
-      (sealed_kept old new (handed_in u) frames (sealed old.side Data old.space.next_number) goes.side goes.remote_id (omega (arith, next)) (tags old.side old.space.next_number below)
+      (sealed_kept old new (handed_in u) frames (sealed old.side Data old.space.next_number) goes.side goes.remote_length (omega (arith, next)) (tags old.side old.space.next_number below)
       k (λ none. cc)) p
 
   pub made_stands : (sealed : Side → Space → ℕ → List ℕ) → MakesTags sealed → (now : Moment) (old new : Inner S) (before after : List ℕ) (transmit : Transmit) (t : List Act)

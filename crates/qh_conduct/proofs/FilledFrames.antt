@@ -168,20 +168,20 @@ run_by own xs ys side run q there = record { datagram = q.datagram; among = ther
 module _ {S : Type 0} where
   record SameSender (old new : Inner S) : Type 0 where
     side : new.side ≡ old.side
-    remote_id : new.remote_id ≡ old.remote_id
+    remote_length : length new.remote_id ≡ length old.remote_id
 
   frames_sender : (now : Moment) (old new : Inner S) (before frames : List ℕ) → AreFramesMade now old new before frames → SameSender old new
-  frames_sender now old new before frames (packet_made up m e) = record { side = ap (λ (c : Inner S). c.side) e; remote_id = ap (λ (c : Inner S). c.remote_id) e }
-  frames_sender now old new before frames (control_made up m e) = record { side = ap (λ (c : Inner S). c.side) e; remote_id = ap (λ (c : Inner S). c.remote_id) e }
-  frames_sender now old new before frames (close_made reason until is bytes_are e) = record { side = ap (λ (c : Inner S). c.side) e; remote_id = ap (λ (c : Inner S). c.remote_id) e }
+  frames_sender now old new before frames (packet_made up m e) = record { side = ap (λ (c : Inner S). c.side) e; remote_length = ap (λ (c : Inner S). length c.remote_id) e }
+  frames_sender now old new before frames (control_made up m e) = record { side = ap (λ (c : Inner S). c.side) e; remote_length = ap (λ (c : Inner S). length c.remote_id) e }
+  frames_sender now old new before frames (close_made reason until is bytes_are e) = record { side = ap (λ (c : Inner S). c.side) e; remote_length = ap (λ (c : Inner S). length c.remote_id) e }
 
   frames_filled : (now : Moment) (old new : Inner S) (before frames : List ℕ) → AreFramesMade now old new before frames → ClosesReadBack old.state → Filled frames
   frames_filled now old new before frames (packet_made up m e) back =
       let b = packet_filled now.0 (overhead old) (1200 - overhead old) old.space new.space before (before ++ frames) m in
       subst (λ (z : List ℕ). Filled z) (sym (append_cancel_left before frames b.bytes b.appended)) b.filled
   frames_filled now old new before frames (control_made up m e) back =
-      let r = control_frames old.side frames m.control in
-      record { frames = r.frames; are = r.are; all = of_each (λ (q : QuicFrame). IsFilled q) old.side frames r (λ g. no_stream (control_frame g) (control_silent g)) }
+      let r = control_frames old.side old.config.peer_datagram frames m.control in
+      record { frames = r.frames; are = r.are; all = of_each (λ (q : QuicFrame). IsFilled q) old.side old.config.peer_datagram frames r (λ g. no_stream (control_frame g) (control_silent g)) }
   frames_filled now old new before frames (close_made reason until is bytes_are e) back =
       subst (λ (z : List ℕ). Filled z) (append-nil (frame_bytes (close_frame reason)) ∙ sym bytes_are) (one_filled (close_frame reason) [] (back reason until is) (close_filled reason) none_filled)
 
@@ -190,7 +190,7 @@ module _ {S : Type 0} where
   one_more sealed tags old new frames t below same b before run has =
       let d = datagram_of sealed old frames in
       let q : HasRun (length old.remote_id) (handed_out (t ++ HandedOut d ∷ [])) old.side run =
-      subst (λ (i : List ℕ). HasRun (length i) (handed_out (t ++ HandedOut d ∷ [])) old.side run) same.remote_id (subst (λ (x : Side). HasRun (length new.remote_id) (handed_out (t ++ HandedOut d ∷ [])) x run) same.side has) in
+      subst (λ (i : ℕ). HasRun i (handed_out (t ++ HandedOut d ∷ [])) old.side run) same.remote_length (subst (λ (x : Side). HasRun (length new.remote_id) (handed_out (t ++ HandedOut d ∷ [])) x run) same.side has) in
       elim (in_more q.datagram d (handed_out t) (subst (λ (l : List (List ℕ)). In q.datagram l) (handed_out-append t (HandedOut d ∷ [])) q.among)) [
         | inl earlier ↦ before run (run_by (length old.remote_id) (handed_out (t ++ HandedOut d ∷ [])) (handed_out t) old.side run q earlier)
         | inr last ↦
@@ -207,7 +207,7 @@ module _ {S : Type 0} where
   pub quiet_filled : (old new : Inner S) (t u : List Act) → IsSameEnd old new → handed_out u ≡ [] → AreFilled old t → AreFilled new (t ++ u)
   quiet_filled old new t u same none before run has =
       let out : handed_out (t ++ u) ≡ handed_out t = handed_out-append t u ∙ ap (λ (l : List (List ℕ)). handed_out t ++ l) none ∙ append-nil (handed_out t) in
-      before run (rw (← same.side, ← same.remote_id, ← out) has)
+      before run (rw (← same.side, ← same.remote_length, ← out) has)
 
   pub made_filled : (sealed : Side → Space → ℕ → List ℕ) → MakesTags sealed → (now : Moment) (old new : Inner S) (before after : List ℕ) (transmit : Transmit) (t : List Act)
       → IsDatagramMade sealed now old new before after transmit → (is_open old.state ≡ true) ⊎ ClosesReadBack old.state → AreFilled old t

@@ -1,5 +1,5 @@
 -- The frames that are sent are in range.
-use Rattle.std.proofs.Common.{◌≡◌, ◌⊎◌, ℕ, ◌+◌, ◌-◌, ◌<◌, ◌≤◌, ◌^◌, ◌==◌, Bool, true, false, List, [], ◌∷◌, ◌++◌, length, Some, None, if◌then◌else◌, refl, sym, ap, subst, ◌∙◌, arith, inl, inr}
+use Rattle.std.proofs.Common.{◌≡◌, ◌⊎◌, ℕ, ◌+◌, ◌-◌, ◌<◌, ◌≤◌, ◌^◌, ◌==◌, Bool, true, false, List, [], ◌∷◌, ◌++◌, length, Option, Some, None, if◌then◌else◌, refl, sym, ap, subst, ◌∙◌, arith, inl, inr}
 use Rattle.std.proofs.lemmas.Bool.{cases_lt, eqb-true}
 use Rattle.std.proofs.lemmas.Option.{same_Some}
 use Rattle.qh_conduct.specs.Announced.{IsKeptFrame}
@@ -11,7 +11,7 @@ use Rattle.qh_core.specs.Inner.{AreOf}
 use Rattle.qh_core.specs.Sending.{close_frame}
 use Rattle.qh_core.specs.declared.config.ConnConfig.{ConnConfig}
 use Rattle.qh_core.specs.declared.control.ControlFrame.{ControlFrame}
-use Rattle.qh_core.specs.declared.control.ControlFrame.TheVariants.{NewToken, NewConnectionId, RetireConnectionId}
+use Rattle.qh_core.specs.declared.control.ControlFrame.TheVariants.{NewToken, NewConnectionId, RetireConnectionId, Datagram}
 use Rattle.qh_core.specs.declared.inner.Inner.{Inner}
 use Rattle.qh_core.specs.declared.state.Close.{Close}
 use Rattle.qh_core.specs.declared.state.Close.TheVariants.{Application, Connection}
@@ -201,10 +201,11 @@ form_fits true false id offset payload e small = rw e (omega (arith, small))
 form_fits false true id offset payload e small = rw e small
 form_fits false false id offset payload e small = rw e small
 
-pub control_fits : (side : Side) (g : ControlFrame) → MaySend side g → IsInRange (control_frame g)
-control_fits side (NewToken token) may = may.1
-control_fits side (NewConnectionId sequence prior id reset_token) may = may
-control_fits side (RetireConnectionId sequence) may = tt
+pub control_fits : (side : Side) (peer_datagram : Option ℕ) (g : ControlFrame) → MaySend side peer_datagram g → IsInRange (control_frame g)
+control_fits side peer_datagram (NewToken token) may = may.1
+control_fits side peer_datagram (NewConnectionId sequence prior id reset_token) may = may
+control_fits side peer_datagram (RetireConnectionId sequence) may = tt
+control_fits side peer_datagram (Datagram payload) may = tt
 
 module _ {S : Type 0} (c : Inner S) (came : List (List ℕ)) where
   close_fits : (reason : Close) → IsInRange (close_frame reason)
@@ -222,7 +223,7 @@ module _ {S : Type 0} (c : Inner S) (came : List (List ℕ)) where
   frame_fits f counts fits (max_stream_data id limit is named below) = subst (λ (g : QuicFrame). IsInRange g) (sym is) tt
   frame_fits f counts fits (max_streams Bi count is below) = subst (λ (g : QuicFrame). IsInRange g) (sym is) (let bound = counts true in omega (arith, below, bound))
   frame_fits f counts fits (max_streams Uni count is below) = subst (λ (g : QuicFrame). IsInRange g) (sym is) (let bound = counts false in omega (arith, below, bound))
-  frame_fits f counts fits (control g is may) = subst (λ (q : QuicFrame). IsInRange q) (sym is) (control_fits c.side g may)
+  frame_fits f counts fits (control g is may) = subst (λ (q : QuicFrame). IsInRange q) (sym is) (control_fits c.side c.config.peer_datagram g may)
   frame_fits f counts fits (close reason is shut) = subst (λ (g : QuicFrame). IsInRange g) (sym is) (close_fits reason)
 
 -- a STREAM frame of a datagram that was handed out

@@ -46,7 +46,7 @@ module _ {S : Type 0} (c : Inner S) (came : List (List ℕ)) where
   at s = record c { space = record c.space { streams = s } }
 
   at_goes : (old new : PlainStreams) → GoOn old new → Goes (at old) (at new)
-  at_goes old new go = record { side = refl; local_id = refl; remote_id = refl; streams = go; next = omega arith; shut = λ no. no }
+  at_goes old new go = record { side = refl; local_id = refl; remote_length = refl; config = refl; streams = go; next = omega arith; shut = λ no. no }
 
   handed_kept : (old mid : PlainStreams) (room : ℕ) (f : SentFrame) → AreLive old → IsHandedOver old mid room f → IsKeptFrame (at mid) came (written_frame mid f)
   handed_kept old mid room f live (stream_handed id piece next rest) =

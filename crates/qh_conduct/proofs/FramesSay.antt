@@ -3,12 +3,12 @@ use Rattle.std.proofs.Common.{◌≡◌, ◌⊎◌, ℕ, ◌+◌, ◌/◌, ◌<�
 use Rattle.std.proofs.lemmas.Bool.{eqb-true, or_cases}
 use Rattle.qh_conduct.specs.Announced.{HasComeWith, IsKeptFrame, IsLimited, IsReading, IsSending}
 use Rattle.qh_conduct.specs.Announced.IsKeptFrame.{ping, response, ack, stream, reset, stop, max_data, max_stream_data, max_streams, control, close}
-use Rattle.qh_core.proofs.ControlFrames.{control_kind as kind_of}
 use Rattle.qh_core.specs.Control.{control_frame}
 use Rattle.qh_core.specs.Inner.{is_open}
 use Rattle.qh_core.specs.Receiving.{is_close}
 use Rattle.qh_core.specs.Sending.{close_frame}
 use Rattle.qh_core.specs.declared.control.ControlFrame.{ControlFrame}
+use Rattle.qh_core.specs.declared.control.ControlFrame.TheVariants.{NewToken, NewConnectionId, RetireConnectionId, Datagram}
 use Rattle.qh_core.specs.declared.inner.Inner.{Inner}
 use Rattle.qh_core.specs.declared.state.Close.{Close}
 use Rattle.qh_core.specs.declared.state.Close.TheVariants.{Application, Connection}
@@ -54,19 +54,26 @@ close_kind f (Application a) is = let b = exact_kind f 29 _ is in (omega (arith,
 
 -- the types of the frames of a connection's own
 abbrev pub IsControlKind : ℕ → Type 0
-IsControlKind kind = (kind ≡ 7) ⊎ ((kind ≡ 24) ⊎ (kind ≡ 25))
+IsControlKind kind = (kind ≡ 7) ⊎ ((kind ≡ 24) ⊎ ((kind ≡ 25) ⊎ (kind ≡ 49)))
+
+kind_of : (g : ControlFrame) → IsControlKind (control_frame g).kind
+kind_of (NewToken token) = inl refl
+kind_of (NewConnectionId sequence prior id reset_token) = inr (inl refl)
+kind_of (RetireConnectionId sequence) = inr (inr (inl refl))
+kind_of (Datagram payload) = inr (inr (inr refl))
 
 pub control_kind : (f : QuicFrame) (g : ControlFrame) → f ≡ control_frame g → IsControlKind f.kind
 control_kind f g is = subst (λ (q : QuicFrame). IsControlKind q.kind) (sym is) (kind_of g)
 
 -- a type between two bounds that have none of these between them isn't one
-pub no_control : (low high kind : ℕ) → Between low high kind → IsControlKind kind → (7 < low) ⊎ (high < 7) → (25 < low) ⊎ (high < 24) → ⊥
-no_control low high kind b (inl is) (inl above) apart = let l = b.0 in omega (arith, is, l, above)
-no_control low high kind b (inl is) (inr below) apart = let h = b.1 in omega (arith, is, h, below)
-no_control low high kind b (inr (inl is)) seven (inl above) = let l = b.0 in omega (arith, is, l, above)
-no_control low high kind b (inr (inl is)) seven (inr below) = let h = b.1 in omega (arith, is, h, below)
-no_control low high kind b (inr (inr is)) seven (inl above) = let l = b.0 in omega (arith, is, l, above)
-no_control low high kind b (inr (inr is)) seven (inr below) = let h = b.1 in omega (arith, is, h, below)
+pub no_control : (low high kind : ℕ) → Between low high kind → IsControlKind kind → (7 < low) ⊎ (high < 7) → (25 < low) ⊎ (high < 24) → high < 49 → ⊥
+no_control low high kind b (inl is) (inl above) apart last = let l = b.0 in omega (arith, is, l, above)
+no_control low high kind b (inl is) (inr below) apart last = let h = b.1 in omega (arith, is, h, below)
+no_control low high kind b (inr (inl is)) seven (inl above) last = let l = b.0 in omega (arith, is, l, above)
+no_control low high kind b (inr (inl is)) seven (inr below) last = let h = b.1 in omega (arith, is, h, below)
+no_control low high kind b (inr (inr (inl is))) seven (inl above) last = let l = b.0 in omega (arith, is, l, above)
+no_control low high kind b (inr (inr (inl is))) seven (inr below) last = let h = b.1 in omega (arith, is, h, below)
+no_control low high kind b (inr (inr (inr is))) seven apart last = let h = b.1 in omega (arith, is, h, last)
 
 half_kind : (f : QuicFrame) → f.kind / 2 ≡ 1 → Between 2 3 f.kind
 half_kind f e = (omega (arith, e), omega (arith, e))
@@ -118,7 +125,7 @@ module _ {S : Type 0} (c : Inner S) (came : List (List ℕ)) where
   says_limit f said e (max_data limit is below) = let same : said ≡ limit = front_number (sym e ∙ is) in omega (arith, same, below)
   says_limit f said e (max_stream_data id limit is named below) = let a = exact_kind f 16 _ e in let b = exact_kind f 17 _ is in absurd (omega (arith, a.0, a.1, b.0, b.1))
   says_limit f said e (max_streams dir count is below) = let a = exact_kind f 16 _ e in let b = count_kind f dir count is in absurd (omega (arith, a.0, a.1, b.0, b.1))
-  says_limit f said e (control g is may) = absurd (no_control 16 16 f.kind (exact_kind f 16 _ e) (control_kind f g is) (inl (omega arith)) (inr (omega arith)))
+  says_limit f said e (control g is may) = absurd (no_control 16 16 f.kind (exact_kind f 16 _ e) (control_kind f g is) (inl (omega arith)) (inr (omega arith)) (omega arith))
   says_limit f said e (close reason is shut) = let a = exact_kind f 16 _ e in let b = close_kind f reason is in absurd (omega (arith, a.0, a.1, b.0, b.1))
 
   pub says_count : (f : QuicFrame) (way : Dir) (said : ℕ) → f ≡ frame (by_dir way 18 19) (Num said ∷ []) → IsKeptFrame c came f → said ≤ (counts_of c.space.streams (is_two_way way)).announced.value
@@ -131,7 +138,7 @@ module _ {S : Type 0} (c : Inner S) (came : List (List ℕ)) where
   says_count f way said e (max_data limit is below) = let a = count_kind f way said e in let b = exact_kind f 16 _ is in absurd (omega (arith, a.0, a.1, b.0, b.1))
   says_count f way said e (max_stream_data id limit is named below) = let a = count_kind f way said e in let b = exact_kind f 17 _ is in absurd (omega (arith, a.0, a.1, b.0, b.1))
   says_count f way said e (max_streams dir count is below) = same_count way dir said count (sym e ∙ is) below
-  says_count f way said e (control g is may) = absurd (no_control 18 19 f.kind (count_kind f way said e) (control_kind f g is) (inl (omega arith)) (inr (omega arith)))
+  says_count f way said e (control g is may) = absurd (no_control 18 19 f.kind (count_kind f way said e) (control_kind f g is) (inl (omega arith)) (inr (omega arith)) (omega arith))
   says_count f way said e (close reason is shut) = let a = count_kind f way said e in let b = close_kind f reason is in absurd (omega (arith, a.0, a.1, b.0, b.1))
 
   pub says_stream_limit : (f : QuicFrame) (stream_id said : ℕ) → f ≡ frame 17 (Num stream_id ∷ Num said ∷ []) → IsKeptFrame c came f → IsReading c.space.streams stream_id × IsLimited c.space.streams stream_id said
@@ -144,7 +151,7 @@ module _ {S : Type 0} (c : Inner S) (came : List (List ℕ)) where
   says_stream_limit f stream_id said e (max_data limit is below) = let a = exact_kind f 17 _ e in let b = exact_kind f 16 _ is in absurd (omega (arith, a.0, a.1, b.0, b.1))
   says_stream_limit f stream_id said e (max_stream_data id limit is named below) = let first : stream_id ≡ id = front_number (sym e ∙ is) in let second : said ≡ limit = next_number (sym e ∙ is) in rw (first, second) (named, below)
   says_stream_limit f stream_id said e (max_streams dir count is below) = let a = exact_kind f 17 _ e in let b = count_kind f dir count is in absurd (omega (arith, a.0, a.1, b.0, b.1))
-  says_stream_limit f stream_id said e (control g is may) = absurd (no_control 17 17 f.kind (exact_kind f 17 _ e) (control_kind f g is) (inl (omega arith)) (inr (omega arith)))
+  says_stream_limit f stream_id said e (control g is may) = absurd (no_control 17 17 f.kind (exact_kind f 17 _ e) (control_kind f g is) (inl (omega arith)) (inr (omega arith)) (omega arith))
   says_stream_limit f stream_id said e (close reason is shut) = let a = exact_kind f 17 _ e in let b = close_kind f reason is in absurd (omega (arith, a.0, a.1, b.0, b.1))
 
   pub says_stream : (f : QuicFrame) (said : StreamFrame) → f ≡ stream_form said → IsKeptFrame c came f → IsSending c.space.streams said.id
@@ -157,7 +164,7 @@ module _ {S : Type 0} (c : Inner S) (came : List (List ℕ)) where
   says_stream f said e (max_data limit is below) = let a = form_kind f said e in let b = exact_kind f 16 _ is in absurd (omega (arith, a.0, a.1, b.0, b.1))
   says_stream f said e (max_stream_data id limit is named below) = let a = form_kind f said e in let b = exact_kind f 17 _ is in absurd (omega (arith, a.0, a.1, b.0, b.1))
   says_stream f said e (max_streams dir count is below) = let a = form_kind f said e in let b = count_kind f dir count is in absurd (omega (arith, a.0, a.1, b.0, b.1))
-  says_stream f said e (control g is may) = absurd (no_control 10 15 f.kind (form_kind f said e) (control_kind f g is) (inl (omega arith)) (inr (omega arith)))
+  says_stream f said e (control g is may) = absurd (no_control 10 15 f.kind (form_kind f said e) (control_kind f g is) (inl (omega arith)) (inr (omega arith)) (omega arith))
   says_stream f said e (close reason is shut) = let a = form_kind f said e in let b = close_kind f reason is in absurd (omega (arith, a.0, a.1, b.0, b.1))
 
   pub says_reset : (f : QuicFrame) (stream_id said final : ℕ) → f ≡ frame 4 (Num stream_id ∷ Num said ∷ Num final ∷ []) → IsKeptFrame c came f → IsSending c.space.streams stream_id
@@ -170,7 +177,7 @@ module _ {S : Type 0} (c : Inner S) (came : List (List ℕ)) where
   says_reset f stream_id said final e (max_data limit is below) = let a = exact_kind f 4 _ e in let b = exact_kind f 16 _ is in absurd (omega (arith, a.0, a.1, b.0, b.1))
   says_reset f stream_id said final e (max_stream_data id limit is named below) = let a = exact_kind f 4 _ e in let b = exact_kind f 17 _ is in absurd (omega (arith, a.0, a.1, b.0, b.1))
   says_reset f stream_id said final e (max_streams dir count is below) = let a = exact_kind f 4 _ e in let b = count_kind f dir count is in absurd (omega (arith, a.0, a.1, b.0, b.1))
-  says_reset f stream_id said final e (control g is may) = absurd (no_control 4 4 f.kind (exact_kind f 4 _ e) (control_kind f g is) (inr (omega arith)) (inr (omega arith)))
+  says_reset f stream_id said final e (control g is may) = absurd (no_control 4 4 f.kind (exact_kind f 4 _ e) (control_kind f g is) (inr (omega arith)) (inr (omega arith)) (omega arith))
   says_reset f stream_id said final e (close reason is shut) = let a = exact_kind f 4 _ e in let b = close_kind f reason is in absurd (omega (arith, a.0, a.1, b.0, b.1))
 
   pub says_stop : (f : QuicFrame) (stream_id said : ℕ) → f ≡ frame 5 (Num stream_id ∷ Num said ∷ []) → IsKeptFrame c came f → IsReading c.space.streams stream_id
@@ -183,7 +190,7 @@ module _ {S : Type 0} (c : Inner S) (came : List (List ℕ)) where
   says_stop f stream_id said e (max_data limit is below) = let a = exact_kind f 5 _ e in let b = exact_kind f 16 _ is in absurd (omega (arith, a.0, a.1, b.0, b.1))
   says_stop f stream_id said e (max_stream_data id limit is named below) = let a = exact_kind f 5 _ e in let b = exact_kind f 17 _ is in absurd (omega (arith, a.0, a.1, b.0, b.1))
   says_stop f stream_id said e (max_streams dir count is below) = let a = exact_kind f 5 _ e in let b = count_kind f dir count is in absurd (omega (arith, a.0, a.1, b.0, b.1))
-  says_stop f stream_id said e (control g is may) = absurd (no_control 5 5 f.kind (exact_kind f 5 _ e) (control_kind f g is) (inr (omega arith)) (inr (omega arith)))
+  says_stop f stream_id said e (control g is may) = absurd (no_control 5 5 f.kind (exact_kind f 5 _ e) (control_kind f g is) (inr (omega arith)) (inr (omega arith)) (omega arith))
   says_stop f stream_id said e (close reason is shut) = let a = exact_kind f 5 _ e in let b = close_kind f reason is in absurd (omega (arith, a.0, a.1, b.0, b.1))
 
   pub says_ack : (f : QuicFrame) (n : ℕ) → Covers f n → IsKeptFrame c came f → HasComeWith c came n
@@ -196,7 +203,7 @@ module _ {S : Type 0} (c : Inner S) (came : List (List ℕ)) where
   says_ack f n covers (max_data limit is below) = let a = half_kind f covers.0 in let b = exact_kind f 16 _ is in absurd (omega (arith, a.0, a.1, b.0, b.1))
   says_ack f n covers (max_stream_data id limit is named below) = let a = half_kind f covers.0 in let b = exact_kind f 17 _ is in absurd (omega (arith, a.0, a.1, b.0, b.1))
   says_ack f n covers (max_streams dir count is below) = let a = half_kind f covers.0 in let b = count_kind f dir count is in absurd (omega (arith, a.0, a.1, b.0, b.1))
-  says_ack f n covers (control g is may) = absurd (no_control 2 3 f.kind (half_kind f covers.0) (control_kind f g is) (inr (omega arith)) (inr (omega arith)))
+  says_ack f n covers (control g is may) = absurd (no_control 2 3 f.kind (half_kind f covers.0) (control_kind f g is) (inr (omega arith)) (inr (omega arith)) (omega arith))
   says_ack f n covers (close reason is shut) = let a = half_kind f covers.0 in let b = close_kind f reason is in absurd (omega (arith, a.0, a.1, b.0, b.1))
 
   pub says_close : (f : QuicFrame) → is_close f ≡ true → IsKeptFrame c came f → is_open c.state ≡ false
@@ -209,5 +216,5 @@ module _ {S : Type 0} (c : Inner S) (came : List (List ℕ)) where
   says_close f closing (max_data limit is below) = let a = closing_kind f closing in let b = exact_kind f 16 _ is in absurd (omega (arith, a.0, a.1, b.0, b.1))
   says_close f closing (max_stream_data id limit is named below) = let a = closing_kind f closing in let b = exact_kind f 17 _ is in absurd (omega (arith, a.0, a.1, b.0, b.1))
   says_close f closing (max_streams dir count is below) = let a = closing_kind f closing in let b = count_kind f dir count is in absurd (omega (arith, a.0, a.1, b.0, b.1))
-  says_close f closing (control g is may) = absurd (no_control 28 29 f.kind (closing_kind f closing) (control_kind f g is) (inl (omega arith)) (inl (omega arith)))
+  says_close f closing (control g is may) = absurd (no_control 28 29 f.kind (closing_kind f closing) (control_kind f g is) (inl (omega arith)) (inl (omega arith)) (omega arith))
   says_close f closing (close reason is shut) = shut

@@ -6,18 +6,17 @@ use Rattle.qh_base.specs.declared.connection_error.ConnectionError.{ConnectionEr
 use Rattle.qh_base.specs.declared.connection_error.ConnectionError.TheVariants.{Memory, LocallyClosed}
 use Rattle.qh_base.specs.declared.path.Transmit.{Transmit}
 use Rattle.qh_base.specs.declared.time.Moment.{Moment}
-use Rattle.qh_conduct.proofs.AnnouncedCalls.{IsQuietStep, closes_step, drained_open, drained_step, polled_step, timed_step, with_step}
-use Rattle.qh_conduct.proofs.SpaceGoesOn.{bare_go, frames_go, made_go}
+use Rattle.qh_conduct.proofs.AnnouncedCalls.{IsQuietStep, aside_step, closes_step, drained_open, drained_step, polled_step, timed_step, with_step}
+use Rattle.qh_conduct.proofs.SpaceGoesOn.{bare_go, bare_receives, frames_go, made_go, made_receives}
 use Rattle.qh_conduct.proofs.StreamsGoOn.{GoOn, same_go}
 use Rattle.qh_conduct.proofs.StreamsReceive.{call_go, limit_at_first}
+use Rattle.qh_conduct.proofs.TurnedAside.{IsAside}
 use Rattle.qh_conduct.specs.Announced.{IsOver}
 use Rattle.qh_conduct.specs.Calls.{IsCall}
-use Rattle.qh_conduct.specs.Granted.{AreGranted, AreGrantedBy, HasGranted, first_count_in}
+use Rattle.qh_conduct.specs.Granted.{AreGranted, AreGrantedBy, HasGranted, TakesDatagrams, first_count_in}
 use Rattle.qh_core.proofs.Ends.{ended_with, goes_on_space}
 use Rattle.qh_core.specs.Config.{bounded, peer_of}
 use Rattle.qh_core.specs.Event.{IsDrainedTold, IsPolledEvent}
-use Rattle.qh_core.specs.Event.IsDrainedTold.{drained as drain_told, none as no_drain_told}
-use Rattle.qh_core.specs.Event.IsPolledEvent.{stream, lost, none as nothing}
 use Rattle.qh_core.specs.Inner.{IsFailedBy, IsNewSpace, is_open, with_streams}
 use Rattle.qh_core.specs.Receiving.{GoesOnWith, IsClosedWith, IsDatagramTaken, IsEventTaken, IsPacketHandled, IsPacketTaken, received}
 use Rattle.qh_core.specs.Receiving.IsDatagramTaken.{dropped, handled, told_again, closed_too, draining, drained}
@@ -25,7 +24,6 @@ use Rattle.qh_core.specs.Receiving.IsPacketHandled.{repeated, empty, faulty, unn
 use Rattle.qh_core.specs.Sending.{AreFramesMade, IsDatagramMade, NothingIsSent}
 use Rattle.qh_core.specs.Sending.AreFramesMade.{packet as packet_made, control as control_made, close as close_made}
 use Rattle.qh_core.specs.Timers.{IsTimedOut, restarted}
-use Rattle.qh_core.specs.Timers.IsTimedOut.{idle, recovery, closed, draining as draining_over, waits, drained as drained_still}
 use Rattle.qh_core.specs.declared.config.ConnConfig.{ConnConfig}
 use Rattle.qh_core.specs.declared.event.ConnectionEvent.{ConnectionEvent}
 use Rattle.qh_core.specs.declared.event.ConnectionEvent.TheVariants.{Datagram, Close}
@@ -94,17 +92,21 @@ module _ {S : Type 0} where
   record IsGrantStep (old new : Inner S) : Type 0 where
     config : new.config ≡ old.config
     streams : GoOn old.space.streams new.space.streams
+    receives : new.space.datagram_receive ≡ old.space.datagram_receive
     over : IsOver old → IsOver new
 
   abbrev Stays : Inner S → Type 0
-  Stays c = IsOver c ⊎ AreGranted c
+  Stays c = IsOver c ⊎ (AreGranted c × TakesDatagrams c)
 
   goes_on : (old new : Inner S) → IsGrantStep old new → Stays old → Stays new
   goes_on old new step (inl over) = inl (step.over over)
-  goes_on old new step (inr p) = inr (subst (λ (c : ConnConfig). AreGrantedBy c.limits new.space.streams) (sym step.config) (granted_on old.config.limits old.space.streams new.space.streams step.streams p))
+  goes_on old new step (inr (p, takes)) = inr (
+    subst (λ (c : ConnConfig). AreGrantedBy c.limits new.space.streams) (sym step.config) (granted_on old.config.limits old.space.streams new.space.streams step.streams p),
+    step.receives ∙ takes ∙ sym (ap (λ (c : ConnConfig). c.datagram_receive) step.config),
+  )
 
-  quiet_on : (old new : Inner S) → IsQuietStep old new → new.config ≡ old.config → Stays old → Stays new
-  quiet_on old new q config p = goes_on old new (record { config = config; streams = q.streams; over = q.over }) p
+  quiet_on : (old new : Inner S) → IsQuietStep old new → Stays old → Stays new
+  quiet_on old new q p = goes_on old new (record { config = q.config; streams = q.streams; receives = q.receives; over = q.over }) p
 
   same_on : (old new : Inner S) → new ≡ old → Stays old → Stays new
   same_on old new e p = subst (λ (c : Inner S). Stays c) (sym e) p
@@ -113,41 +115,28 @@ module _ {S : Type 0} where
 
   pub called : (old new : Inner S) → IsCall old.space.streams new.space.streams → new ≡ with_streams old new.space.streams → HasGranted old → HasGranted new
   unfolding HasGranted
-  called old new call e p = quiet_on old new (with_step old new (call_go old.space.streams new.space.streams call) e) (ap (λ (c : Inner S). c.config) e) p
-
-  config_polled : (old new : Inner S) (o : Option Event) → IsPolledEvent old new o → new.config ≡ old.config
-  config_polled old new _ (stream e polled rest) = ap (λ (c : Inner S). c.config) rest
-  config_polled old new _ (lost mid error polled is untold rest) = ap (λ (c : Inner S). c.config) rest
-  config_polled old new _ (nothing polled why rest) = ap (λ (c : Inner S). c.config) rest
+  called old new call e p = quiet_on old new (with_step old new (call_go old.space.streams new.space.streams call) e) p
 
   pub polled_granted : (old new : Inner S) (o : Option Event) → IsPolledEvent old new o → HasGranted old → HasGranted new
   unfolding HasGranted
-  polled_granted old new o is p = quiet_on old new (polled_step old new o is) (config_polled old new o is) p
-
-  config_drained : (old new : Inner S) (o : Option EndpointEvent) → IsDrainedTold old new o → new.config ≡ old.config
-  config_drained old new _ (drain_told is untold rest) = ap (λ (c : Inner S). c.config) rest
-  config_drained old new _ (no_drain_told why rest) = ap (λ (c : Inner S). c.config) rest
+  polled_granted old new o is p = quiet_on old new (polled_step old new o is) p
 
   pub drained_granted : (old new : Inner S) (o : Option EndpointEvent) → IsDrainedTold old new o → HasGranted old → HasGranted new
   unfolding HasGranted
-  drained_granted old new o is p = quiet_on old new (drained_step old new o is) (config_drained old new o is) p
+  drained_granted old new o is p = quiet_on old new (drained_step old new o is) p
 
   -- ---- nothing is sent, and what is due
 
   pub none_granted : (old new : Inner S) → NothingIsSent old new → HasGranted old → HasGranted new
   none_granted old new is p = subst (λ (c : Inner S). HasGranted c) (sym is.0) p
 
-  config_timed : (now : ℕ) (old new : Inner S) → IsTimedOut now old new → new.config ≡ old.config
-  config_timed now old new (idle up due e) = ap (λ (c : Inner S). c.config) e
-  config_timed now old new (recovery mid up not_due aged probed e) = ap (λ (c : Inner S). c.config) e
-  config_timed now old new (closed reason is_due until is by_now e) = ap (λ (c : Inner S). c.config) e
-  config_timed now old new (draining_over until is by_now e) = ap (λ (c : Inner S). c.config) e
-  config_timed now old new (waits moment is before e) = ap (λ (c : Inner S). c.config) e
-  config_timed now old new (drained_still is e) = ap (λ (c : Inner S). c.config) e
-
   pub timed_granted : (now : ℕ) (old new : Inner S) → IsTimedOut now old new → HasGranted old → HasGranted new
   unfolding HasGranted
-  timed_granted now old new is p = quiet_on old new (timed_step now old new is) (config_timed now old new is) p
+  timed_granted now old new is p = quiet_on old new (timed_step now old new is) p
+
+  pub aside_granted : (old new : Inner S) → IsAside old new → HasGranted old → HasGranted new
+  unfolding HasGranted
+  aside_granted old new a p = quiet_on old new (aside_step old new a) p
 
   -- ---- what comes
 
@@ -163,11 +152,13 @@ module _ {S : Type 0} where
         config = config_behind now a.end behind new a.goes_on;
         streams = subst (λ (s : DataSpace). GoOn old.space.streams s.streams) (sym (goes_on_space now a.end behind new a.goes_on))
             (subst (λ (s : PlainStreams). GoOn s a.space.streams) same_streams (frames_go now.0 bytes a.mid a.space a.taken a.end a.are_taken).streams);
+        receives = ap (λ (s : DataSpace). s.datagram_receive) (goes_on_space now a.end behind new a.goes_on) ∙ (frames_go now.0 bytes a.mid a.space a.taken a.end a.are_taken).receives
+            ∙ ap (λ (s : DataSpace). s.datagram_receive) a.accepted.rest_is;
         over = λ over. absurd (drained_open old.state over.1 up);
       }
 
   closes_on : (now : Moment) (reason : CloseReason) (error : ConnectionError) (old new : Inner S) → is_open old.state ≡ true → IsClosedWith now reason error old new → Stays old → Stays new
-  closes_on now reason error old new up c p = quiet_on old new (closes_step now reason error old new up c) (ap (λ (c : Inner S). c.config) c.rest_is) p
+  closes_on now reason error old new up c p = quiet_on old new (closes_step now reason error old new up c) p
 
   handled_on : (now : Moment) (number : ℕ) (bytes : List ℕ) (old new : Inner S) → is_open old.state ≡ true → IsPacketHandled now number bytes old new → Stays old → Stays new
   handled_on now number bytes old new up (repeated is e) p = same_on old new e p
@@ -181,6 +172,7 @@ module _ {S : Type 0} where
   closed_on old new before after is other e p = goes_on old new (record {
     config = ap (λ (c : Inner S). c.config) e;
     streams = subst (λ (c : Inner S). GoOn old.space.streams c.space.streams) (sym e) (same_go old.space.streams);
+    receives = ap (λ (c : Inner S). c.space.datagram_receive) e;
     over = λ over. absurd (other (sym is ∙ over.1));
   }) p
 
@@ -207,16 +199,19 @@ module _ {S : Type 0} where
   frames_step now old new before frames (packet_made up m e) = record {
     config = ap (λ (c : Inner S). c.config) e;
     streams = made_go _ _ _ old.space new.space _ _ m;
+    receives = made_receives _ _ _ old.space new.space _ _ m;
     over = λ over. absurd (drained_open old.state over.1 up);
   }
   frames_step now old new before frames (control_made up m e) = record {
     config = ap (λ (c : Inner S). c.config) e;
     streams = bare_go _ _ old.space new.space m.sent;
+    receives = bare_receives _ _ old.space new.space m.sent;
     over = λ over. absurd (drained_open old.state over.1 up);
   }
   frames_step now old new before frames (close_made reason until is bytes_are e) = record {
     config = ap (λ (c : Inner S). c.config) e;
     streams = subst (λ (c : Inner S). GoOn old.space.streams c.space.streams) (sym e) (same_go old.space.streams);
+    receives = ap (λ (c : Inner S). c.space.datagram_receive) e;
     over = λ over. let same : Closed reason true until ≡ Drained = sym is ∙ over.1 in absurd (cc);
   }
 
@@ -228,7 +223,7 @@ module _ {S : Type 0} where
 
   pub fresh_granted : (c : Inner S) → IsNewSpace c.config c.side c.space → HasGranted c
   unfolding HasGranted
-  fresh_granted c new = inr (first_granted c.side c.config.limits c.config.peer c.space.streams new.streams_are)
+  fresh_granted c new = inr (first_granted c.side c.config.limits c.config.peer c.space.streams new.streams_are, new.datagrams)
 
   pub failed_granted : (old new : Inner S) → IsFailedBy old new → HasGranted new
   unfolding HasGranted
@@ -237,4 +232,9 @@ module _ {S : Type 0} where
   pub means_granted : (c : Inner S) → HasGranted c → (c.error ≡ Some Memory → ⊥) → AreGranted c
   unfolding HasGranted
   means_granted c (inl over) whole = absurd (whole over.0)
-  means_granted c (inr p) whole = p
+  means_granted c (inr p) whole = p.0
+
+  pub takes_granted : (c : Inner S) → HasGranted c → (c.error ≡ Some Memory → ⊥) → TakesDatagrams c
+  unfolding HasGranted
+  takes_granted c (inl over) whole = absurd (whole over.0)
+  takes_granted c (inr p) whole = p.1

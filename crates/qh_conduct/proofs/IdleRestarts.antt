@@ -12,7 +12,7 @@ use Rattle.qh_base.specs.declared.transport_error.TransportError.{TransportError
 use Rattle.qh_conduct.proofs.PacketsKept.{only_packet}
 use Rattle.qh_conduct.specs.Announced.{MakesTags}
 use Rattle.qh_conduct.specs.Peers.{ArePeers}
-use Rattle.qh_conduct.specs.Restarting.{AcceptsWhatIsMade, AreSealed, IsCounting, IsSealed}
+use Rattle.qh_conduct.specs.Restarting.{AcceptsWhatIsMade, AreSealed, IsCounting, IsSealed, IsSealedTo}
 use Rattle.qh_core.proofs.Ends.{goes_on_open}
 use Rattle.qh_core.proofs.ExpectedNumbers.{expected_of}
 use Rattle.qh_core.specs.Follows.{Follows, transmit_acts}
@@ -112,7 +112,9 @@ module _ (sealed : Side → Space → ℕ → List ℕ) (tags : MakesTags sealed
 module _ {S : Type 0} (accepts : Side → Space → ℕ → List ℕ → Bool) (sealed : Side → Space → ℕ → List ℕ) (takes : AcceptsWhatIsMade accepts sealed) (tags : MakesTags sealed) where
   -- it is above all that the end accepted
   record IsAbove (c : Inner S) (d : List ℕ) : Type 0 where
-    is : IsSealed sealed (other c.side) c.local_id d
+    id : List ℕ
+    id_length : length id ≡ length c.local_id
+    is : IsSealed sealed (other c.side) id d
     small : is.number < 2 ^ 31
     accepted : List ℕ
     remembers : Remembers accepted c.space.dedup
@@ -128,10 +130,16 @@ module _ {S : Type 0} (accepts : Side → Space → ℕ → List ℕ → Bool) (
     is_opened : IsOpenedBy accepts c d n a.is.frames
     is_opened =
         let e = expected_of c.space in
-        record { expected = e.0; is_expected = e.1; is = opens sealed tags (other c.side) c.local_id d a.is accepts e.0 (not_above e.0 e.1) a.small takes }
+        record {
+          expected = e.0;
+          is_expected = e.1;
+          is = subst (λ (z : ℕ). IsOpened accepts z (other c.side) e.0 d n a.is.frames) a.id_length (opens sealed tags (other c.side) a.id d a.is accepts e.0 (not_above e.0 e.1) a.small takes);
+        }
 
     same_number : (number : ℕ) (frames : List ℕ) → IsOpenedBy accepts c d number frames → number ≡ n
-    same_number number frames o = opens_once sealed tags (other c.side) c.local_id d a.is accepts o.expected (not_above o.expected o.is_expected) a.small number frames o.is
+    same_number number frames o =
+        opens_once sealed tags (other c.side) a.id d a.is accepts o.expected (not_above o.expected o.is_expected) a.small number frames
+        (subst (λ (z : ℕ). IsOpened accepts z (other c.side) o.expected d number frames) (sym a.id_length) o.is)
 
     is_new : IsNew a.accepted n
     is_new = record { is_unseen = λ among. let less = a.above n among in absurd (omega arith); is_near = λ m among. omega (arith, a.above m among) }
@@ -159,15 +167,19 @@ module _ {S : Type 0} (accepts : Side → Space → ℕ → List ℕ → Bool) (
     taken now new up still (drained is _) = absurd (shut _ refl is up)
 
   came_by : (c p : Inner S) (tc : List Act) (datagram : List ℕ) (now : Moment) (remote : SocketAddr) → ArePeers c p → (c.error ≡ Some Memory → ⊥) → Follows c tc
-      → IsSealed sealed p.side p.remote_id datagram → IsCounting (length c.local_id) p.side (handed_in tc) datagram → IsAbove (received (Datagram now remote datagram) c) datagram
+      → IsSealedTo sealed p.side (length p.remote_id) datagram → IsCounting (length c.local_id) p.side (handed_in tc) datagram → IsAbove (received (Datagram now remote datagram) c) datagram
   unfolding Follows
   came_by c p tc datagram now remote peers lives follows is counts =
-      let s : IsSealed sealed (other c.side) c.local_id datagram = rw (← peers.sides, ← peers.there) is in
+      let id = is.0 in
+      let s : IsSealed sealed (other c.side) id datagram = rw (← peers.sides) (is.2) in
+      let of_length : length id ≡ length c.local_id = is.1 ∙ peers.there in
       let counting : IsCounting (length c.local_id) (other c.side) (handed_in tc) datagram = rw (← peers.sides) counts in
-      let same : counting.packet.number ≡ s.number = number_is sealed tags (other c.side) c.local_id datagram s counting.packet counting.has in
+      let same : counting.packet.number ≡ s.number = number_is sealed tags (other c.side) id datagram s counting.packet (subst (λ (z : ℕ). HasPacket z counting.packet datagram) (sym of_length) counting.has) in
       let small = counting.small in
       let space : c.space ≡ follows.space = elim follows.is_space [ inl memory ↦ absurd (lives memory) | inr is ↦ is ] in
       record {
+        id = id;
+        id_length = of_length;
         is = s;
         small = omega arith;
         accepted = follows.accepted;
@@ -181,8 +193,8 @@ module _ {S : Type 0} where
   pub fresh_sealed : (sealed : Side → Space → ℕ → List ℕ) (c : Inner S) → AreSealed sealed c []
   fresh_sealed sealed c d among = absurd among
 
-  same_sealed : (sealed : Side → Space → ℕ → List ℕ) (old new : Inner S) (d : List ℕ) → IsSameEnd old new → IsSealed sealed old.side old.remote_id d → IsSealed sealed new.side new.remote_id d
-  same_sealed sealed old new d same is = rw (same.side, same.remote_id) is
+  same_sealed : (sealed : Side → Space → ℕ → List ℕ) (old new : Inner S) (d : List ℕ) → IsSameEnd old new → IsSealedTo sealed old.side (length old.remote_id) d → IsSealedTo sealed new.side (length new.remote_id) d
+  same_sealed sealed old new d same is = rw (same.side, same.remote_length) is
 
   pub quiet_sealed : (sealed : Side → Space → ℕ → List ℕ) (old new : Inner S) (t u : List Act) → IsSameEnd old new → handed_out u ≡ [] → AreSealed sealed old t → AreSealed sealed new (t ++ u)
   quiet_sealed sealed old new t u same none are d among =
@@ -196,7 +208,7 @@ module _ {S : Type 0} where
       let behind : sent ≡ datagram_of sealed old m.bytes.frames = ap (λ (z : List ℕ). drop (length before) z) m.bytes.after_is ∙ drop-append_seam before (datagram_of sealed old m.bytes.frames) in
       same_sealed sealed old new d same (elim (in_more d sent (handed_out t) (subst (λ (l : List (List ℕ)). In d l) (handed_out-append t (HandedOut sent ∷ [])) among)) [
         | inl earlier ↦ are d earlier
-        | inr last ↦ record { number = old.space.next_number; frames = m.bytes.frames; is_number = m.bytes.number; is = sym last ∙ behind }
+        | inr last ↦ (old.remote_id, refl, record { number = old.space.next_number; frames = m.bytes.frames; is_number = m.bytes.number; is = sym last ∙ behind })
       ])
 
   -- an end that want of memory ended needn't know what came

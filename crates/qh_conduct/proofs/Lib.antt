@@ -35,3 +35,4 @@ pub mod SpaceGoesOn
 pub mod StreamsGoOn
 pub mod StreamsReceive
 pub mod TakenOn
+pub mod TurnedAside

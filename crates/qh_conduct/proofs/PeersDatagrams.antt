@@ -8,7 +8,7 @@ use Rattle.qh_base.specs.declared.time.Moment.{Moment}
 use Rattle.qh_base.specs.declared.transport_error.TransportError.{TransportError}
 use Rattle.qh_conduct.proofs.AnnouncedCalls.{event_stands}
 use Rattle.qh_conduct.proofs.FramesSay.{closing_kind, says_close}
-use Rattle.qh_conduct.proofs.GrantedCalls.{event_granted, means_granted}
+use Rattle.qh_conduct.proofs.GrantedCalls.{event_granted, means_granted, takes_granted}
 use Rattle.qh_conduct.proofs.PeersFrames.{keeps_form, unrefused}
 use Rattle.qh_conduct.proofs.PeersLimits.{all_small}
 use Rattle.qh_conduct.proofs.PeersRange.{kept_fits, nothing_left, opened_frames}
@@ -20,9 +20,9 @@ use Rattle.qh_conduct.proofs.ReachSums.{sum_within}
 use Rattle.qh_conduct.proofs.SizedCalls.{means_sized}
 use Rattle.qh_conduct.specs.Announced.{Announced, HasAnnounced, IsKeptDatagram, IsOver, TakesTags, packet_of}
 use Rattle.qh_conduct.specs.Fitting.{HasRefused}
-use Rattle.qh_conduct.specs.Granted.{AreGranted, HasGranted}
+use Rattle.qh_conduct.specs.Granted.{AreGranted, HasGranted, TakesDatagrams}
 use Rattle.qh_conduct.specs.Filled.{AreFilled}
-use Rattle.qh_conduct.specs.Peers.{AreLinked, ArePeers}
+use Rattle.qh_conduct.specs.Peers.{AreLinked, ArePeers, TakesFrom}
 use Rattle.qh_conduct.specs.Reached.{AreNamed, HasReached, Reached, IsLostForMemory}
 use Rattle.qh_conduct.specs.Sized.{AreRight, HasSized}
 use Rattle.qh_core.proofs.Ends.{goes_on_space}
@@ -180,7 +180,7 @@ module _ {S : Type 0} where
   over_shut c up over = both_ways (is_open c.state) (ap is_open over.1) up
 
   lost_shut : (c : Inner S) → is_open c.state ≡ true → IsLostForMemory c → ⊥
-  lost_shut c up lost = both_ways (is_open c.state) lost.0 up
+  lost_shut c up lost = both_ways (is_open c.state) (ap is_open lost.0) up
 
   space_of : (p : Inner S) (t : List Act) (f : Following p t) → p.error ≡ None → p.space ≡ f.space
   space_of p t f none = elim f.is_space [
@@ -192,22 +192,24 @@ module _ {S : Type 0} where
   record SameEnds (old new : Inner S) : Type 0 where
     side : new.side ≡ old.side
     local_id : new.local_id ≡ old.local_id
-    remote_id : new.remote_id ≡ old.remote_id
+    remote_length : length new.remote_id ≡ length old.remote_id
     config : new.config ≡ old.config
 
   peers_on : (c new p : Inner S) → SameEnds c new → ArePeers c p → ArePeers new p
   peers_on c new p same peers = record {
     sides = peers.sides ∙ ap other (sym same.side);
-    there = peers.there ∙ sym same.local_id;
-    back = same.remote_id ∙ peers.back;
+    there = peers.there ∙ sym (ap length same.local_id);
+    back = same.remote_length ∙ peers.back;
     known = peers.known ∙ ap (λ (k : ConnConfig). peer_of k.limits) (sym same.config);
     knows = ap (λ (k : ConnConfig). k.peer) same.config ∙ peers.knows;
     fits_back = peers.fits_back;
     fits = subst (λ (k : ConnConfig). (k.limits.max_bidi ≤ 2 ^ 60) × (k.limits.max_uni ≤ 2 ^ 60)) (sym same.config) peers.fits;
+    datagrams = subst (λ (k : ConnConfig). TakesFrom k p.config) (sym same.config) peers.datagrams;
+    datagrams_back = subst (λ (k : ConnConfig). TakesFrom p.config k) (sym same.config) peers.datagrams_back;
   }
 
   fault_same : (now : Moment) (e : TransportError) (old new : Inner S) → IsFaulted now e old new → SameEnds old new
-  fault_same now e old new f = rw f.closed.rest_is (record { side = refl; local_id = refl; remote_id = refl; config = refl })
+  fault_same now e old new f = rw f.closed.rest_is (record { side = refl; local_id = refl; remote_length = refl; config = refl })
 
   fault_error : (now : Moment) (e : TransportError) (old new : Inner S) → IsFaulted now e old new → new.error ≡ Some (error.TransportError e)
   fault_error now e old new f = ap (λ (c : Inner S). c.error) f.closed.rest_is
@@ -251,7 +253,8 @@ module _ {S : Type 0} where
 
   module _ (accepts : Side → Space → ℕ → List ℕ → Bool) (named : AreNamed accepts) (c p new : Inner S) (tc tp : List Act) (peers : ArePeers c p) (linked : AreLinked tc tp) (a : Announced c tc) (b : Announced p tp)
       (rp : Reached p tp) (f : Following p tp) (space_is : p.space ≡ f.space) (filled : AreFilled p tp) (right : AreRight p tp) (up : is_open p.state ≡ true) (d : List ℕ) (there : In d (handed_out tp))
-      (reached : HasReached new (tc ++ HandedIn d ∷ [])) (announced : HasAnnounced new (tc ++ HandedIn d ∷ [])) (grants : (new.error ≡ Some error.Memory → ⊥) → AreGranted new) where
+      (reached : HasReached new (tc ++ HandedIn d ∷ [])) (announced : HasAnnounced new (tc ++ HandedIn d ∷ [])) (grants : (new.error ≡ Some error.Memory → ⊥) → AreGranted new)
+      (receives : (new.error ≡ Some error.Memory → ⊥) → TakesDatagrams new) where
     -- none of its frames is refused, as the space is then
     none_refused : (old : Inner S) (e : TransportError) → SameEnds c old → SameEnds old new → new.error ≡ Some (error.TransportError e) → HasRefused (length old.local_id) (other old.side) d new.space e → ⊥
     none_refused old e first same at r =
@@ -259,7 +262,7 @@ module _ {S : Type 0} where
         let ends : SameEnds c new = record {
           side = same.side ∙ first.side;
           local_id = same.local_id ∙ first.local_id;
-          remote_id = same.remote_id ∙ first.remote_id;
+          remote_length = same.remote_length ∙ first.remote_length;
           config = same.config ∙ first.config;
         } in
         let u = tc ++ HandedIn d ∷ [] in
@@ -274,15 +277,15 @@ module _ {S : Type 0} where
         }) in
         not_refused e (frame_refusal new.space r.frame)
         (unrefused new p u tp (peers_on c new p ends peers) (linked_on tc tp d linked there) (announced_of new u announced (λ over. memory over.0)) b
-        (reached_of new u reached (λ lost. memory lost.1)) rp f space_is filled right (grants memory) r.read has r.frame r.form_is)
+        (reached_of new u reached (λ lost. memory lost.1)) rp f space_is filled right (grants memory) (receives memory) r.read has r.frame r.form_is)
         r.refused
 
     -- what is opened of it are its frames
     frames_opened : (old : Inner S) (number : ℕ) (bytes : List ℕ) → SameEnds c old → IsOpenedBy accepts old d number bytes → AreQuicFrames bytes (kept_datagram p tp b f filled right up d there).frames
     frames_opened old number bytes first o =
         let k = kept_datagram p tp b f filled right up d there in
-        let id : p.remote_id ≡ old.local_id = peers.there ∙ sym first.local_id in
-        opened_frames accepts old.local_id (other old.side) o.expected d number bytes (packet_of p k.number k.frames) o.is (subst (λ (i : _). HasPacket (length i) (packet_of p k.number k.frames) d) id k.has)
+        let id : length p.remote_id ≡ length old.local_id = peers.there ∙ sym (ap length first.local_id) in
+        opened_frames accepts old.local_id (other old.side) o.expected d number bytes (packet_of p k.number k.frames) o.is (subst (λ (i : ℕ). HasPacket i (packet_of p k.number k.frames) d) id k.has)
 
     still_open : (old : Inner S) → new ≡ old → is_open old.state ≡ true → is_open new.state ≡ true
     still_open old e is = ap (λ (c : Inner S). is_open c.state) e ∙ is
@@ -304,7 +307,7 @@ module _ {S : Type 0} where
         let same : SameEnds old new = record {
           side = ap (λ (c : Inner S). c.side) is;
           local_id = ap (λ (c : Inner S). c.local_id) is;
-          remote_id = ap (λ (c : Inner S). c.remote_id) is;
+          remote_length = ap (λ (c : Inner S). length c.remote_id) is;
           config = ap (λ (c : Inner S). c.config) is;
         } in
         let refused : HasRefused (length old.local_id) (other old.side) d old.space e =
@@ -321,7 +324,7 @@ module _ {S : Type 0} where
               let same = fault_same now e _ new on in
               let refused : HasRefused (length old.local_id) (other old.side) d t.space e =
               frame_refused old.side (length old.local_id) d now.0 bytes t.mid t.space t.taken t.end k.frames e t.are_taken found.1 are (content_frame old d number k.frames (has_content accepts old d number bytes k.frames named o are)) in
-              absurd (none_refused old e first (record { side = same.side; local_id = same.local_id; remote_id = same.remote_id; config = same.config }) (fault_error now e _ new on) (rw (goes_on_space now t.end _ new t.goes_on) refused))
+              absurd (none_refused old e first (record { side = same.side; local_id = same.local_id; remote_length = same.remote_length; config = same.config }) (fault_error now e _ new on) (rw (goes_on_space now t.end _ new t.goes_on) refused))
         ]
 
     datagram_open : (now : Moment) (old : Inner S) → SameEnds c old → is_open old.state ≡ true → IsDatagramTaken accepts now d old new → is_open new.state ≡ true
@@ -342,5 +345,5 @@ module _ {S : Type 0} where
       let rp = reached_of p tp reached_p (lost_shut p up) in
       let old : Inner S = received (Datagram now remote d) c in
       datagram_open accepts named c p new tc tp peers linked a b rp f (space_of p tp f none) filled (means_sized p tp sized) up d there (event_law accepts (Datagram now remote d) c new tc named taken reached_c)
-      (event_stands accepts (takes_tags accepts named) (Datagram now remote d) c new tc taken announced_c) (means_granted new (event_granted accepts (Datagram now remote d) c new taken granted)) now old
-      (record { side = refl; local_id = refl; remote_id = refl; config = refl }) is taken
+      (event_stands accepts (takes_tags accepts named) (Datagram now remote d) c new tc taken announced_c) (means_granted new (event_granted accepts (Datagram now remote d) c new taken granted)) (takes_granted new (event_granted accepts (Datagram now remote d) c new taken granted)) now old
+      (record { side = refl; local_id = refl; remote_length = refl; config = refl }) is taken

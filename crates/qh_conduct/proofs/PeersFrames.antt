@@ -1,7 +1,7 @@
 -- No frame of the other end's is refused.
 use Rattle.std.proofs.Common.{◌≡◌, ℕ, ◌-◌, ◌/◌, ◌<◌, ◌≤◌, ◌==◌, false, List, [], ◌∷◌, length, Option, Some, None, refl, sym, ap, subst, ◌∙◌, arith, inl, inr}
-use Rattle.std.specs.Prelude.{◌⊎◌}
-use Rattle.std.proofs.lemmas.Bool.{cases_Bool, eqb-true, lt-ltb}
+use Rattle.std.specs.Prelude.{◌⊎◌, IsSomeAnd}
+use Rattle.std.proofs.lemmas.Bool.{cases_Bool, eqb-true, le-leb, lt-ltb}
 use Rattle.qh_conduct.proofs.FramesSay.{Between, ack_kind, close_kind, control_kind, count_kind, exact_kind, form_kind, no_control, says_ack}
 use Rattle.qh_conduct.proofs.PeersKept.{kept_frame, says_came, used_number}
 use Rattle.qh_conduct.proofs.PeersLimits.{all_within, stream_within}
@@ -13,7 +13,7 @@ use Rattle.qh_conduct.proofs.ReachSums.{frame_unrefused}
 use Rattle.qh_conduct.specs.Announced.{Announced, IsKeptFrame}
 use Rattle.qh_conduct.specs.Announced.IsKeptFrame.{ping, response, ack, stream, reset, stop, max_data, max_stream_data, max_streams, control, close}
 use Rattle.qh_conduct.specs.Fitting.{AgreeOnSizes, AreWithinWritten, IsWithinStream}
-use Rattle.qh_conduct.specs.Granted.{AreGranted}
+use Rattle.qh_conduct.specs.Granted.{AreGranted, TakesDatagrams}
 use Rattle.qh_conduct.specs.Filled.{AreFilled}
 use Rattle.qh_conduct.specs.Peers.{AreLinked, ArePeers}
 use Rattle.qh_conduct.specs.Reached.{CameIn, EndsAt, Reached, Reaches}
@@ -21,23 +21,24 @@ use Rattle.qh_conduct.specs.Sized.{AreRight}
 use Rattle.qh_core.specs.Control.{MaySend, control_frame}
 use Rattle.qh_core.specs.Follows.{Following, HasFrame}
 use Rattle.qh_core.specs.declared.control.ControlFrame.{ControlFrame}
-use Rattle.qh_core.specs.declared.control.ControlFrame.TheVariants.{NewToken, NewConnectionId, RetireConnectionId}
+use Rattle.qh_core.specs.declared.control.ControlFrame.TheVariants.{NewToken, NewConnectionId, RetireConnectionId, Datagram as DatagramOut}
 use Rattle.qh_core.specs.declared.inner.Inner.{Inner}
 use Rattle.qh_frame.specs.AckWritten.{AreApart, ack_frame, gaps}
-use Rattle.qh_frame.specs.Plain.{ack_of, plain_of}
+use Rattle.qh_frame.specs.Plain.{ack_of, frame, plain_of}
+use Rattle.qh_frame.specs.TypeOf.{type_of}
 use Rattle.qh_frame.specs.WrittenForm.{ack_values, or_frame, written_form}
 use Rattle.qh_frame.specs.declared.ack.Ack.{Ack}
 use Rattle.qh_frame.specs.declared.ack.AckRange.{AckRange}
 use Rattle.qh_frame.specs.declared.frame.Frame.{Frame}
 use Rattle.qh_frame.specs.declared.frame.Frame.TheVariants as kind
-use Rattle.qh_space.specs.Receiving.{coming_of, frame_refusal, refused_at_server}
+use Rattle.qh_space.specs.Receiving.{coming_of, datagram_refusal, frame_refusal, refused_at_server}
 use Rattle.qh_spec.proofs.AckRows.{greatest_in}
 use Rattle.qh_spec.specs.Acknowledged.{Covers}
 use Rattle.qh_spec.specs.FrameViews.{stream_values}
 use Rattle.qh_spec.specs.Link.{other}
 use Rattle.qh_spec.specs.Lists.{In}
 use Rattle.qh_spec.specs.QuicFrame.{StreamFrame as Run, has_bit}
-use Rattle.qh_spec.specs.QuicFrames.{QuicFrame, Value, Num}
+use Rattle.qh_spec.specs.QuicFrames.{QuicFrame, Value, Num, Text}
 use Rattle.qh_spec.specs.Transcript.{Act, handed_in, written}
 use Rattle.qh_spec.specs.declared.sides.Side.{Side}
 use Rattle.qh_spec.specs.declared.sides.Side.TheVariants.{Client, Server}
@@ -96,32 +97,45 @@ abbrev first_number : List Value → ℕ
 first_number (Num n ∷ more) = n
 first_number others = 0
 
+abbrev first_text : List Value → List ℕ
+first_text (Text t ∷ more) = t
+first_text others = []
+
 module _ {S : Type 0} (c : Inner S) (came : List (List ℕ)) where
+  -- a DATAGRAM frame whose payload the peer takes
+  record IsSmallDatagram (q : QuicFrame) : Type 0 where
+    payload : List ℕ
+    is : q ≡ frame 49 (Text payload ∷ [])
+    fits : IsSomeAnd c.config.peer_datagram (λ n. length payload ≤ n)
+
   -- the types of the frames that an end may send, a token from a server alone
-  abbrev IsSentKind : ℕ → Type 0
-  IsSentKind kind = (kind ≤ 29) × (kind ≡ 7 → c.side ≡ Server)
+  abbrev IsSentKind : QuicFrame → Type 0
+  IsSentKind q = ((q.kind ≤ 29) ⊎ IsSmallDatagram q) × (q.kind ≡ 7 → c.side ≡ Server)
 
-  between_kind : (low high k : ℕ) → Between low high k → high ≤ 29 → (7 < low) ⊎ (high < 7) → IsSentKind k
-  between_kind low high k b top (inl above) = let l = b.0 in let h = b.1 in (omega (arith, h, top), λ e. absurd (omega (arith, e, l, above)))
-  between_kind low high k b top (inr below) = let l = b.0 in let h = b.1 in (omega (arith, h, top), λ e. absurd (omega (arith, e, h, below)))
+  between_kind : (low high : ℕ) (q : QuicFrame) → Between low high q.kind → high ≤ 29 → (7 < low) ⊎ (high < 7) → IsSentKind q
+  between_kind low high q b top (inl above) = let l = b.0 in let h = b.1 in (inl (omega (arith, h, top)), λ e. absurd (omega (arith, e, l, above)))
+  between_kind low high q b top (inr below) = let l = b.0 in let h = b.1 in (inl (omega (arith, h, top)), λ e. absurd (omega (arith, e, h, below)))
 
-  control_sent : (q : QuicFrame) (g : ControlFrame) → q ≡ control_frame g → MaySend c.side g → IsSentKind q.kind
-  control_sent q (NewToken token) is may = let same : q.kind ≡ 7 = ap (λ (f : QuicFrame). f.kind) is in (omega (arith, same), λ e. may.0)
-  control_sent q (NewConnectionId sequence prior id reset_token) is may = let same : q.kind ≡ 24 = ap (λ (f : QuicFrame). f.kind) is in (omega (arith, same), λ e. absurd (omega (arith, same, e)))
-  control_sent q (RetireConnectionId sequence) is may = let same : q.kind ≡ 25 = ap (λ (f : QuicFrame). f.kind) is in (omega (arith, same), λ e. absurd (omega (arith, same, e)))
+  control_sent : (q : QuicFrame) (g : ControlFrame) → q ≡ control_frame g → MaySend c.side c.config.peer_datagram g → IsSentKind q
+  control_sent q (NewToken token) is may = let same : q.kind ≡ 7 = ap (λ (f : QuicFrame). f.kind) is in (inl (omega (arith, same)), λ e. may.0)
+  control_sent q (NewConnectionId sequence prior id reset_token) is may = let same : q.kind ≡ 24 = ap (λ (f : QuicFrame). f.kind) is in (inl (omega (arith, same)), λ e. absurd (omega (arith, same, e)))
+  control_sent q (RetireConnectionId sequence) is may = let same : q.kind ≡ 25 = ap (λ (f : QuicFrame). f.kind) is in (inl (omega (arith, same)), λ e. absurd (omega (arith, same, e)))
+  control_sent q (DatagramOut payload) is may =
+      let same : q.kind ≡ 49 = ap (λ (f : QuicFrame). f.kind) is in
+      (inr (record { payload = payload; is = is; fits = may.0 }), λ e. absurd (omega (arith, same, e)))
 
-  sent_kind : (q : QuicFrame) → IsKeptFrame c came q → IsSentKind q.kind
-  sent_kind q (ping is) = between_kind 1 1 q.kind (exact_kind q 1 [] is) (omega arith) (inr (omega arith))
-  sent_kind q (response echoed is) = between_kind 27 27 q.kind (exact_kind q 27 _ is) (omega arith) (inl (omega arith))
-  sent_kind q (ack ranges is apart all) = between_kind 2 2 q.kind (ack_kind q ranges is) (omega arith) (inr (omega arith))
-  sent_kind q (stream run is named) = between_kind 10 15 q.kind (form_kind q run is) (omega arith) (inl (omega arith))
-  sent_kind q (reset id code size is named) = between_kind 4 4 q.kind (exact_kind q 4 _ is) (omega arith) (inr (omega arith))
-  sent_kind q (stop id code is named) = between_kind 5 5 q.kind (exact_kind q 5 _ is) (omega arith) (inr (omega arith))
-  sent_kind q (max_data limit is below) = between_kind 16 16 q.kind (exact_kind q 16 _ is) (omega arith) (inl (omega arith))
-  sent_kind q (max_stream_data id limit is named below) = between_kind 17 17 q.kind (exact_kind q 17 _ is) (omega arith) (inl (omega arith))
-  sent_kind q (max_streams dir count is below) = between_kind 18 19 q.kind (count_kind q dir count is) (omega arith) (inl (omega arith))
+  sent_kind : (q : QuicFrame) → IsKeptFrame c came q → IsSentKind q
+  sent_kind q (ping is) = between_kind 1 1 q (exact_kind q 1 [] is) (omega arith) (inr (omega arith))
+  sent_kind q (response echoed is) = between_kind 27 27 q (exact_kind q 27 _ is) (omega arith) (inl (omega arith))
+  sent_kind q (ack ranges is apart all) = between_kind 2 2 q (ack_kind q ranges is) (omega arith) (inr (omega arith))
+  sent_kind q (stream run is named) = between_kind 10 15 q (form_kind q run is) (omega arith) (inl (omega arith))
+  sent_kind q (reset id code size is named) = between_kind 4 4 q (exact_kind q 4 _ is) (omega arith) (inr (omega arith))
+  sent_kind q (stop id code is named) = between_kind 5 5 q (exact_kind q 5 _ is) (omega arith) (inr (omega arith))
+  sent_kind q (max_data limit is below) = between_kind 16 16 q (exact_kind q 16 _ is) (omega arith) (inl (omega arith))
+  sent_kind q (max_stream_data id limit is named below) = between_kind 17 17 q (exact_kind q 17 _ is) (omega arith) (inl (omega arith))
+  sent_kind q (max_streams dir count is below) = between_kind 18 19 q (count_kind q dir count is) (omega arith) (inl (omega arith))
   sent_kind q (control g is may) = control_sent q g is may
-  sent_kind q (close reason is shut) = between_kind 28 29 q.kind (close_kind q reason is) (omega arith) (inl (omega arith))
+  sent_kind q (close reason is shut) = between_kind 28 29 q (close_kind q reason is) (omega arith) (inl (omega arith))
 
   -- an ACK covers its greatest number
   own_greatest : (q : QuicFrame) (ranges : List AckRange) (a : Ack) → q ≡ ack_frame 0 ranges → AreApart ranges → written_form q ≡ ack_of a → Covers q a.greatest
@@ -141,7 +155,7 @@ module _ {S : Type 0} (c : Inner S) (came : List (List ℕ)) where
   covers_greatest q a form (max_data limit is below) = let x = ack_type q _ form refl in let y = exact_kind q 16 _ is in absurd (omega (arith, x.0, x.1, y.0, y.1))
   covers_greatest q a form (max_stream_data id limit is named below) = let x = ack_type q _ form refl in let y = exact_kind q 17 _ is in absurd (omega (arith, x.0, x.1, y.0, y.1))
   covers_greatest q a form (max_streams dir count is below) = let x = ack_type q _ form refl in let y = count_kind q dir count is in absurd (omega (arith, x.0, x.1, y.0, y.1))
-  covers_greatest q a form (control g is may) = absurd (no_control 2 3 q.kind (ack_type q _ form refl) (control_kind q g is) (inr (omega arith)) (inr (omega arith)))
+  covers_greatest q a form (control g is may) = absurd (no_control 2 3 q.kind (ack_type q _ form refl) (control_kind q g is) (inr (omega arith)) (inr (omega arith)) (omega arith))
   covers_greatest q a form (close reason is shut) = let x = ack_type q _ form refl in let y = close_kind q reason is in absurd (omega (arith, x.0, x.1, y.0, y.1))
 
 -- ---- no refusal
@@ -151,16 +165,25 @@ taken_there : (side : Side) (kind : ℕ) → other side ≡ Server → refused_a
 taken_there Client kind is = refl
 taken_there Server kind is = absurd (cc)
 
+-- nor is a payload that the other end may send
+payload_fits : (receive : Option ℕ) (most size type : ℕ) → IsSomeAnd receive (λ m. most ≤ m) → size ≤ most → datagram_refusal receive size type ≡ None
+payload_fits None most size type there less = absurd there
+payload_fits (Some m) most size type there less = rw (le-leb size m (omega (arith, there, less))) refl
+
+payload_taken : (receive send : Option ℕ) (size type : ℕ) → ((n : ℕ) → send ≡ Some n → IsSomeAnd receive (λ m. n ≤ m)) → IsSomeAnd send (λ n. size ≤ n) → datagram_refusal receive size type ≡ None
+payload_taken receive None size type takes fits = absurd fits
+payload_taken receive (Some n) size type takes fits = payload_fits receive n size type (takes n refl) fits
+
 module _ {S : Type 0} (c p : Inner S) (tc tp : List Act) (peers : ArePeers c p) (linked : AreLinked tc tp) (a : Announced c tc) (b : Announced p tp) (rc : Reached c tc) (rp : Reached p tp) (f : Following p tp)
-    (space_is : p.space ≡ f.space) (filled : AreFilled p tp) (right : AreRight p tp) (grants : AreGranted c) where
+    (space_is : p.space ≡ f.space) (filled : AreFilled p tp) (right : AreRight p tp) (grants : AreGranted c) (receives : TakesDatagrams c) where
   abbrev Came : StreamFrame → Type 0
   Came g = CameIn (length c.local_id) (handed_in tc) (other c.side) g
 
   reaches : (g : StreamFrame) (stream to : ℕ) → Came g → Reaches stream to g → to ≤ length (written tp stream)
-  reaches = reaches_written p tp f filled right (length c.local_id) (handed_in tc) (other c.side) (ap length peers.there) peers.sides linked.to
+  reaches = reaches_written p tp f filled right (length c.local_id) (handed_in tc) (other c.side) peers.there peers.sides linked.to
 
   ends : (g : StreamFrame) (stream size : ℕ) → Came g → EndsAt stream size g → size ≡ length (written tp stream)
-  ends = ends_written p tp f filled right (length c.local_id) (handed_in tc) (other c.side) (ap length peers.there) peers.sides linked.to
+  ends = ends_written p tp f filled right (length c.local_id) (handed_in tc) (other c.side) peers.there peers.sides linked.to
 
   module _ (g : StreamFrame) (came : Came g) where
     came_too : (k : StreamFrame) → In k (g ∷ rc.frames) → Came k
@@ -185,19 +208,19 @@ module _ {S : Type 0} (c p : Inner S) (tc tp : List Act) (peers : ArePeers c p) 
     coming_unrefused : refusal_of c.space.streams g ≡ None
     coming_unrefused =
         frame_unrefused c.side c.space.streams rc.frames rc.are g tp agree fits (all_within c p tc tp peers a f linked.from grants) within
-        (names_known c p tc tp peers a b rc rp f space_is linked.from grants g (says_came p tp b (length c.local_id) (handed_in tc) (other c.side) (ap length peers.there) linked.to g came))
+        (names_known c p tc tp peers a b rc rp f space_is linked.from grants g (says_came p tp b (length c.local_id) (handed_in tc) (other c.side) peers.there linked.to g came))
 
   module _ (q : QuicFrame) (has : HasFrame (length c.local_id) (handed_in tc) (other c.side) q) where
     kept : IsKeptFrame p (handed_in tp) q
-    kept = kept_frame p tp b (length c.local_id) (handed_in tc) (other c.side) (ap length peers.there) linked.to q has
+    kept = kept_frame p tp b (length c.local_id) (handed_in tc) (other c.side) peers.there linked.to q has
 
     below_next : (x : Ack) → written_form q ≡ ack_of x → x.greatest < c.space.next_number
     below_next x form =
-        used_number c tc a (length p.local_id) (handed_in tp) (other p.side) (ap length peers.back) linked.from x.greatest
+        used_number c tc a (length p.local_id) (handed_in tp) (other p.side) peers.back linked.from x.greatest
         (says_ack p (handed_in tp) q x.greatest (covers_greatest p (handed_in tp) q x form kept) kept)
 
-    not_kind : (form : QuicFrame) → written_form q ≡ form → (form.kind / 8 == 1) ≡ false → (form.kind == 2) ≡ false → (form.kind == 49) ≡ false → (form.kind ≤ 29) × (form.kind ≡ 7 → p.side ≡ Server)
-    not_kind form e plain no_ack no_datagram = subst (λ (f : QuicFrame). (f.kind ≤ 29) × (f.kind ≡ 7 → p.side ≡ Server)) (form_same q form e plain no_ack no_datagram) (sent_kind p (handed_in tp) q kept)
+    not_kind : (form : QuicFrame) → written_form q ≡ form → (form.kind / 8 == 1) ≡ false → (form.kind == 2) ≡ false → (form.kind == 49) ≡ false → IsSentKind p (handed_in tp) form
+    not_kind form e plain no_ack no_datagram = subst (λ (f : QuicFrame). IsSentKind p (handed_in tp) f) (form_same q form e plain no_ack no_datagram) (sent_kind p (handed_in tp) q kept)
 
     as_coming : (x : Frame) (g : StreamFrame) → coming_of x ≡ Some g → written_form q ≡ plain_of x → refusal_of c.space.streams g ≡ None
     as_coming x g is form = coming_unrefused g (frame_came c.side (length c.local_id) (handed_in tc) x q g is form has)
@@ -207,8 +230,19 @@ module _ {S : Type 0} (c p : Inner S) (tc tp : List Act) (peers : ArePeers c p) 
     unrefused (kind.NewToken token) form =
         let sender : p.side ≡ Server = (not_kind _ form refl refl refl).1 refl in
         ap (λ (s : Side). refused_at_server s 7) rc.are.side_is ∙ taken_there c.side 7 (sym peers.sides ∙ sender)
-    unrefused kind.HandshakeDone form = let low = (not_kind _ form refl refl refl).0 in absurd (omega (arith, low))
-    unrefused (kind.Datagram payload has_length) form = let high = datagram_type q _ form refl in let low = (sent_kind p (handed_in tp) q kept).0 in absurd (omega (arith, high, low))
+    unrefused kind.HandshakeDone form = elim (not_kind _ form refl refl refl).0 [
+      | inl low ↦ absurd (omega (arith, low))
+      | inr d ↦ let kinds = ap (λ (f : QuicFrame). f.kind) d.is in absurd (omega (arith, kinds))
+    ]
+    unrefused (kind.Datagram payload has_length) form = elim (sent_kind p (handed_in tp) q kept).0 [
+      | inl low ↦ let high = datagram_type q _ form refl in absurd (omega (arith, high, low))
+      | inr d ↦
+          let same : frame 49 (Text d.payload ∷ []) ≡ frame 49 (Text payload.now ∷ []) = ap written_form (sym d.is) ∙ form in
+          let bytes : d.payload ≡ payload.now = ap (λ (f : QuicFrame). first_text f.values) same in
+          ap (λ (o : Option ℕ). datagram_refusal o (length payload.now) (type_of (kind.Datagram payload has_length))) receives
+          ∙ payload_taken c.config.datagram_receive p.config.peer_datagram (length payload.now) (type_of (kind.Datagram payload has_length)) peers.datagrams
+          (subst (λ (z : List ℕ). IsSomeAnd p.config.peer_datagram (λ n. length z ≤ n)) bytes d.fits)
+    ]
     unrefused (kind.Stream s) form = as_coming (kind.Stream s) _ refl form
     unrefused (kind.ResetStream id code size) form = as_coming (kind.ResetStream id code size) _ refl form
     unrefused (kind.StopSending id code) form = as_coming (kind.StopSending id code) _ refl form

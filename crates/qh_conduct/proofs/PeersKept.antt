@@ -85,7 +85,7 @@ module _ {S : Type 0} (c : Inner S) (came : List (List ℕ)) where
   run_form q run e (max_data limit is below) = let a = stream_type q run e in let b = exact_kind q 16 _ is in absurd (omega (arith, a.0, a.1, b.0, b.1))
   run_form q run e (max_stream_data id limit is named below) = let a = stream_type q run e in let b = exact_kind q 17 _ is in absurd (omega (arith, a.0, a.1, b.0, b.1))
   run_form q run e (max_streams dir count is below) = let a = stream_type q run e in let b = count_kind q dir count is in absurd (omega (arith, a.0, a.1, b.0, b.1))
-  run_form q run e (control g is may) = absurd (no_control 8 15 q.kind (stream_type q run e) (control_kind q g is) (inl (omega arith)) (inr (omega arith)))
+  run_form q run e (control g is may) = absurd (no_control 8 15 q.kind (stream_type q run e) (control_kind q g is) (inl (omega arith)) (inr (omega arith)) (omega arith))
   run_form q run e (close reason is shut) = let a = stream_type q run e in let b = close_kind q reason is in absurd (omega (arith, a.0, a.1, b.0, b.1))
 
   -- what the sender of a frame is bound to by it

@@ -154,7 +154,7 @@ first_by false is_own a b d limit x y z = z
 
 module _ {S : Type 0} (c p : Inner S) (tc tp : List Act) (peers : ArePeers c p) (a : Announced c tc) (f : Following p tp) (among : (d : List ℕ) → In d (handed_in tp) → In d (handed_out tc)) where
   gave : (g : StreamFrame) → In g f.given → Says c (handed_in tc) g
-  gave g is = says_coming c tc a (length p.local_id) (handed_in tp) (other p.side) (ap length peers.back) among g (f.gave g is)
+  gave g is = says_coming c tc a (length p.local_id) (handed_in tp) (other p.side) peers.back among g (f.gave g is)
 
   first_of : (limit : PeerLimits → ℕ) → limit f.space.streams.peer ≡ limit (peer_of c.config.limits)
   first_of limit = ap limit f.of.peer_is ∙ ap limit peers.known

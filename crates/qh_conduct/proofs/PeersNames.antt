@@ -97,7 +97,7 @@ module _ {S : Type 0} (c p : Inner S) (tc tp : List Act) (peers : ArePeers c p) 
       let peers_not = flipped _ _ (own_is id) true own in
       let any = rp.are.arrived (is_bi id) (index_of id) (others_below p.space.streams id peers_not opened) in
       let n = any.is in
-      let says = says_came c tc a (length p.local_id) (handed_in tp) (other p.side) (ap length peers.back) among any.frame (rp.came any.frame any.among) in
+      let says = says_came c tc a (length p.local_id) (handed_in tp) (other p.side) peers.back among any.frame (rp.came any.frame any.among) in
       let there = named_opened c (handed_in tc) any.frame n.stream n.names says in
       let same : is_own c.space.streams.side n.stream ≡ true = flipped_back _ _ (own_is n.stream) false (ap (λ (s : Side). is_own s n.stream) rp.are.side_is ∙ n.peers) in
       before_opened c.space.streams id n.stream own same n.direction n.past there

@@ -1,7 +1,7 @@
 -- Two ends are still those of one connection, and are linked, behind what is done with them.
-use Rattle.std.proofs.Common.{◌≡◌, ℕ, ◌≤◌, ◌^◌, List, [], ◌++◌, refl, sym, ap, subst, ◌∙◌}
+use Rattle.std.proofs.Common.{◌≡◌, ℕ, ◌≤◌, ◌^◌, List, [], ◌++◌, length, refl, sym, ap, subst, ◌∙◌}
 use Rattle.std.proofs.lemmas.List.{append-nil}
-use Rattle.qh_conduct.specs.Peers.{AreLinked, ArePeers}
+use Rattle.qh_conduct.specs.Peers.{AreLinked, ArePeers, TakesFrom}
 use Rattle.qh_core.specs.Config.{peer_of}
 use Rattle.qh_core.specs.Inner.{IsSameEnd}
 use Rattle.qh_core.specs.declared.config.ConnConfig.{ConnConfig}
@@ -31,17 +31,21 @@ module _ {S : Type 0} where
     knows = peers.known;
     fits = peers.fits_back;
     fits_back = peers.fits;
+    datagrams = peers.datagrams_back;
+    datagrams_back = peers.datagrams;
   }
 
   pub same_peers : (c p d q : Inner S) → IsSameEnd c d → IsSameEnd p q → ArePeers c p → ArePeers d q
   same_peers c p d q first second peers = record {
     sides = second.side ∙ peers.sides ∙ ap other (sym first.side);
-    there = second.remote_id ∙ peers.there ∙ sym first.local_id;
-    back = first.remote_id ∙ peers.back ∙ sym second.local_id;
+    there = second.remote_length ∙ peers.there ∙ sym (ap length first.local_id);
+    back = first.remote_length ∙ peers.back ∙ sym (ap length second.local_id);
     known = ap (λ (k : ConnConfig). k.peer) second.config ∙ peers.known ∙ ap (λ (k : ConnConfig). peer_of k.limits) (sym first.config);
     knows = ap (λ (k : ConnConfig). k.peer) first.config ∙ peers.knows ∙ ap (λ (k : ConnConfig). peer_of k.limits) (sym second.config);
     fits = subst (λ (k : ConnConfig). FitsCounts k) (sym first.config) peers.fits;
     fits_back = subst (λ (k : ConnConfig). FitsCounts k) (sym second.config) peers.fits_back;
+    datagrams = subst (λ (k : ConnConfig). TakesFrom k q.config) (sym first.config) (subst (λ (k : ConnConfig). TakesFrom c.config k) (sym second.config) peers.datagrams);
+    datagrams_back = subst (λ (k : ConnConfig). TakesFrom k d.config) (sym second.config) (subst (λ (k : ConnConfig). TakesFrom p.config k) (sym first.config) peers.datagrams_back);
   }
 
 pub linked_back : (tc tp : List Act) → AreLinked tc tp → AreLinked tp tc

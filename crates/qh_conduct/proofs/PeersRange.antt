@@ -66,7 +66,7 @@ module _ {S : Type 0} (c : Inner S) (came : List (List ℕ)) where
   kept_fits q live up small (max_data limit is below) = rw is tt
   kept_fits q live up small (max_stream_data id limit is named below) = rw is tt
   kept_fits q live up small (max_streams dir count is below) = rw is (count_fits dir count (let most = live.counts (is_two_way dir) in omega (arith, below, most)))
-  kept_fits q live up small (control g is may) = rw is (control_fits c.side g may)
+  kept_fits q live up small (control g is may) = rw is (control_fits c.side c.config.peer_datagram g may)
   kept_fits q live up small (close reason is shut) = absurd (both_ways (is_open c.state) shut up)
 
 -- ---- nothing is left behind the frames

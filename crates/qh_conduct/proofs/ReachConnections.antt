@@ -12,6 +12,7 @@ use Rattle.qh_conduct.proofs.ReachFrames.{opened_reached}
 use Rattle.qh_conduct.proofs.ReachSpaces.{Came, all_frames}
 use Rattle.qh_conduct.proofs.ReachSteps as step
 use Rattle.qh_conduct.proofs.SpaceGoesOn.{bare_streams}
+use Rattle.qh_conduct.proofs.TurnedAside.{IsAside}
 use Rattle.qh_conduct.specs.Reached.{AreNamed, AreReached, CameIn, HasNothingYet, HasReached, IsLostForMemory, IsUntouched, Reached}
 use Rattle.qh_core.proofs.Ends.{ended_with}
 use Rattle.qh_core.specs.Event.{IsDrainedTold, IsPolledEvent}
@@ -40,7 +41,7 @@ use Rattle.qh_core.specs.declared.inner.Inner.{Inner}
 use Rattle.qh_core.specs.declared.state.Close.{Close as CloseReason}
 use Rattle.qh_core.specs.declared.state.Close.TheVariants.{Application}
 use Rattle.qh_core.specs.declared.state.State.{State}
-use Rattle.qh_core.specs.declared.state.State.TheVariants.{Drained}
+use Rattle.qh_core.specs.declared.state.State.TheVariants.{Closed, Drained}
 use Rattle.qh_half.specs.declared.fault.ReadFault.{ReadFault}
 use Rattle.qh_half.specs.declared.fault.WriteFault.{WriteFault}
 use Rattle.qh_half.specs.declared.fault.WriteFault.TheVariants as write_fault
@@ -136,7 +137,7 @@ module _ {S : Type 0} where
   Knows c t = Reached c t ⊎ IsLostForMemory c
 
   not_lost : {X : Type 0} (c : Inner S) → is_open c.state ≡ true → IsLostForMemory c → X
-  not_lost c opened lost = absurd (both_ways (is_open c.state) lost.0 opened)
+  not_lost c opened lost = absurd (both_ways (is_open c.state) (ap is_open lost.0) opened)
 
   more_acts : (c : Inner S) (t u : List Act) → Knows c t → Knows c (t ++ u)
   more_acts c t u (inl p) = inl (record {
@@ -169,7 +170,7 @@ module _ {S : Type 0} where
       → Knows old t → Knows new t
   called old new t e step =
       moved old new t (ap (λ (c : Inner S). c.side) e) (ap (λ (c : Inner S). c.local_id) e) step
-      (λ lost. (ap (λ (c : Inner S). is_open c.state) e ∙ lost.0, ap (λ (c : Inner S). c.error) e ∙ lost.1))
+      (λ lost. (ap (λ (c : Inner S). c.state) e ∙ lost.0, ap (λ (c : Inner S). c.error) e ∙ lost.1))
 
   -- ---- a packet that is taken
 
@@ -226,16 +227,16 @@ module _ {S : Type 0} where
         inl (packet_taken now number bytes old new (t ++ HandedIn datagram ∷ []) a (content_frame old t datagram number a.surveyed.frames has) p)
     packet_handled number bytes old new t opened by (in_taken is a) (inr lost) = not_lost old opened lost
 
-    -- the state alone changed, and the connection isn't open
-    shut : (old new : Inner S) (t : List Act) (state : State) → is_open state ≡ false → new ≡ record old { state = state } → Knows old t → Knows new t
-    shut old new t state closed e = moved old new t (ap (λ (c : Inner S). c.side) e) (ap (λ (c : Inner S). c.local_id) e) (λ frames p. rw (ap (λ (c : Inner S). c.space) e) p)
-        (λ lost. (ap (λ (c : Inner S). is_open c.state) e ∙ closed, ap (λ (c : Inner S). c.error) e ∙ lost.1))
+    -- the state alone changed, of a connection that isn't drained
+    shut : (old new : Inner S) (t : List Act) (before state : State) → old.state ≡ before → (before ≡ Drained → ⊥) → new ≡ record old { state = state } → Knows old t → Knows new t
+    shut old new t before state was lives e = moved old new t (ap (λ (c : Inner S). c.side) e) (ap (λ (c : Inner S). c.local_id) e) (λ frames p. rw (ap (λ (c : Inner S). c.space) e) p)
+        (λ lost. absurd (lives (sym was ∙ lost.0)))
 
     datagram_taken : (old new : Inner S) (t : List Act) → IsDatagramTaken accepts now datagram old new → Knows old (t ++ HandedIn datagram ∷ []) → Knows new (t ++ HandedIn datagram ∷ [])
     datagram_taken old new t (dropped opened none e) p = same_knows old new _ e p
     datagram_taken old new t (handled number bytes opened by h) p = packet_handled number bytes old new t opened by h p
-    datagram_taken old new t (told_again reason due until is none e) p = shut old new _ _ refl e p
-    datagram_taken old new t (closed_too reason due until is brings e) p = shut old new _ _ refl e p
+    datagram_taken old new t (told_again reason due until is none e) p = shut old new _ (Closed reason due until) _ is (λ same. cc) e p
+    datagram_taken old new t (closed_too reason due until is brings e) p = shut old new _ (Closed reason due until) _ is (λ same. cc) e p
     datagram_taken old new t (in_draining until is e) p = same_knows old new _ e p
     datagram_taken old new t (in_drained is e) p = same_knows old new _ e p
 
@@ -261,7 +262,7 @@ module _ {S : Type 0} where
   -- ---- want of memory
 
   failed : (old new : Inner S) (t : List Act) → IsFailedBy old new → Knows new t
-  failed old new t f = inr (ap (λ (c : Inner S). is_open c.state) f.rest_is, ap (λ (c : Inner S). c.error) f.rest_is)
+  failed old new t f = inr (ap (λ (c : Inner S). c.state) f.rest_is, ap (λ (c : Inner S). c.error) f.rest_is)
 
   -- ---- datagrams that are sent
 
@@ -277,7 +278,7 @@ module _ {S : Type 0} where
       (λ frames p. rw (bare_streams now.0 (overhead old + length bytes) old.space new.space packet.sent) p) (not_lost old opened)
   frames_made now old new t before bytes (close_made reason until is are e) =
       moved old new t (ap (λ (c : Inner S). c.side) e) (ap (λ (c : Inner S). c.local_id) e) (λ frames p. rw (ap (λ (c : Inner S). c.space.streams) e) p)
-      (λ lost. (ap (λ (c : Inner S). is_open c.state) e, ap (λ (c : Inner S). c.error) e ∙ lost.1))
+      (λ lost. let never : Closed reason true until ≡ Drained = sym is ∙ lost.0 in absurd (cc))
 
   datagram_made : (sealed : Side → Space → ℕ → List ℕ) (now : Moment) (old new : Inner S) (before after : List ℕ) (transmit : Transmit) (t : List Act) → IsDatagramMade sealed now old new before after transmit → Knows old t → Knows new t
   datagram_made sealed now old new before after transmit t made = frames_made now old new t _ _ made.bytes.made
@@ -286,7 +287,7 @@ module _ {S : Type 0} where
 
   drained_by : (old new : Inner S) (t : List Act) → new ≡ record old { state = Drained } → Knows old t → Knows new t
   drained_by old new t e = moved old new t (ap (λ (c : Inner S). c.side) e) (ap (λ (c : Inner S). c.local_id) e) (λ frames p. rw (ap (λ (c : Inner S). c.space) e) p)
-      (λ lost. (ap (λ (c : Inner S). is_open c.state) e, ap (λ (c : Inner S). c.error) e ∙ lost.1))
+      (λ lost. (ap (λ (c : Inner S). c.state) e, ap (λ (c : Inner S). c.error) e ∙ lost.1))
 
   timed_out : (now : ℕ) (old new : Inner S) (t : List Act) → IsTimedOut now old new → Knows old t → Knows new t
   timed_out now old new t (idle opened due e) p =
@@ -307,12 +308,12 @@ module _ {S : Type 0} where
   polled old new _ t (told_lost mid err happened is untold e_is) p =
       moved old new t (ap (λ (c : Inner S). c.side) e_is) (ap (λ (c : Inner S). c.local_id) e_is)
       (λ frames q. rw (ap (λ (c : Inner S). c.space.streams) e_is) (step.untouched old.side old.space.streams mid frames (polled_untouched old.space.streams mid None happened) q))
-      (λ lost. (ap (λ (c : Inner S). is_open c.state) e_is ∙ lost.0, ap (λ (c : Inner S). c.error) e_is ∙ lost.1)) p
+      (λ lost. (ap (λ (c : Inner S). c.state) e_is ∙ lost.0, ap (λ (c : Inner S). c.error) e_is ∙ lost.1)) p
 
   drain_told : (old new : Inner S) (o : Option EndpointEvent) (t : List Act) → IsDrainedTold old new o → Knows old t → Knows new t
   drain_told old new _ t (told_drained is untold e) p =
       moved old new t (ap (λ (c : Inner S). c.side) e) (ap (λ (c : Inner S). c.local_id) e) (λ frames q. rw (ap (λ (c : Inner S). c.space) e) q)
-      (λ lost. (ap (λ (c : Inner S). is_open c.state) e ∙ lost.0, ap (λ (c : Inner S). c.error) e ∙ lost.1)) p
+      (λ lost. (ap (λ (c : Inner S). c.state) e ∙ lost.0, ap (λ (c : Inner S). c.error) e ∙ lost.1)) p
   drain_told old new _ t (not_drained why e) p = same_knows old new t e p
 
   -- the application closes, where the connection is open
@@ -327,14 +328,14 @@ module _ {S : Type 0} where
   write_is_refused old new id e t (write_refused opened why is) p =
       moved old new t (ap (λ (c : Inner S). c.side) is) (ap (λ (c : Inner S). c.local_id) is)
       (λ frames q. rw (ap (λ (c : Inner S). c.space.streams) is) (step.untouched old.side old.space.streams _ frames (blocked_untouched old.space.streams id e) q))
-      (λ lost. (ap (λ (c : Inner S). is_open c.state) is ∙ lost.0, ap (λ (c : Inner S). c.error) is ∙ lost.1)) p
+      (λ lost. (ap (λ (c : Inner S). c.state) is ∙ lost.0, ap (λ (c : Inner S). c.error) is ∙ lost.1)) p
 
   -- the streams are these now, of which what came is known as before
   on_streams : (old new : Inner S) (s : PlainStreams) (t : List Act) → new ≡ with_streams old s → IsUntouched old.space.streams s → Knows old t → Knows new t
   on_streams old new s t e u =
       moved old new t (ap (λ (c : Inner S). c.side) e) (ap (λ (c : Inner S). c.local_id) e)
       (λ frames q. rw (ap (λ (c : Inner S). c.space.streams) e) (step.untouched old.side old.space.streams s frames u q))
-      (λ lost. (ap (λ (c : Inner S). is_open c.state) e ∙ lost.0, ap (λ (c : Inner S). c.error) e ∙ lost.1))
+      (λ lost. (ap (λ (c : Inner S). c.state) e ∙ lost.0, ap (λ (c : Inner S). c.error) e ∙ lost.1))
 
   -- ---- the law
 
@@ -374,6 +375,12 @@ module _ {S : Type 0} where
   pub told_law : (old new : Inner S) (o : Option EndpointEvent) (t : List Act) → IsDrainedTold old new o → HasReached old t → HasReached new t
   unfolding HasReached
   told_law old new o t happened p = drain_told old new o t happened p
+
+  pub aside_law : (old new : Inner S) (t : List Act) → IsAside old new → HasReached old t → HasReached new t
+  unfolding HasReached
+  aside_law old new t a p =
+      moved old new t a.same.side a.same.local_id (λ frames q. rw (ap (λ (s : DataSpace). s.streams) a.space) q)
+      (λ lost. let stays = a.drained lost.0 in (stays.0, stays.1 ∙ lost.1)) p
 
   pub closed_law : (now : Moment) (reason : CloseReason) (old new : Inner S) (t : List Act) → is_open old.state ≡ true → IsClosedWith now reason error.LocallyClosed old new → HasReached old t → HasReached new t
   unfolding HasReached

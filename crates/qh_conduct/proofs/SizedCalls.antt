@@ -7,13 +7,14 @@ use Rattle.qh_base.specs.declared.connection_error.ConnectionError.{ConnectionEr
 use Rattle.qh_base.specs.declared.connection_error.ConnectionError.TheVariants.{LocallyClosed}
 use Rattle.qh_base.specs.declared.path.Transmit.{Transmit}
 use Rattle.qh_base.specs.declared.time.Moment.{Moment}
-use Rattle.qh_conduct.proofs.AnnouncedCalls.{IsQuietStep, closes_step, drained_open, drained_step, polled_step, timed_step, with_step}
+use Rattle.qh_conduct.proofs.AnnouncedCalls.{aside_step, IsQuietStep, closes_step, drained_open, drained_step, polled_step, timed_step, with_step}
 use Rattle.qh_conduct.proofs.DatagramsKept.{open_reads_back}
 use Rattle.qh_conduct.proofs.PacketsKept.{only_packet}
 use Rattle.qh_conduct.proofs.SizedSpaces.{AreSaid, aged_on, close_said, control_said, frames_on, made_on, packet_said, probed_on}
 use Rattle.qh_conduct.proofs.SpaceGoesOn.{bare_streams}
 use Rattle.qh_conduct.proofs.StreamsReceive.{call_go}
 use Rattle.qh_conduct.proofs.TakenOn.{TakenOn, IsWriting, call_view, closed_after, polled_taken, self_taken, taken_after, taken_on, written_closed, written_taken}
+use Rattle.qh_conduct.proofs.TurnedAside.{IsAside}
 use Rattle.qh_conduct.specs.Announced.{IsOver, MakesTags}
 use Rattle.qh_conduct.specs.Calls.{IsCall}
 use Rattle.qh_conduct.specs.Sized.{AreRight, AreTaken, HasReset, HasSized, IsClosedAt, MayWrite, Sized, WereRight, reset_frame, written_by}
@@ -92,19 +93,19 @@ module _ {S : Type 0} where
   Holds c t = Stands c t × WereRight c t
 
   -- a frame that was handed out before, of the same end
-  frame_before : (old new : Inner S) (before after : List (List ℕ)) (f : QuicFrame) → new.side ≡ old.side → new.remote_id ≡ old.remote_id → (h : HasFrame (length new.remote_id) after new.side f) → In h.datagram before
+  frame_before : (old new : Inner S) (before after : List (List ℕ)) (f : QuicFrame) → new.side ≡ old.side → length new.remote_id ≡ length old.remote_id → (h : HasFrame (length new.remote_id) after new.side f) → In h.datagram before
       → HasFrame (length old.remote_id) before old.side f
   frame_before old new before after f side remote h among = record {
     datagram = h.datagram;
     among = among;
     packet = h.packet;
-    has = subst (λ (id : List ℕ). HasPacket (length id) h.packet h.datagram) remote h.has;
+    has = subst (λ (id : ℕ). HasPacket id h.packet h.datagram) remote h.has;
     space_is = h.space_is;
     sender_is = h.sender_is ∙ side;
     frame_among = h.frame_among;
   }
 
-  reset_before : (old new : Inner S) (t u : List Act) (id code size : ℕ) → new.side ≡ old.side → new.remote_id ≡ old.remote_id → handed_out u ≡ handed_out t → HasReset new u id code size → HasReset old t id code size
+  reset_before : (old new : Inner S) (t u : List Act) (id code size : ℕ) → new.side ≡ old.side → length new.remote_id ≡ length old.remote_id → handed_out u ≡ handed_out t → HasReset new u id code size → HasReset old t id code size
   reset_before old new t u id code size side remote out h = frame_before old new (handed_out t) (handed_out u) (reset_frame id code size) side remote h (subst (λ (l : List (List ℕ)). In h.datagram l) out h.among)
 
   right : (c : Inner S) (t : List Act) → Stands c t → AreRight c t
@@ -115,7 +116,7 @@ module _ {S : Type 0} where
 
   record IsSizeStep (old new : Inner S) : Type 0 where
     side : new.side ≡ old.side
-    remote_id : new.remote_id ≡ old.remote_id
+    remote_length : length new.remote_id ≡ length old.remote_id
     streams : TakenOn old.space.streams new.space.streams
     over : IsOver old → IsOver new
 
@@ -124,22 +125,22 @@ module _ {S : Type 0} where
     taken = taken_restated new.space.streams t u same (taken_after old.space.streams new.space.streams t step.streams p.taken);
     resets = λ id code size h.
         closed_restated new.space.streams t u id size same
-        (closed_after old.space.streams new.space.streams t id size step.streams (p.resets id code size (reset_before old new t u id code size step.side step.remote_id out h)));
+        (closed_after old.space.streams new.space.streams t id size step.streams (p.resets id code size (reset_before old new t u id code size step.side step.remote_length out h)));
   })
-  stands_on old new t u step out same (inr over) = inr (step.over over.0, λ id code size h. over.1 id code size (reset_before old new t u id code size step.side step.remote_id out h) ∙ ap length (sym (same id)))
+  stands_on old new t u step out same (inr over) = inr (step.over over.0, λ id code size h. over.1 id code size (reset_before old new t u id code size step.side step.remote_length out h) ∙ ap length (sym (same id)))
 
   -- each that was handed out before was right then
-  were_on : (old new : Inner S) (t more : List Act) → new.side ≡ old.side → new.remote_id ≡ old.remote_id → handed_out more ≡ [] → WereRight old t → WereRight new (t ++ more)
+  were_on : (old new : Inner S) (t more : List Act) → new.side ≡ old.side → length new.remote_id ≡ length old.remote_id → handed_out more ≡ [] → WereRight old t → WereRight new (t ++ more)
   were_on old new t more side remote none p before after d id code size e h =
       let r = before_those t more before after d none e in
       p before r.0 d id code size r.1 (frame_before old new (d ∷ []) (d ∷ []) (reset_frame id code size) side remote h h.among)
 
   holds_on : (old new : Inner S) (t more : List Act) → IsSizeStep old new → handed_out more ≡ [] → ((k : ℕ) → written more k ≡ []) → Holds old t → Holds new (t ++ more)
   holds_on old new t more step out none p =
-      (stands_on old new t (t ++ more) step (same_out t more out) (same_written t more none) p.0, were_on old new t more step.side step.remote_id out p.1)
+      (stands_on old new t (t ++ more) step (same_out t more out) (same_written t more none) p.0, were_on old new t more step.side step.remote_length out p.1)
 
   quiet_step : (old new : Inner S) → IsQuietStep old new → TakenOn old.space.streams new.space.streams → IsSizeStep old new
-  quiet_step old new q go = record { side = q.side; remote_id = q.remote_id; streams = go; over = q.over }
+  quiet_step old new q go = record { side = q.side; remote_length = q.remote_length; streams = go; over = q.over }
 
   stays : (old new : Inner S) (t : List Act) → IsSizeStep old new → Holds old t → Holds new t
   stays old new t step p = subst (λ (u : List Act). Holds new u) (append-nil t) (holds_on old new t [] step refl (λ k. refl) p)
@@ -155,7 +156,7 @@ module _ {S : Type 0} where
   after_call old new t u call e wrote out (inr w) (inr over, were) = absurd (drained_open old.state over.0.1 w.up)
   after_call old new t u call e wrote out (inr w) (inl p, were) =
       let side = ap (λ (c : Inner S). c.side) e in
-      let remote = ap (λ (c : Inner S). c.remote_id) e in
+      let remote = ap (λ (c : Inner S). length c.remote_id) e in
       let all : (k : ℕ) → _ = λ k. wrote k ∙ w.bytes_are k in (
         inl (record {
           taken = written_taken old.space.streams new.space.streams t u w.id w.count w.bytes w.step w.rest all p.taken;
@@ -209,15 +210,20 @@ module _ {S : Type 0} where
   unfolding HasSized
   timed_sized now old new t is p = stays old new t (quiet_step old new (timed_step now old new is) (timed_on now old new is)) p
 
+  pub aside_sized : (old new : Inner S) (t : List Act) → IsAside old new → HasSized old t → HasSized new t
+  unfolding HasSized
+  aside_sized old new t a p =
+      stays old new t (quiet_step old new (aside_step old new a) (subst (λ (s : DataSpace). TakenOn old.space.streams s.streams) (sym a.space) (self_taken old.space.streams))) p
+
   -- ---- what comes
 
   side_behind : (now : Moment) (end : Option ConnectionError) (old new : Inner S) → GoesOnWith now end old new → new.side ≡ old.side
   side_behind now None old new e = ap (λ (c : Inner S). c.side) e
   side_behind now (Some e) old new on = ap (λ (c : Inner S). c.side) (ended_with now e old new on).rest_is
 
-  remote_behind : (now : Moment) (end : Option ConnectionError) (old new : Inner S) → GoesOnWith now end old new → new.remote_id ≡ old.remote_id
-  remote_behind now None old new e = ap (λ (c : Inner S). c.remote_id) e
-  remote_behind now (Some e) old new on = ap (λ (c : Inner S). c.remote_id) (ended_with now e old new on).rest_is
+  remote_behind : (now : Moment) (end : Option ConnectionError) (old new : Inner S) → GoesOnWith now end old new → length new.remote_id ≡ length old.remote_id
+  remote_behind now None old new e = ap (λ (c : Inner S). length c.remote_id) e
+  remote_behind now (Some e) old new on = ap (λ (c : Inner S). length c.remote_id) (ended_with now e old new on).rest_is
 
   packet_step : (now : Moment) (number : ℕ) (bytes : List ℕ) (old new : Inner S) → is_open old.state ≡ true → IsPacketTaken now number bytes old new → IsSizeStep old new
   packet_step now number bytes old new up a =
@@ -225,7 +231,7 @@ module _ {S : Type 0} where
       let same : a.mid.streams ≡ old.space.streams = ap (λ (s : DataSpace). s.streams) a.accepted.rest_is in
       record {
         side = side_behind now a.end behind new a.goes_on;
-        remote_id = remote_behind now a.end behind new a.goes_on;
+        remote_length = remote_behind now a.end behind new a.goes_on;
         streams = subst (λ (s : DataSpace). TakenOn old.space.streams s.streams) (sym (goes_on_space now a.end behind new a.goes_on))
             (subst (λ (s : PlainStreams). TakenOn s a.space.streams) same (frames_on now.0 bytes a.mid a.space a.taken a.end a.are_taken));
         over = λ over. absurd (drained_open old.state over.1 up);
@@ -245,7 +251,7 @@ module _ {S : Type 0} where
   closed_holds : (old new : Inner S) (t : List Act) (before after : State) → old.state ≡ before → (before ≡ Drained → ⊥) → new ≡ record old { state = after } → Holds old t → Holds new t
   closed_holds old new t before after is other e p = stays old new t (record {
     side = ap (λ (c : Inner S). c.side) e;
-    remote_id = ap (λ (c : Inner S). c.remote_id) e;
+    remote_length = ap (λ (c : Inner S). length c.remote_id) e;
     streams = same_streams old new _ e refl;
     over = λ over. absurd (other (sym is ∙ over.1));
   }) p
@@ -264,7 +270,7 @@ module _ {S : Type 0} where
 
   came_holds : (event : ConnectionEvent) (old : Inner S) (t : List Act) → Holds old t → Holds (received event old) (t ++ event_acts event)
   came_holds (Datagram now remote payload) old t p =
-      holds_on old (received (Datagram now remote payload) old) t (HandedIn payload ∷ []) (record { side = refl; remote_id = refl; streams = self_taken old.space.streams; over = λ is. is }) refl (λ k. refl) p
+      holds_on old (received (Datagram now remote payload) old) t (HandedIn payload ∷ []) (record { side = refl; remote_length = refl; streams = self_taken old.space.streams; over = λ is. is }) refl (λ k. refl) p
   came_holds (Close now code reason) old t p = subst (λ (u : List Act). Holds old u) (sym (append-nil t)) p
 
   pub came_sized : (event : ConnectionEvent) (old : Inner S) (t : List Act) → HasSized old t → HasSized (received event old) (t ++ event_acts event)
@@ -281,16 +287,16 @@ module _ {S : Type 0} where
   -- ---- what is handed out
 
   -- what a frame says that stands in the datagram with these frames
-  said_there : (old new : Inner S) (t : List Act) (frames tag : List ℕ) (among : List (List ℕ)) (id code size : ℕ) → new.remote_id ≡ old.remote_id → IsTag tag old.side Data old.space.next_number → AreSaid new.space.streams t frames
+  said_there : (old new : Inner S) (t : List Act) (frames tag : List ℕ) (among : List (List ℕ)) (id code size : ℕ) → length new.remote_id ≡ length old.remote_id → IsTag tag old.side Data old.space.next_number → AreSaid new.space.streams t frames
       → (h : HasFrame (length new.remote_id) among new.side (reset_frame id code size)) → header_bytes old.remote_id old.space.next_number ++ (frames ++ tag) ≡ h.datagram → IsClosedAt new.space.streams t id size
   said_there old new t frames tag among id code size remote tagged k h it =
       let has : HasPacket (length old.remote_id) h.packet (header_bytes old.remote_id old.space.next_number ++ (frames ++ tag)) = subst (λ (x : List ℕ). HasPacket (length old.remote_id) h.packet x) (sym it)
-      (subst (λ (r : List ℕ). HasPacket (length r) h.packet h.datagram) remote h.has) in
+      (subst (λ (r : ℕ). HasPacket r h.packet h.datagram) remote h.has) in
       let one = only_packet old.remote_id old.side old.space.next_number frames tag k.frames tagged k.are h.packet has in
       k.said (reset_frame id code size) (subst (λ (x : Packet). In (reset_frame id code size) x.frames) one h.frame_among) id code size refl
 
   -- one datagram more was handed out, whose frames are right
-  one_more : (old new : Inner S) (t : List Act) (frames tag : List ℕ) → new.side ≡ old.side → new.remote_id ≡ old.remote_id → TakenOn old.space.streams new.space.streams
+  one_more : (old new : Inner S) (t : List Act) (frames tag : List ℕ) → new.side ≡ old.side → length new.remote_id ≡ length old.remote_id → TakenOn old.space.streams new.space.streams
       → IsTag tag old.side Data old.space.next_number → AreSaid new.space.streams t frames → Sized old t × WereRight old t
       → Holds new (t ++ HandedOut (header_bytes old.remote_id old.space.next_number ++ (frames ++ tag)) ∷ [])
   one_more old new t frames tag side remote go tagged k (p, were) =
@@ -324,17 +330,17 @@ module _ {S : Type 0} where
       let go = made_on now.0 (overhead old) (1200 - overhead old) old.space new.space header (header ++ frames) m in
       let b = packet_said t now.0 (overhead old) (1200 - overhead old) old.space new.space header (header ++ frames) m p.taken in
       let same : b.bytes ≡ frames = sym (append_cancel_left header frames b.bytes b.appended) in
-      one_more old new t frames (sealed old.side Data old.space.next_number) (ap (λ (c : Inner S). c.side) e) (ap (λ (c : Inner S). c.remote_id) e) go (tags old.side old.space.next_number below)
+      one_more old new t frames (sealed old.side Data old.space.next_number) (ap (λ (c : Inner S). c.side) e) (ap (λ (c : Inner S). length c.remote_id) e) go (tags old.side old.space.next_number below)
       (subst (λ (z : List ℕ). AreSaid new.space.streams t z) same b.said) (p, were)
   frames_sized sealed tags now old new frames t (control_made up m e) below back (inr over, were) = absurd (drained_open old.state over.0.1 up)
   frames_sized sealed tags now old new frames t (control_made up m e) below back (inl p, were) =
-      let r = control_frames old.side frames m.control in
+      let r = control_frames old.side old.config.peer_datagram frames m.control in
       let k : AreSaid new.space.streams t frames = record {
         frames = r.frames;
         are = r.are;
-        said = of_each (λ (q : QuicFrame). (id code size : ℕ) → q ≡ reset_frame id code size → IsClosedAt new.space.streams t id size) old.side frames r (control_said new.space.streams t);
+        said = of_each (λ (q : QuicFrame). (id code size : ℕ) → q ≡ reset_frame id code size → IsClosedAt new.space.streams t id size) old.side old.config.peer_datagram frames r (control_said new.space.streams t);
       } in
-      one_more old new t frames (sealed old.side Data old.space.next_number) (ap (λ (c : Inner S). c.side) e) (ap (λ (c : Inner S). c.remote_id) e) (same_streams old new new refl (bare_streams now.0 (overhead old + length frames) old.space new.space m.sent))
+      one_more old new t frames (sealed old.side Data old.space.next_number) (ap (λ (c : Inner S). c.side) e) (ap (λ (c : Inner S). length c.remote_id) e) (same_streams old new new refl (bare_streams now.0 (overhead old + length frames) old.space new.space m.sent))
       (tags old.side old.space.next_number below) k (p, were)
   frames_sized sealed tags now old new frames t (close_made reason until is bytes_are e) below back (inr over, were) = let same : Closed reason true until ≡ Drained = sym is ∙ over.0.1 in absurd (cc)
   frames_sized sealed tags now old new frames t (close_made reason until is bytes_are e) below back (inl p, were) =
@@ -345,7 +351,7 @@ module _ {S : Type 0} where
         are = ([], one, refl);
         said = λ f among. elim among [ inl same ↦ subst (λ (g : QuicFrame). (id code size : ℕ) → g ≡ reset_frame id code size → IsClosedAt new.space.streams t id size) same (close_said new.space.streams t reason) | inr none ↦ absurd none ];
       } in
-      one_more old new t frames (sealed old.side Data old.space.next_number) (ap (λ (c : Inner S). c.side) e) (ap (λ (c : Inner S). c.remote_id) e) (same_streams old new _ e refl) (tags old.side old.space.next_number below) k (p, were)
+      one_more old new t frames (sealed old.side Data old.space.next_number) (ap (λ (c : Inner S). c.side) e) (ap (λ (c : Inner S). length c.remote_id) e) (same_streams old new _ e refl) (tags old.side old.space.next_number below) k (p, were)
 
   pub made_sized : (sealed : Side → Space → ℕ → List ℕ) → MakesTags sealed → (now : Moment) (old new : Inner S) (before after : List ℕ) (transmit : Transmit) (t : List Act)
       → IsDatagramMade sealed now old new before after transmit → (is_open old.state ≡ true) ⊎ ClosesReadBack old.state → HasSized old t → HasSized new (t ++ transmit_acts before after (Ok (Some transmit)))
@@ -369,7 +375,7 @@ module _ {S : Type 0} where
   failed_sized old new t failed p =
       let e = failed.rest_is in
       let side = ap (λ (c : Inner S). c.side) e in
-      let remote = ap (λ (c : Inner S). c.remote_id) e in (
+      let remote = ap (λ (c : Inner S). length c.remote_id) e in (
         inr ((ap (λ (c : Inner S). c.error) e, ap (λ (c : Inner S). c.state) e), λ id code size h. right old t p.0 id code size (reset_before old new t t id code size side remote refl h)),
         subst (λ (u : List Act). WereRight new u) (append-nil t) (were_on old new t [] side remote refl p.1),
       )

@@ -20,7 +20,7 @@ use Rattle.qh_core.specs.Timers.AreLostByAge.{due as age_due, not_yet as age_not
 use Rattle.qh_core.specs.Timers.IsProbed.{due as probe_due, not_yet as probe_not_yet}
 use Rattle.qh_core.specs.Sending.{close_frame}
 use Rattle.qh_core.specs.declared.control.ControlFrame.{ControlFrame}
-use Rattle.qh_core.specs.declared.control.ControlFrame.TheVariants.{NewToken, NewConnectionId, RetireConnectionId}
+use Rattle.qh_core.specs.declared.control.ControlFrame.TheVariants.{NewToken, NewConnectionId, RetireConnectionId, Datagram}
 use Rattle.qh_core.specs.declared.state.Close.{Close}
 use Rattle.qh_frame.proofs.FramesWritten.{ping_put}
 use Rattle.qh_frame.specs.AckWritten.{ack_frame}
@@ -157,6 +157,7 @@ module _ (s : PlainStreams) (t : List Act) where
   control_said (NewToken token) = other_frame 7 (Text token ∷ []) (λ same. omega (arith, same))
   control_said (NewConnectionId sequence prior id reset_token) = other_frame 24 (Num sequence ∷ Num prior ∷ Text id ∷ Text reset_token.0 ∷ []) (λ same. omega (arith, same))
   control_said (RetireConnectionId sequence) = other_frame 25 (Num sequence ∷ []) (λ same. omega (arith, same))
+  control_said (Datagram payload) = other_frame 49 (Text payload ∷ []) (λ same. omega (arith, same))
 
   none_said : AreSaid []
   none_said = record { frames = []; are = refl; said = λ f among. absurd among }

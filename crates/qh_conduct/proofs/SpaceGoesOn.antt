@@ -22,17 +22,23 @@ use Rattle.qh_space.specs.declared.data_space.DataSpace.{DataSpace}
 use Rattle.qh_streams.specs.Streams.{PlainStreams, IsHandedOver, IsLostFrame}
 use Rattle.qh_streams.specs.declared.frames.SentFrame.{SentFrame}
 
--- the streams go on so, the next number stays, and so do the numbers that are to be acknowledged
+-- the streams go on so, the next number stays, and so do the numbers that are to be acknowledged, and which DATAGRAM frames are taken
 pub record SpaceGoes (old new : DataSpace) : Type 0 where
   pub streams : GoOn old.streams new.streams
   pub next : new.next_number ≡ old.next_number
   pub acks : new.acks ≡ old.acks
+  pub receives : new.datagram_receive ≡ old.datagram_receive
 
 pub space_same : (s : DataSpace) → SpaceGoes s s
-space_same s = record { streams = same_go s.streams; next = refl; acks = refl }
+space_same s = record { streams = same_go s.streams; next = refl; acks = refl; receives = refl }
 
 pub space_on : (first old new : DataSpace) → SpaceGoes first old → SpaceGoes old new → SpaceGoes first new
-space_on first old new before after = record { streams = go_on first.streams old.streams new.streams after.streams before.streams; next = after.next ∙ before.next; acks = after.acks ∙ before.acks }
+space_on first old new before after = record {
+  streams = go_on first.streams old.streams new.streams after.streams before.streams;
+  next = after.next ∙ before.next;
+  acks = after.acks ∙ before.acks;
+  receives = after.receives ∙ before.receives;
+}
 
 lost_on : (first old new : PlainStreams) (f : SentFrame) → IsLostFrame old new f → GoOn first old → GoOn first new
 lost_on first old new f lost p = go_on first old new (lost_goes old new f lost) p
@@ -46,20 +52,32 @@ frame_streams : (now : ℕ) (old new : DataSpace) (f : Frame) (end : Option Conn
 frame_streams now old new f end free taken = by_frame (λ s. GoOn old.streams s) (lost_on old.streams) (λ was s g a p. go_on old.streams was s (acked_goes was s g a) p) now old new f end
     (λ c of r. received_go old.streams new.streams c (sym (of.refusal old) ∙ free) r) (λ none. same_go old.streams) taken
 
-lost_next : (largest now : ℕ) (old new : DataSpace) → IsLossTaken largest now old new → (new.next_number ≡ old.next_number) × (new.acks ≡ old.acks)
-lost_next largest now old new l = (ap (λ (s : DataSpace). s.next_number) l.rest_is, ap (λ (s : DataSpace). s.acks) l.rest_is)
+-- all but the streams
+record IsRestSame (old new : DataSpace) : Type 0 where
+  next : new.next_number ≡ old.next_number
+  acks : new.acks ≡ old.acks
+  receives : new.datagram_receive ≡ old.datagram_receive
 
-frame_rest : (now : ℕ) (old new : DataSpace) (f : Frame) (end : Option ConnectionError) → IsFrameTaken now old new f end → (new.next_number ≡ old.next_number) × (new.acks ≡ old.acks)
-frame_rest now old new f end (passive _ idle e) = (ap (λ (s : DataSpace). s.next_number) e, ap (λ (s : DataSpace). s.acks) e)
-frame_rest now old new f end (of_streams _ c is r e) = (ap (λ (s : DataSpace). s.next_number) e, ap (λ (s : DataSpace). s.acks) e)
+-- the space is this one now, which has the same
+rest_of : (old new s : DataSpace) → new ≡ s → IsRestSame old s → IsRestSame old new
+rest_of old new s e same = subst (λ (z : DataSpace). IsRestSame old z) (sym e) same
+
+rest_on : (first old new : DataSpace) → IsRestSame first old → IsRestSame old new → IsRestSame first new
+rest_on first old new before after = record { next = after.next ∙ before.next; acks = after.acks ∙ before.acks; receives = after.receives ∙ before.receives }
+
+lost_next : (largest now : ℕ) (old new : DataSpace) → IsLossTaken largest now old new → IsRestSame old new
+lost_next largest now old new l = rest_of old new _ l.rest_is (record { next = refl; acks = refl; receives = refl })
+
+frame_rest : (now : ℕ) (old new : DataSpace) (f : Frame) (end : Option ConnectionError) → IsFrameTaken now old new f end → IsRestSame old new
+frame_rest now old new f end (passive _ idle e) = rest_of old new _ e (record { next = refl; acks = refl; receives = refl })
+frame_rest now old new f end (of_streams _ c is r e) = rest_of old new _ e (record { next = refl; acks = refl; receives = refl })
 frame_rest now old new f end (of_ack a r) =
-    let after = lost_next _ now r.mid new r.lost in
-    (after.0 ∙ ap (λ (s : DataSpace). s.next_number) r.mid_is, after.1 ∙ ap (λ (s : DataSpace). s.acks) r.mid_is)
-frame_rest now old new f end (challenge bytes e) = (ap (λ (s : DataSpace). s.next_number) e, ap (λ (s : DataSpace). s.acks) e)
-frame_rest now old new f end (close _ error is e) = (ap (λ (s : DataSpace). s.next_number) e, ap (λ (s : DataSpace). s.acks) e)
+    rest_on old r.mid new (rest_of old r.mid _ r.mid_is (record { next = refl; acks = refl; receives = refl })) (lost_next _ now r.mid new r.lost)
+frame_rest now old new f end (challenge bytes e) = rest_of old new _ e (record { next = refl; acks = refl; receives = refl })
+frame_rest now old new f end (close _ error is e) = rest_of old new _ e (record { next = refl; acks = refl; receives = refl })
 
 frame_goes : (now : ℕ) (old new : DataSpace) (f : Frame) (end : Option ConnectionError) → frame_refusal old f ≡ None → IsFrameTaken now old new f end → SpaceGoes old new
-frame_goes now old new f end free taken = let rest = frame_rest now old new f end taken in record { streams = frame_streams now old new f end free taken; next = rest.0; acks = rest.1 }
+frame_goes now old new f end free taken = let rest = frame_rest now old new f end taken in record { streams = frame_streams now old new f end free taken; next = rest.next; acks = rest.acks; receives = rest.receives }
 
 pub frames_go : (now : ℕ) (bytes : List ℕ) (old new : DataSpace) (taken : List Frame) (end : Option ConnectionError) → AreFramesTaken now bytes old new taken end → SpaceGoes old new
 frames_go now bytes old new taken end (none_taken _) = space_same old
@@ -72,24 +90,25 @@ frames_go now bytes old new taken end (refused_at _ rest f _ e b n r) = space_sa
 lost_go : (largest now : ℕ) (old new : DataSpace) → IsLossTaken largest now old new → SpaceGoes old new
 lost_go largest now old new l =
     let rest = lost_next largest now old new l in
-    record { streams = by_loss (λ s. GoOn old.streams s) (lost_on old.streams) largest now old new l (same_go old.streams); next = rest.0; acks = rest.1 }
+    record { streams = by_loss (λ s. GoOn old.streams s) (lost_on old.streams) largest now old new l (same_go old.streams); next = rest.next; acks = rest.acks; receives = rest.receives }
 
 pub aged_go : (now : ℕ) (old new : DataSpace) → AreLostByAge now old new → SpaceGoes old new
 aged_go now old new (age_due moment largest is by_now acked lost) = lost_go largest now old new lost
 aged_go now old new (age_not_yet later e) = subst (λ (s : DataSpace). SpaceGoes old s) (sym e) (space_same old)
 
-pings_rest : (p : Probe) (s : DataSpace) → ((pings_after p s).next_number ≡ s.next_number) × ((pings_after p s).acks ≡ s.acks)
-pings_rest probe.Stream s = (refl, refl)
-pings_rest probe.Others s = (refl, refl)
-pings_rest probe.Ping s = (refl, refl)
+pings_rest : (p : Probe) (s : DataSpace) → IsRestSame s (pings_after p s)
+pings_rest probe.Stream s = record { next = refl; acks = refl; receives = refl }
+pings_rest probe.Others s = record { next = refl; acks = refl; receives = refl }
+pings_rest probe.Ping s = record { next = refl; acks = refl; receives = refl }
 
 pub probed_go : (now : ℕ) (old new : DataSpace) → IsProbed now old new → SpaceGoes old new
 probed_go now old new (probe_due moment is by_now due) =
     let rest = pings_rest due.probe (record old { streams = new.streams; is_probe_due = true }) in
     record {
       streams = by_probe (λ s. GoOn old.streams s) (lost_on old.streams) old new due (same_go old.streams);
-      next = ap (λ (s : DataSpace). s.next_number) due.rest_is ∙ rest.0;
-      acks = ap (λ (s : DataSpace). s.acks) due.rest_is ∙ rest.1;
+      next = ap (λ (s : DataSpace). s.next_number) due.rest_is ∙ rest.next;
+      acks = ap (λ (s : DataSpace). s.acks) due.rest_is ∙ rest.acks;
+      receives = ap (λ (s : DataSpace). s.datagram_receive) due.rest_is ∙ rest.receives;
     }
 probed_go now old new (probe_not_yet later e) = subst (λ (s : DataSpace). SpaceGoes old s) (sym e) (space_same old)
 
@@ -102,6 +121,20 @@ made_go now around room old new before after made =
 sent_next : (s : DataSpace) (packet : SentPacket SentFrame) (is_eliciting : Bool) → (with_sent s packet is_eliciting).next_number ≡ s.next_number + 1
 sent_next s packet true = refl
 sent_next s packet false = refl
+
+sent_receives : (s : DataSpace) (packet : SentPacket SentFrame) (is_eliciting : Bool) → (with_sent s packet is_eliciting).datagram_receive ≡ s.datagram_receive
+sent_receives s packet true = refl
+sent_receives s packet false = refl
+
+put_receives : (may : Bool) (room : ℕ) (old new : DataSpace) (before after : List ℕ) (frames : List SentFrame) → MatchBool may (AreElicitingPut room old new before after frames) ((new ≡ old) × (after ≡ before))
+    → new.datagram_receive ≡ old.datagram_receive
+put_receives true room old new before after frames put = ap (λ (s : DataSpace). s.datagram_receive) put.rest_is
+put_receives false room old new before after frames none = ap (λ (s : DataSpace). s.datagram_receive) none.0
+
+pub made_receives : (now around room : ℕ) (old new : DataSpace) (before after : List ℕ) → IsPacketMade now around room old new before after → new.datagram_receive ≡ old.datagram_receive
+made_receives now around room old new before after made =
+    ap (λ (s : DataSpace). s.datagram_receive) made.new_is ∙ sent_receives made.mid made.packet (nat_lt (length made.out_mid) (length after))
+    ∙ put_receives (may_elicit old) (room - (length made.out_mid - length before)) old made.mid made.out_mid after made.packet.frames.items made.eliciting
 
 put_next : (may : Bool) (room : ℕ) (old new : DataSpace) (before after : List ℕ) (frames : List SentFrame) → MatchBool may (AreElicitingPut room old new before after frames) ((new ≡ old) × (after ≡ before))
     → new.next_number ≡ old.next_number
@@ -122,6 +155,9 @@ bare_streams now size old new bare = ap (λ (s : DataSpace). s.streams) bare.new
 
 pub bare_go : (now size : ℕ) (old new : DataSpace) → IsSentBare now size old new → GoOn old.streams new.streams
 bare_go now size old new bare = subst (λ (s : PlainStreams). GoOn old.streams s) (sym (bare_streams now size old new bare)) (same_go old.streams)
+
+pub bare_receives : (now size : ℕ) (old new : DataSpace) → IsSentBare now size old new → new.datagram_receive ≡ old.datagram_receive
+bare_receives now size old new bare = ap (λ (s : DataSpace). s.datagram_receive) bare.new_is
 
 pub bare_rest : (now size : ℕ) (old new : DataSpace) → IsSentBare now size old new → (new.next_number ≡ old.next_number + 1) × (new.acks.ranges ≡ old.acks.ranges)
 bare_rest now size old new bare = (ap (λ (s : DataSpace). s.next_number) bare.new_is, ap (λ (s : DataSpace). s.acks.ranges) bare.new_is)

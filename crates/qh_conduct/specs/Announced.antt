@@ -86,7 +86,7 @@ module _ {S : Type 0} where
     max_data : (limit : ℕ) → f ≡ frame frame_types.max_data (Num limit ∷ []) → limit ≤ c.space.streams.recv.announced.value → IsKeptFrame c came f
     max_stream_data : (id limit : ℕ) → f ≡ frame frame_types.max_stream_data (Num id ∷ Num limit ∷ []) → IsReading c.space.streams id → IsLimited c.space.streams id limit → IsKeptFrame c came f
     max_streams : (dir : Dir) (count : ℕ) → f ≡ frame (by_dir dir frame_types.max_streams_bidi frame_types.max_streams_uni) (Num count ∷ []) → count ≤ (counts_of c.space.streams (is_two_way dir)).announced.value → IsKeptFrame c came f
-    control : (g : ControlFrame) → f ≡ control_frame g → MaySend c.side g → IsKeptFrame c came f
+    control : (g : ControlFrame) → f ≡ control_frame g → MaySend c.side c.config.peer_datagram g → IsKeptFrame c came f
     close : (reason : Close) → f ≡ close_frame reason → is_open c.state ≡ false → IsKeptFrame c came f
 
   -- ---- datagrams

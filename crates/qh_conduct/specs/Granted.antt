@@ -1,4 +1,5 @@
--- What an end announced is no less than its first limits, on which its peer counts from the start (RFC 9000, sections 4 and 18.2).
+-- What an end announced is no less than its first limits, on which its peer counts from the start (RFC 9000, sections 4 and 18.2), and it
+-- takes the DATAGRAM frames that it is configured to take.
 use Rattle.std.specs.Prelude.{◌≡◌, ◌⊎◌, ℕ, ◌≤◌, ◌^◌, min, Bool, Some, if◌then◌else◌}
 use Rattle.qh_conduct.specs.Announced.{IsOver}
 use Rattle.qh_core.specs.Config.{bounded, peer_of}
@@ -26,6 +27,10 @@ module _ {S : Type 0} where
   abbrev pub AreGranted : Inner S → Type 0
   AreGranted c = AreGrantedBy c.config.limits c.space.streams
 
+  -- the DATAGRAM frames that are taken are those that the connection is configured to take (RFC 9221, section 3)
+  abbrev pub TakesDatagrams : Inner S → Type 0
+  TakesDatagrams c = c.space.datagram_receive ≡ c.config.datagram_receive
+
 -- so it is, unless want of memory ended the connection
 unfoldable pub HasGranted : {S : Type 0} → Inner S → Type 0
-HasGranted c = IsOver c ⊎ AreGranted c
+HasGranted c = IsOver c ⊎ (AreGranted c × TakesDatagrams c)

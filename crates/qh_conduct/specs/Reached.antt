@@ -3,8 +3,8 @@
 use Rattle.std.specs.Prelude.{◌≡◌, ◌⊎◌, ℕ, ◌+◌, ◌<◌, ◌≤◌, ◌==◌, ◌^◌, Bool, true, false, List, [], ◌∷◌, length, Some, if◌then◌else◌}
 use Rattle.qh_base.specs.declared.connection_error.ConnectionError.TheVariants.{Memory}
 use Rattle.qh_core.specs.Follows.{HasComing}
-use Rattle.qh_core.specs.Inner.{is_open}
 use Rattle.qh_core.specs.declared.inner.Inner.{Inner}
+use Rattle.qh_core.specs.declared.state.State.TheVariants.{Drained}
 use Rattle.qh_half.specs.Recv.{PlainRecv, final_size}
 use Rattle.qh_halves.specs.Counts.{is_bi, is_own, index_of}
 use Rattle.qh_halves.specs.RecvHalves.{recv_at}
@@ -119,9 +119,9 @@ module _ {S : Type 0} where
     pub came : (f : StreamFrame) → In f frames → CameIn (length c.local_id) (handed_in t) (other c.side) f
     pub are : AreReached c.side c.space.streams frames
 
-  -- want of memory ended the connection
+  -- want of memory ended the connection: it is drained
   abbrev pub IsLostForMemory : Inner S → Type 0
-  IsLostForMemory c = (is_open c.state ≡ false) × (c.error ≡ Some Memory)
+  IsLostForMemory c = (c.state ≡ Drained) × (c.error ≡ Some Memory)
 
 -- what the connection knows of its streams came by what was done so far, unless want of memory ended it
 unfoldable pub HasReached : {S : Type 0} → Inner S → List Act → Type 0

@@ -13,7 +13,7 @@ ghost use Rattle.qh_conduct.specs.Sized.{MayWrite, written_by};
 ghost use Rattle.qh_core.specs.Event.{IsDrainedTold, IsPolledEvent};
 ghost use Rattle.qh_core.specs.Follows.{Follows, event_acts, take_acts, transmit_acts};
 ghost use Rattle.qh_core.specs.Inner.{IsFailedBy, IsNewSpace, IsSameEnd, is_open, with_streams};
-ghost use Rattle.qh_core.specs.Made.{AcceptsTags, MakesTagsOf, AreMade};
+ghost use Rattle.qh_core.specs.Made.{AcceptsTags, MakesTagsOf, AreMade, IsTurned};
 ghost use Rattle.qh_core.specs.Receiving.{IsClosedWith, IsEventTaken, received};
 ghost use Rattle.qh_core.specs.Sending.{ClosesReadBack, IsDatagramMade, NothingIsSent};
 ghost use Rattle.qh_core.specs.Streams.{IsReadFault, IsWriteRefused, IsRead};
@@ -58,6 +58,7 @@ pub fn behaves<S>()
     ensures timeout { (now : ℕ) (old new : AnInner S) (t : List Act) → IsTimedOut now old new → IsSameEnd old new → Follows new t → Behaves old t → Behaves new t }
     ensures polled { (old new : AnInner S) (told : Option ATold) (t : List Act) → IsPolledEvent old new told → IsSameEnd old new → Follows new t → Behaves old t → Behaves new t }
     ensures drained { (old new : AnInner S) (told : Option AnEndpointEvent) (t : List Act) → IsDrainedTold old new told → IsSameEnd old new → Follows new t → Behaves old t → Behaves new t }
+    ensures turned { (old new : AnInner S) (t : List Act) → IsTurned old new → Follows new t → Behaves old t → Behaves new t }
     ensures called { (old new : AnInner S) (t u : List Act) → (call : IsCall old.space.streams new.space.streams) → MayWrite (is_open old.state) call → new ≡ with_streams old new.space.streams
         → ((stream : ℕ) → written u stream ≡ written_by call stream) → handed_in u ≡ [] → handed_out u ≡ [] → Follows new (t ++ u) → Behaves old t → Behaves new (t ++ u) }
     ensures opened { (dir : ADir) (id : ℕ) (old new : AnInner S) (t : List Act) → id ≡ stream_id old.space.streams.side dir (counts_of old.space.streams (is_two_way dir)).opened

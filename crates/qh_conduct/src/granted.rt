@@ -3,7 +3,7 @@ ghost use Rattle.qh_base.specs.declared.connection_error.ConnectionError.TheVari
 ghost use Rattle.qh_base.specs.declared.path.Transmit.{Transmit as ATransmit};
 ghost use Rattle.qh_base.specs.declared.time.Moment.{Moment as AMoment};
 ghost use Rattle.qh_conduct.specs.Calls.{IsCall};
-ghost use Rattle.qh_conduct.specs.Granted.{AreGranted, HasGranted};
+ghost use Rattle.qh_conduct.specs.Granted.{AreGranted, HasGranted, TakesDatagrams};
 ghost use Rattle.qh_core.specs.Config.{bounded, peer_of};
 ghost use Rattle.qh_core.specs.Event.{IsDrainedTold, IsPolledEvent};
 ghost use Rattle.qh_core.specs.Inner.{IsFailedBy, IsNewSpace, with_streams};
@@ -20,8 +20,8 @@ ghost use Rattle.qh_spec.specs.declared.sides.Space.{Space as ASpace};
 ghost use Rattle.qh_streams.specs.Streams.{PlainStreams, first_limit, recv_or_new};
 ghost use Rattle.qh_streams.specs.declared.frames.StreamLimits.{StreamLimits as Limits};
 
-/// What a connection announced is no less than the first limits of its config, on which its peer counts from the start, unless want
-/// of memory ended it. Each call carries it on, as its contract says what it does.
+/// What a connection announced is no less than the first limits of its config, on which its peer counts from the start, and it takes the
+/// DATAGRAM frames of its config, unless want of memory ended it. Each call carries it on, as its contract says what it does.
 pub fn grants<S>()
     ensures fresh { (c : AnInner S) → IsNewSpace c.config c.side c.space → HasGranted c }
     ensures event { (accepts : ASide → ASpace → ℕ → List ℕ → Bool) (event : AnEvent) (old new : AnInner S) → IsEventTaken accepts event old new → HasGranted old → HasGranted new }
@@ -34,6 +34,7 @@ pub fn grants<S>()
     ensures polled { (old new : AnInner S) (told : Option ATold) → IsPolledEvent old new told → HasGranted old → HasGranted new }
     ensures drained { (old new : AnInner S) (told : Option AnEndpointEvent) → IsDrainedTold old new told → HasGranted old → HasGranted new }
     ensures means { (c : AnInner S) → HasGranted c → (c.error ≡ Some Memory → ⊥) → AreGranted c }
+    ensures takes { (c : AnInner S) → HasGranted c → (c.error ≡ Some Memory → ⊥) → TakesDatagrams c }
     ensures half { (c : AnInner S) (id : ℕ) (half : PlainRecv) → AreGranted c → recv_or_new c.space.streams id ≡ Some half → bounded c.config.limits.stream_window ≤ half.sent_max_stream_data }
     ensures first { (limits : Limits) (peers : PlainStreams) (id : ℕ) → peers.peer ≡ peer_of limits → first_limit peers id ≡ bounded limits.stream_window }
 {}

@@ -9,7 +9,7 @@ use Rattle.qh_core.specs.Inner.{is_open}
 use Rattle.qh_core.specs.Receiving.{is_close}
 use Rattle.qh_core.specs.Sending.{ClosesReadBack}
 use Rattle.qh_core.specs.declared.control.ControlFrame.{ControlFrame}
-use Rattle.qh_core.specs.declared.control.ControlFrame.TheVariants.{NewToken, NewConnectionId, RetireConnectionId}
+use Rattle.qh_core.specs.declared.control.ControlFrame.TheVariants.{NewToken, NewConnectionId, RetireConnectionId, Datagram}
 use Rattle.qh_core.specs.declared.state.State.{State}
 use Rattle.qh_packet.specs.Frames.{is_ack_eliciting}
 use Rattle.qh_space.specs.Sending.{IsSentBare}
@@ -29,87 +29,93 @@ pub control_silent : (g : ControlFrame) → stream_of (control_frame g) ≡ None
 control_silent (NewToken token) = refl
 control_silent (NewConnectionId sequence prior id reset_token) = refl
 control_silent (RetireConnectionId sequence) = refl
+control_silent (Datagram payload) = refl
 
 pub control_resets_nothing : (g : ControlFrame) → has_reset_type (control_frame g) ≡ false
 control_resets_nothing (NewToken token) = refl
 control_resets_nothing (NewConnectionId sequence prior id reset_token) = refl
 control_resets_nothing (RetireConnectionId sequence) = refl
+control_resets_nothing (Datagram payload) = refl
 
 pub control_asks : (g : ControlFrame) → is_ack_eliciting (control_frame g) ≡ true
 control_asks (NewToken token) = refl
 control_asks (NewConnectionId sequence prior id reset_token) = refl
 control_asks (RetireConnectionId sequence) = refl
+control_asks (Datagram payload) = refl
 
 pub control_closes_nothing : (g : ControlFrame) → is_close (control_frame g) ≡ false
 control_closes_nothing (NewToken token) = refl
 control_closes_nothing (NewConnectionId sequence prior id reset_token) = refl
 control_closes_nothing (RetireConnectionId sequence) = refl
+control_closes_nothing (Datagram payload) = refl
 
-pub control_kind : (g : ControlFrame) → ((control_frame g).kind ≡ 7) ⊎ (((control_frame g).kind ≡ 24) ⊎ ((control_frame g).kind ≡ 25))
+pub control_kind : (g : ControlFrame) → ((control_frame g).kind ≡ 7) ⊎ (((control_frame g).kind ≡ 24) ⊎ (((control_frame g).kind ≡ 25) ⊎ ((control_frame g).kind ≡ 49)))
 control_kind (NewToken token) = inl refl
 control_kind (NewConnectionId sequence prior id reset_token) = inr (inl refl)
-control_kind (RetireConnectionId sequence) = inr (inr refl)
+control_kind (RetireConnectionId sequence) = inr (inr (inl refl))
+control_kind (Datagram payload) = inr (inr (inr refl))
 
 pub control_covers_nothing : (g : ControlFrame) (n : ℕ) → Covers (control_frame g) n → ⊥
 control_covers_nothing (NewToken token) n c = let kind = c.0 in omega (arith, kind)
 control_covers_nothing (NewConnectionId sequence prior id reset_token) n c = let kind = c.0 in omega (arith, kind)
 control_covers_nothing (RetireConnectionId sequence) n c = let kind = c.0 in omega (arith, kind)
+control_covers_nothing (Datagram payload) n c = let kind = c.0 in omega (arith, kind)
 
 -- ---- the frames of a packet
 
 -- the bytes are such frames of this side's, at least one
-pub record AreControlFrames (side : Side) (bytes : List ℕ) : Type 0 where
+pub record AreControlFrames (side : Side) (most : Option ℕ) (bytes : List ℕ) : Type 0 where
   pub frames : List QuicFrame
   pub are : AreQuicFrames bytes frames
   pub some : frames ≡ [] → ⊥
-  pub all : (q : QuicFrame) → In q frames → (g : ControlFrame) × (q ≡ control_frame g) × MaySend side g
+  pub all : (q : QuicFrame) → In q frames → (g : ControlFrame) × (q ≡ control_frame g) × MaySend side most g
 
 written_are : (fs : List ControlFrame) → AllByRecursion (λ (f : ControlFrame). IsReadBack (control_frame f)) fs → AreQuicFrames (control_bytes fs) (map control_frame fs)
 written_are [] back = refl
 written_are (f ∷ fs) back = (control_bytes fs, back.0 (control_bytes fs), written_are fs back.1)
 
-each_sendable : (side : Side) (fs : List ControlFrame) → AllByRecursion (MaySend side) fs → (q : QuicFrame) → In q (map control_frame fs) → (g : ControlFrame) × (q ≡ control_frame g) × MaySend side g
-each_sendable side [] may q is = absurd is
-each_sendable side (f ∷ fs) may q (inl same) = (f, sym same, may.0)
-each_sendable side (f ∷ fs) may q (inr later) = each_sendable side fs may.1 q later
+each_sendable : (side : Side) (most : Option ℕ) (fs : List ControlFrame) → AllByRecursion (MaySend side most) fs → (q : QuicFrame) → In q (map control_frame fs) → (g : ControlFrame) × (q ≡ control_frame g) × MaySend side most g
+each_sendable side most [] may q is = absurd is
+each_sendable side most (f ∷ fs) may q (inl same) = (f, sym same, may.0)
+each_sendable side most (f ∷ fs) may q (inr later) = each_sendable side most fs may.1 q later
 
 some_mapped : (fs : List ControlFrame) → (fs ≡ [] → ⊥) → map control_frame fs ≡ [] → ⊥
 some_mapped [] some e = some refl
 some_mapped (f ∷ fs) some e = absurd (cc)
 
-pub control_frames : (side : Side) (bytes : List ℕ) → AreControl side bytes → AreControlFrames side bytes
-control_frames side bytes c = record {
+pub control_frames : (side : Side) (most : Option ℕ) (bytes : List ℕ) → AreControl side most bytes → AreControlFrames side most bytes
+control_frames side most bytes c = record {
   frames = map control_frame c.frames;
   are = subst (λ (z : List ℕ). AreQuicFrames z (map control_frame c.frames)) (sym c.bytes_are) (written_are c.frames c.read_back);
   some = some_mapped c.frames c.some;
-  all = each_sendable side c.frames c.sendable;
+  all = each_sendable side most c.frames c.sendable;
 }
 
 -- what holds of each such frame
-pub of_each : (P : QuicFrame → Type 0) (side : Side) (bytes : List ℕ) (c : AreControlFrames side bytes) → ((g : ControlFrame) → P (control_frame g)) → (q : QuicFrame) → In q c.frames → P q
-of_each P side bytes c each q is = let g = c.all q is in subst P (sym g.1) (each g.0)
+pub of_each : (P : QuicFrame → Type 0) (side : Side) (most : Option ℕ) (bytes : List ℕ) (c : AreControlFrames side most bytes) → ((g : ControlFrame) → P (control_frame g)) → (q : QuicFrame) → In q c.frames → P q
+of_each P side most bytes c each q is = let g = c.all q is in subst P (sym g.1) (each g.0)
 
 pub silent_runs : (fs : List QuicFrame) → ((q : QuicFrame) → In q fs → stream_of q ≡ None) → runs_of fs ≡ []
 silent_runs [] silent = refl
 silent_runs (f ∷ fs) silent = ap (λ (o : Option Run). some_run o ++ runs_of fs) (silent f (inl refl)) ∙ silent_runs fs (λ q is. silent q (inr is))
 
-pub control_runs : (side : Side) (bytes : List ℕ) (c : AreControlFrames side bytes) → runs_of c.frames ≡ []
-control_runs side bytes c = silent_runs c.frames (of_each (λ (q : QuicFrame). stream_of q ≡ None) side bytes c control_silent)
+pub control_runs : (side : Side) (most : Option ℕ) (bytes : List ℕ) (c : AreControlFrames side most bytes) → runs_of c.frames ≡ []
+control_runs side most bytes c = silent_runs c.frames (of_each (λ (q : QuicFrame). stream_of q ≡ None) side most bytes c control_silent)
 
 asked_by_first : (fs : List QuicFrame) → (fs ≡ [] → ⊥) → ((q : QuicFrame) → In q fs → is_ack_eliciting q ≡ true) → list_any is_ack_eliciting fs ≡ true
 asked_by_first [] some asks = absurd (some refl)
 asked_by_first (f ∷ fs) some asks = ap (λ (x : Bool). x || list_any is_ack_eliciting fs) (asks f (inl refl))
 
 -- an acknowledgement is asked for
-pub control_wants : (side : Side) (bytes : List ℕ) (c : AreControlFrames side bytes) → list_any is_ack_eliciting c.frames ≡ true
-control_wants side bytes c = asked_by_first c.frames c.some (of_each (λ (q : QuicFrame). is_ack_eliciting q ≡ true) side bytes c control_asks)
+pub control_wants : (side : Side) (most : Option ℕ) (bytes : List ℕ) (c : AreControlFrames side most bytes) → list_any is_ack_eliciting c.frames ≡ true
+control_wants side most bytes c = asked_by_first c.frames c.some (of_each (λ (q : QuicFrame). is_ack_eliciting q ≡ true) side most bytes c control_asks)
 
 none_closes : (fs : List QuicFrame) → ((q : QuicFrame) → In q fs → is_close q ≡ false) → list_any is_close fs ≡ false
 none_closes [] each = refl
 none_closes (f ∷ fs) each = ap (λ (x : Bool). x || list_any is_close fs) (each f (inl refl)) ∙ none_closes fs (λ q is. each q (inr is))
 
-pub control_never_closes : (side : Side) (bytes : List ℕ) (c : AreControlFrames side bytes) → list_any is_close c.frames ≡ false
-control_never_closes side bytes c = none_closes c.frames (of_each (λ (q : QuicFrame). is_close q ≡ false) side bytes c control_closes_nothing)
+pub control_never_closes : (side : Side) (most : Option ℕ) (bytes : List ℕ) (c : AreControlFrames side most bytes) → list_any is_close c.frames ≡ false
+control_never_closes side most bytes c = none_closes c.frames (of_each (λ (q : QuicFrame). is_close q ≡ false) side most bytes c control_closes_nothing)
 
 -- ---- the space behind such a packet
 
@@ -117,6 +123,7 @@ control_never_closes side bytes c = none_closes c.frames (of_each (λ (q : QuicF
 pub record IsRestKept (old new : DataSpace) : Type 0 where
   pub streams : new.streams ≡ old.streams
   pub log : new.log ≡ old.log
+  pub datagram_receive : new.datagram_receive ≡ old.datagram_receive
   pub dedup : new.dedup ≡ old.dedup
   pub acks : new.acks ≡ old.acks
   pub largest_acked : new.largest_acked ≡ old.largest_acked
@@ -131,6 +138,7 @@ module _ (now size : ℕ) (old new : DataSpace) (b : IsSentBare now size old new
   bare_rest = record {
     streams = ap (λ (s : DataSpace). s.streams) b.new_is;
     log = ap (λ (s : DataSpace). s.log) b.new_is;
+    datagram_receive = ap (λ (s : DataSpace). s.datagram_receive) b.new_is;
     dedup = ap (λ (s : DataSpace). s.dedup) b.new_is;
     acks = ap (λ (s : DataSpace). s.acks) b.new_is;
     largest_acked = ap (λ (s : DataSpace). s.largest_acked) b.new_is;

@@ -183,17 +183,17 @@ module _ {S : Type 0} where
         })
 
     module _ (frames : List ControlFrame) (before after : List ℕ) (room count : ℕ) (room_is : room ≡ 1200 - overhead old) (wide : 1143 ≤ room) (count_is : count ≡ fitting room frames) (some : 0 < count)
-        (put : after ≡ before ++ control_bytes (take (fitting room frames) frames)) (sendable : AllByRecursion (MaySend old.side) frames) (back : AreReadBack (take (fitting room frames) frames))
+        (put : after ≡ before ++ control_bytes (take (fitting room frames) frames)) (sendable : AllByRecursion (MaySend old.side old.config.peer_datagram) frames) (back : AreReadBack (take (fitting room frames) frames))
         (size_is : size ≡ 1200 - room + (length after - length before)) where
       abbrev Taken : ℕ → List ControlFrame
       Taken r = take (fitting r frames) frames
 
-      put_in : AreControl old.side (control_bytes (Taken room))
+      put_in : AreControl old.side old.config.peer_datagram (control_bytes (Taken room))
       put_in = record {
         frames = Taken room;
         some = λ e. some_taken room frames (fitting room frames) refl (omega (arith, count_is, some)) e;
         bytes_are = refl;
-        sendable = taken_sendable (MaySend old.side) (fitting room frames) frames sendable;
+        sendable = taken_sendable (MaySend old.side old.config.peer_datagram) (fitting room frames) frames sendable;
         read_back = back;
       }
 
@@ -203,7 +203,7 @@ module _ {S : Type 0} where
       same_size : size ≡ overhead old + length (control_bytes (Taken room))
       same_size = omega (arith, size_is, room_is, wide, sum)
 
-      made : is_open old.state ≡ true → old.space.acks.is_due ≡ false → may_elicit old.space ≡ true → IsControlMade now.0 (overhead old) old.side old.space space (control_bytes (Taken room))
+      made : is_open old.state ≡ true → old.space.acks.is_due ≡ false → may_elicit old.space ≡ true → IsControlMade now.0 (overhead old) old.side old.config.peer_datagram old.space space (control_bytes (Taken room))
       made opened quiet may = record { quiet = quiet; may = may; control = put_in; sent = subst (λ (n : ℕ). IsSentBare now.0 n old.space space) same_size sent }
 
       pub control_put : is_open old.state ≡ true → old.space.acks.is_due ≡ false → may_elicit old.space ≡ true → old.space.next_number < 2 ^ 62 → AreControlPut now old new before after frames
@@ -214,7 +214,7 @@ module _ {S : Type 0} where
             number = below;
             after_is = subst (λ (r : ℕ). after ≡ before ++ control_bytes (Taken r)) room_is put;
             fits = subst (λ (r : ℕ). length (control_bytes (Taken r)) ≤ r) room_is fits;
-            packet = subst (λ (r : ℕ). IsControlMade now.0 (overhead old) old.side old.space space (control_bytes (Taken r))) room_is (made opened quiet may);
+            packet = subst (λ (r : ℕ). IsControlMade now.0 (overhead old) old.side old.config.peer_datagram old.space space (control_bytes (Taken r))) room_is (made opened quiet may);
             rest_is = refl;
           })
 
@@ -242,7 +242,7 @@ module _ {S : Type 0} where
         count_is = count_is;
         some = some;
         frames_are = ap (λ (n : ℕ). control_bytes (take n frames)) (sym count_is);
-        packet = subst (λ (n : ℕ). IsControlMade now.0 (overhead old) old.side old.space new.space (control_bytes (take n frames))) (sym count_is) put.packet;
+        packet = subst (λ (n : ℕ). IsControlMade now.0 (overhead old) old.side old.config.peer_datagram old.space new.space (control_bytes (take n frames))) (sym count_is) put.packet;
       }
 
   -- it is counted, and goes to the peer

@@ -28,6 +28,7 @@ module _ (side : Side) (own peer : ℕ) (config : ConnConfig) where
   pub handed_in_follows : (s : DataSpace) (t : List Act) (d : List ℕ) → FollowsOf side own peer config s t → FollowsOf side own peer config s (t ++ HandedIn d ∷ [])
   handed_in_follows s t d p = record {
     of = p.of;
+    datagrams = p.datagrams;
     sent = p.sent;
     came = p.came;
     is_sent = λ run has. p.is_sent run (subst (λ (z : List (List ℕ)). HasRun peer z side run) (same_out t (HandedIn d ∷ []) refl) has);
@@ -50,9 +51,10 @@ module _ (side : Side) (own peer : ℕ) (config : ConnConfig) where
   pub accepted_follows : (old new : DataSpace) (t : List Act) (number : ℕ) (is_eliciting : Bool) → IsAccepted number is_eliciting old new → HasNumber own (handed_in t) (other side) number
       → FollowsOf side own peer config old t → FollowsOf side own peer config new t
   accepted_follows old new t number is_eliciting a has p =
-      let q = same_streams side own peer config old (record new { dedup = old.dedup }) t (ap (λ (s : DataSpace). s.streams) a.rest_is) refl p in
+      let q = same_streams side own peer config old (record new { dedup = old.dedup }) t (ap (λ (s : DataSpace). s.streams) a.rest_is) refl (ap (λ (s : DataSpace). s.datagram_receive) a.rest_is) p in
       record {
         of = q.of;
+        datagrams = q.datagrams;
         sent = q.sent;
         came = q.came;
         is_sent = q.is_sent;

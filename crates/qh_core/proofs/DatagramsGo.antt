@@ -196,6 +196,7 @@ module _ (side : Side) (own peer : ℕ) (config : ConnConfig) where
       → ((run : Run) → HasRun peer (handed_out (t ++ HandedOut d ∷ [])) side run → In run sent) → AreResetsKept s p.given t d → FollowsOf side own peer config s (t ++ HandedOut d ∷ [])
   handed_out_follows s t d sent p out is_sent resets = record {
     of = p.of;
+    datagrams = p.datagrams;
     sent = sent;
     came = p.came;
     is_sent = is_sent;
@@ -235,6 +236,21 @@ made_dedup now around room old new before after m =
     ap (λ (s : DataSpace). s.dedup) m.new_is ∙ sent_dedup m.mid m.packet (nat_lt (length m.out_mid) (length after))
     ∙ put_dedup (may_elicit old) (room - (length m.out_mid - length before)) old m.mid m.out_mid after m.packet.frames.items m.eliciting
 
+-- how long a DATAGRAM frame's payload may be stays
+sent_datagrams : (s : DataSpace) (sent : SentPacket SentFrame) (is_eliciting : Bool) → (with_sent s sent is_eliciting).datagram_receive ≡ s.datagram_receive
+sent_datagrams s sent true = refl
+sent_datagrams s sent false = refl
+
+put_datagrams : (may : Bool) (room : ℕ) (old new : DataSpace) (before after : List ℕ) (frames : List SentFrame)
+    → MatchBool may (AreElicitingPut room old new before after frames) ((new ≡ old) × (after ≡ before)) → new.datagram_receive ≡ old.datagram_receive
+put_datagrams true room old new before after frames put = ap (λ (s : DataSpace). s.datagram_receive) put.rest_is
+put_datagrams false room old new before after frames none = ap (λ (s : DataSpace). s.datagram_receive) none.0
+
+made_datagrams : (now around room : ℕ) (old new : DataSpace) (before after : List ℕ) → IsPacketMade now around room old new before after → new.datagram_receive ≡ old.datagram_receive
+made_datagrams now around room old new before after m =
+    ap (λ (s : DataSpace). s.datagram_receive) m.new_is ∙ sent_datagrams m.mid m.packet (nat_lt (length m.out_mid) (length after))
+    ∙ put_datagrams (may_elicit old) (room - (length m.out_mid - length before)) old m.mid m.out_mid after m.packet.frames.items m.eliciting
+
 module _ (side : Side) (own : ℕ) (id : List ℕ) (config : ConnConfig) where
   -- a datagram of a packet that the space made is handed out
   packet_goes : (now around room : ℕ) (old new : DataSpace) (number : ℕ) (frames tag : List ℕ) (t : List Act)
@@ -246,6 +262,7 @@ module _ (side : Side) (own : ℕ) (id : List ℕ) (config : ConnConfig) where
       let bytes_are : frames ≡ made.bytes = append_cancel_left head frames made.bytes made.appended in
       let are : AreQuicFrames frames made.frames = subst (λ (z : List ℕ). AreQuicFrames z made.frames) (sym bytes_are) made.are in
       let after = stepped side own (length id) config old new t (same.made now around room old new head (head ++ frames) m) (made_dedup now around room old new head (head ++ frames) m)
+      (made_datagrams now around room old new head (head ++ frames) m)
       (λ sent came s.
       let once = made_stands now around room old new head (head ++ frames) sent came t m s in
       record { out = step.fewer new.streams (sent ++ runs_of once.frames) sent t (λ run is. in_left run sent (runs_of once.frames) is) once.stands.out; into = once.stands.into })
@@ -305,12 +322,12 @@ module _ {S : Type 0} where
       let tag = sealed old.side Data old.space.next_number in
       let u = t ++ HandedOut (datagram_of sealed old frames) ∷ [] in
       let before = subst (λ (s : DataSpace). FollowsOf old.side (length old.local_id) (length old.remote_id) old.config s t) (sym is) (space_follows old t p) in
-      let fs = control_frames old.side frames m.control in
+      let fs = control_frames old.side old.config.peer_datagram frames m.control in
       let after = silent_goes old.side (length old.local_id) old.remote_id old.config old.space old.space.next_number fs.frames frames tag t fs.are
-      (of_each (λ (q : QuicFrame). stream_of q ≡ None) old.side frames fs control_silent) (of_each (λ (q : QuicFrame). has_reset_type q ≡ false) old.side frames fs control_resets_nothing) tag_is before in
+      (of_each (λ (q : QuicFrame). stream_of q ≡ None) old.side old.config.peer_datagram frames fs control_silent) (of_each (λ (q : QuicFrame). has_reset_type q ≡ false) old.side old.config.peer_datagram frames fs control_resets_nothing) tag_is before in
       let rest = bare_rest _ _ old.space new.space m.sent in
       carried_on old new u new.space (rw e (same_end refl refl refl refl)) (inr refl)
-      (same_streams old.side (length old.local_id) (length old.remote_id) old.config old.space new.space u rest.streams rest.dedup after)
+      (same_streams old.side (length old.local_id) (length old.remote_id) old.config old.space new.space u rest.streams rest.dedup rest.datagram_receive after)
   frames_go sealed now old new frames t (close reason until is bytes_are e) tag_is back c p =
       let tag = sealed old.side Data old.space.next_number in
       let after = frame_goes old.side (length old.local_id) old.remote_id old.config p.space old.space.next_number (close_frame reason) frames tag t bytes_are (back reason until is) (close_silent reason) (close_resets_nothing reason) tag_is (space_follows old t p) in
@@ -319,7 +336,8 @@ module _ {S : Type 0} where
         | inl failed ↦ carried_on old new u p.space (rw e (same_end refl refl refl refl)) (inl (ap (λ (c : Inner S). c.error) e ∙ failed)) after
         | inr same ↦ carried_on old new u new.space (rw e (same_end refl refl refl refl)) (inr refl)
             (same_streams old.side (length old.local_id) (length old.remote_id) old.config p.space new.space u
-            (ap (λ (c : Inner S). c.space.streams) e ∙ ap (λ (s : DataSpace). s.streams) same) (ap (λ (c : Inner S). c.space.dedup) e ∙ ap (λ (s : DataSpace). s.dedup) same) after)
+            (ap (λ (c : Inner S). c.space.streams) e ∙ ap (λ (s : DataSpace). s.streams) same) (ap (λ (c : Inner S). c.space.dedup) e ∙ ap (λ (s : DataSpace). s.dedup) same)
+            (ap (λ (c : Inner S). c.space.datagram_receive) e ∙ ap (λ (s : DataSpace). s.datagram_receive) same) after)
       ]
 
   frames_end : (now : Moment) (old new : Inner S) (before frames : List ℕ) → AreFramesMade now old new before frames → IsSameEnd old new

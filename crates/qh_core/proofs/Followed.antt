@@ -24,6 +24,7 @@ use Rattle.qh_transcript.specs.Within.{KeepsWithin}
 -- what Following says of the space that it names, for an end whose ids and whose peer's have these lengths
 pub record FollowsOf (side : Side) (own peer : ℕ) (config : ConnConfig) (space : DataSpace) (t : List Act) : Type 0 where
   pub of : AreOf side config.peer space.streams
+  pub datagrams : space.datagram_receive ≡ config.datagram_receive
   pub sent : List Run
   pub came : List Run
   pub is_sent : (run : Run) → HasRun peer (handed_out t) side run → In run sent
@@ -40,11 +41,12 @@ pub record FollowsOf (side : Side) (own peer : ℕ) (config : ConnConfig) (space
 
 module _ (side : Side) (own peer : ℕ) (config : ConnConfig) where
   -- a step of the space, where nothing is handed in or out
-  abbrev pub stepped : (old new : DataSpace) (t : List Act) → SameEnd old new → new.dedup ≡ old.dedup
+  abbrev pub stepped : (old new : DataSpace) (t : List Act) → SameEnd old new → new.dedup ≡ old.dedup → new.datagram_receive ≡ old.datagram_receive
       → ((sent came : List Run) → Stands old sent came t → Stands new sent came t) → ((given : List StreamFrame) → KeepsWithin old.streams given t → KeepsWithin new.streams given t)
       → FollowsOf side own peer config old t → FollowsOf side own peer config new t
-  stepped old new t same dedup stand within p = record {
+  stepped old new t same dedup datagrams stand within p = record {
     of = same_of side config.peer old new same p.of;
+    datagrams = datagrams ∙ p.datagrams;
     sent = p.sent;
     came = p.came;
     is_sent = p.is_sent;
@@ -61,18 +63,19 @@ module _ (side : Side) (own peer : ℕ) (config : ConnConfig) where
   }
 
   -- the streams and the numbers that came are as they were
-  pub same_streams : (old new : DataSpace) (t : List Act) → new.streams ≡ old.streams → new.dedup ≡ old.dedup → FollowsOf side own peer config old t → FollowsOf side own peer config new t
-  same_streams old new t same dedup p = stepped old new t (ap (λ (s : PlainStreams). s.side) same, ap (λ (s : PlainStreams). s.peer) same) dedup
+  pub same_streams : (old new : DataSpace) (t : List Act) → new.streams ≡ old.streams → new.dedup ≡ old.dedup → new.datagram_receive ≡ old.datagram_receive → FollowsOf side own peer config old t → FollowsOf side own peer config new t
+  same_streams old new t same dedup datagrams p = stepped old new t (ap (λ (s : PlainStreams). s.side) same, ap (λ (s : PlainStreams). s.peer) same) dedup datagrams
       (λ sent came s. record { out = subst (λ (s : PlainStreams). StandsOut s sent t) (sym same) s.out; into = subst (λ (s : PlainStreams). StandsIn s came t) (sym same) s.into })
       (λ given w. subst (λ (s : PlainStreams). KeepsWithin s given t) (sym same) w) p
 
 module _ {S : Type 0} where
-  pub same_end : {old new : Inner S} → new.side ≡ old.side → new.local_id ≡ old.local_id → new.remote_id ≡ old.remote_id → new.config ≡ old.config → IsSameEnd old new
-  same_end side local_id remote_id config = record { side = side; local_id = local_id; remote_id = remote_id; config = config }
+  pub same_end : {old new : Inner S} → new.side ≡ old.side → new.local_id ≡ old.local_id → length new.remote_id ≡ length old.remote_id → new.config ≡ old.config → IsSameEnd old new
+  same_end side local_id remote_length config = record { side = side; local_id = local_id; remote_length = remote_length; config = config }
 
   pub space_follows : (c : Inner S) (t : List Act) → (p : Following c t) → FollowsOf c.side (length c.local_id) (length c.remote_id) c.config p.space t
   space_follows c t p = record {
     of = p.of;
+    datagrams = p.datagrams;
     sent = p.sent;
     came = p.came;
     is_sent = p.is_sent;
@@ -93,6 +96,7 @@ module _ {S : Type 0} where
     space = s;
     is_space = is;
     of = p.of;
+    datagrams = p.datagrams;
     sent = p.sent;
     came = p.came;
     is_sent = p.is_sent;
@@ -114,7 +118,7 @@ module _ {S : Type 0} where
   carried_on old new t s same is p = with_space new t s is
       (subst (λ (x : Side). FollowsOf x (length new.local_id) (length new.remote_id) new.config s t) (sym same.side)
       (subst (λ (x : List ℕ). FollowsOf old.side (length x) (length new.remote_id) new.config s t) (sym same.local_id)
-      (subst (λ (x : List ℕ). FollowsOf old.side (length old.local_id) (length x) new.config s t) (sym same.remote_id)
+      (subst (λ (n : ℕ). FollowsOf old.side (length old.local_id) n new.config s t) (sym same.remote_length)
       (subst (λ (x : ConnConfig). FollowsOf old.side (length old.local_id) (length old.remote_id) x s t) (sym same.config) p))))
 
   -- nothing changed but what the relation doesn't speak of

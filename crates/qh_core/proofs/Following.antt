@@ -54,12 +54,13 @@ first_stands s none = record {
 }
 
 module _ {S : Type 0} where
-  pub first_follows : (c : Inner S) (peer : PeerLimits) → HasNoHalf c.space.streams → AreUnused c.space.streams peer → Remembers [] c.space.dedup → IsConnection c → Follows c []
+  pub first_follows : (c : Inner S) (peer : PeerLimits) → c.space.datagram_receive ≡ c.config.datagram_receive → HasNoHalf c.space.streams → AreUnused c.space.streams peer → Remembers [] c.space.dedup → IsConnection c → Follows c []
   unfolding Follows
-  first_follows c peer none unused remembers p = record {
+  first_follows c peer datagrams none unused remembers p = record {
     space = c.space;
     is_space = inr refl;
     of = p.of;
+    datagrams = datagrams;
     sent = [];
     came = [];
     is_sent = λ run has. absurd has.among;
@@ -110,14 +111,14 @@ module _ {S : Type 0} where
   polled_follows c d _ t (nothing polled why rest) p f = same_follows _ d t rest (told_follows c d.space.streams None t polled p f)
 
   pub polled_end : (c d : Inner S) (o : Option Event) → IsPolledEvent c d o → IsSameEnd c d
-  polled_end c d _ (stream e polled rest) = rw rest (record { side = refl; local_id = refl; remote_id = refl; config = refl })
-  polled_end c d _ (lost mid error polled is untold rest) = rw rest (record { side = refl; local_id = refl; remote_id = refl; config = refl })
-  polled_end c d _ (nothing polled why rest) = rw rest (record { side = refl; local_id = refl; remote_id = refl; config = refl })
+  polled_end c d _ (stream e polled rest) = rw rest (record { side = refl; local_id = refl; remote_length = refl; config = refl })
+  polled_end c d _ (lost mid error polled is untold rest) = rw rest (record { side = refl; local_id = refl; remote_length = refl; config = refl })
+  polled_end c d _ (nothing polled why rest) = rw rest (record { side = refl; local_id = refl; remote_length = refl; config = refl })
 
   pub drained_follows : (c d : Inner S) (o : Option EndpointEvent) (t : List Act) → IsDrainedTold c d o → Follows c t → Follows d t
   drained_follows c d _ t (drained is untold rest) f = same_follows _ d t rest (others_follow c c.idle c.state c.error c.is_lost_told true c.udp_tx c.udp_rx t (λ e. e) f)
   drained_follows c d _ t (not_drained why same) f = same_follows c d t same f
 
   pub drained_end : (c d : Inner S) (o : Option EndpointEvent) → IsDrainedTold c d o → IsSameEnd c d
-  drained_end c d _ (drained is untold rest) = rw rest (record { side = refl; local_id = refl; remote_id = refl; config = refl })
-  drained_end c d _ (not_drained why same) = rw same (record { side = refl; local_id = refl; remote_id = refl; config = refl })
+  drained_end c d _ (drained is untold rest) = rw rest (record { side = refl; local_id = refl; remote_length = refl; config = refl })
+  drained_end c d _ (not_drained why same) = rw same (record { side = refl; local_id = refl; remote_length = refl; config = refl })

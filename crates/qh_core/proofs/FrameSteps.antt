@@ -1,5 +1,6 @@
 -- The frames of a packet, taken one after another.
-use Rattle.std.proofs.Common.{◌≡◌, ℕ, Bool, List, [], ◌∷◌, ◌++◌, Option, Some, None, length, refl, sym, ap, ◌∙◌, inl, inr, subst, append_assoc, arith}
+use Rattle.std.proofs.Common.{◌≡◌, ℕ, ◌+◌, ◌≤◌, Bool, List, [], ◌∷◌, ◌++◌, Option, Some, None, length, refl, sym, ap, ◌∙◌, inl, inr, subst, append_assoc, arith}
+use Rattle.std.proofs.lemmas.List.{append-nil, length-append}
 use Rattle.std.specs.List.{AllByRecursion}
 use Rattle.std.specs.Prelude.{OnErr, Result, Ok, Err}
 use Rattle.qh_base.specs.declared.connection_error.ConnectionError.{ConnectionError}
@@ -48,28 +49,42 @@ range_none bytes h unread = all h.frames h.are h.in_range where
   all [] are in_range = are
   all (f ∷ fs) are in_range = absurd (unread f are.0 are.1 in_range.0)
 
--- the frames in front of the rest were taken, none of them closed, and the rest are frames too
-pub record AreTakenUpTo (now : ℕ) (bytes rest : List ℕ) (old mid : DataSpace) : Type 0 where
+-- so many frames in front of the rest were taken, none of them closed, and the rest are frames too
+pub record AreTakenUpTo (now count : ℕ) (bytes rest : List ℕ) (old mid : DataSpace) : Type 0 where
   pub taken : List Frame
+  pub count_is : count ≡ length taken
+  -- each of them has a byte
+  pub below : count + length rest ≤ length bytes
   pub goes_on : (new : DataSpace) (later : List Frame) (end : Option ConnectionError) → AreFramesTaken now rest mid new later end → AreFramesTaken now bytes old new (taken ++ later) end
   pub stops : StopsUnrefused now rest mid → StopsUnrefused now bytes old
   pub left : AreInRange rest
   pub space : IsSpace mid
 
-pub taken_none : (now : ℕ) (bytes : List ℕ) (s : DataSpace) (is_eliciting : _) → AreValidFrames bytes is_eliciting → IsSpace s → AreTakenUpTo now bytes bytes s s
+pub taken_none : (now : ℕ) (bytes : List ℕ) (s : DataSpace) (is_eliciting : _) → AreValidFrames bytes is_eliciting → IsSpace s → AreTakenUpTo now 0 bytes bytes s s
 taken_none now bytes s is_eliciting h space = record {
   taken = [];
+  count_is = refl;
+  below = omega arith;
   goes_on = λ new later end t. t;
   stops = λ s. s;
   left = record { frames = h.frames; are = h.are; in_range = h.in_range };
   space = space;
 }
 
+-- one more is counted
+one_longer : (count : ℕ) (fs : List Frame) (f : Frame) → count ≡ length fs → count + 1 ≡ length (fs ++ f ∷ [])
+one_longer count fs f is = let sum = length-append fs (f ∷ []) in omega (arith, is, sum)
+
+as_long : (count : ℕ) (fs : List Frame) → count ≡ length fs → count ≡ length (fs ++ [])
+as_long count fs is = is ∙ ap length (sym (append-nil fs))
+
 -- one more is taken
-pub taken_more : (now : ℕ) (bytes rest behind : List ℕ) (old mid new : DataSpace) (f : Frame) → AreTakenUpTo now bytes rest old mid → Begins rest (plain_of f) behind
-    → frame_refusal mid f ≡ None → IsFrameTaken now mid new f None → IsSpace new → AreTakenUpTo now bytes behind old new
-taken_more now bytes rest behind old mid new f h b free step space = record {
+pub taken_more : (now count : ℕ) (bytes rest behind : List ℕ) (old mid new : DataSpace) (f : Frame) → AreTakenUpTo now count bytes rest old mid → Begins rest (plain_of f) behind
+    → frame_refusal mid f ≡ None → IsFrameTaken now mid new f None → IsSpace new → AreTakenUpTo now (count + 1) bytes behind old new
+taken_more now count bytes rest behind old mid new f h b free step space = record {
   taken = h.taken ++ f ∷ [];
+  count_is = one_longer count h.taken f h.count_is;
+  below = omega (arith, h.below, frame_takes rest behind (plain_of f) b);
   goes_on = λ last later end t.
       subst (λ (fs : List Frame). AreFramesTaken now bytes old last fs end) (sym (append_assoc h.taken (f ∷ []) later))
       (h.goes_on last (f ∷ later) end (more rest behind f mid new last later end b free step t));
@@ -78,28 +93,33 @@ taken_more now bytes rest behind old mid new f h b free step space = record {
   space = space;
 }
 
--- what was taken in the end
-abbrev pub HasTaken : (now : ℕ) (bytes : List ℕ) (old new : DataSpace) (end : Option ConnectionError) → Type 0
-HasTaken now bytes old new end = (taken : List Frame) × AreFramesTaken now bytes old new taken end
+-- what was taken in the end, and how many
+abbrev pub HasTaken : (now count : ℕ) (bytes : List ℕ) (old new : DataSpace) (end : Option ConnectionError) → Type 0
+HasTaken now count bytes old new end = (taken : List Frame) × AreFramesTaken now bytes old new taken end × (count ≡ length taken)
 
 -- all are taken
-pub taken_all : (now : ℕ) (bytes rest : List ℕ) (old new : DataSpace) → AreTakenUpTo now bytes rest old new → HasNoFrame rest → HasTaken now bytes old new None
-taken_all now bytes rest old new h unread =
-    (h.taken ++ [], h.goes_on new [] None (subst (λ (z : List ℕ). AreFramesTaken now z new new [] None) (sym (range_none rest h.left unread)) (none new)))
+pub taken_all : (now count : ℕ) (bytes rest : List ℕ) (old new : DataSpace) → AreTakenUpTo now count bytes rest old new → HasNoFrame rest → HasTaken now count bytes old new None
+taken_all now count bytes rest old new h unread = (
+  h.taken ++ [],
+  h.goes_on new [] None (subst (λ (z : List ℕ). AreFramesTaken now z new new [] None) (sym (range_none rest h.left unread)) (none new)),
+  as_long count h.taken h.count_is,
+)
 
 -- one closes
-pub taken_closed : (now : ℕ) (bytes rest behind : List ℕ) (old mid new : DataSpace) (f : Frame) (e : ConnectionError) → AreTakenUpTo now bytes rest old mid → Begins rest (plain_of f) behind
-    → frame_refusal mid f ≡ None → IsFrameTaken now mid new f (Some e) → HasTaken now bytes old new (Some e)
-taken_closed now bytes rest behind old mid new f e h b free step = (h.taken ++ f ∷ [], h.goes_on new (f ∷ []) (Some e) (closed rest behind f mid new e b free step))
+pub taken_closed : (now count : ℕ) (bytes rest behind : List ℕ) (old mid new : DataSpace) (f : Frame) (e : ConnectionError) → AreTakenUpTo now count bytes rest old mid → Begins rest (plain_of f) behind
+    → frame_refusal mid f ≡ None → IsFrameTaken now mid new f (Some e) → HasTaken now (count + 1) bytes old new (Some e)
+taken_closed now count bytes rest behind old mid new f e h b free step =
+    (h.taken ++ f ∷ [], h.goes_on new (f ∷ []) (Some e) (closed rest behind f mid new e b free step), one_longer count h.taken f h.count_is)
 
 -- one is refused
-pub taken_refused : (now : ℕ) (bytes rest behind : List ℕ) (old mid new : DataSpace) (f : Frame) (fault : StreamFault) (e : TransportError) → AreTakenUpTo now bytes rest old mid
-    → Begins rest (plain_of f) behind → HasType rest f → IsRefusedBy fault (frame_refusal mid f) → new ≡ mid → fault ≡ Transport e → HasTaken now bytes old new (Some (Fault e))
-taken_refused now bytes rest behind old mid new f fault e h b named (inl wanting) same is = absurd (let both : Wanting ≡ Transport e = sym wanting.0 ∙ is in cc)
-taken_refused now bytes rest behind old mid new f fault e h b named (inr r) same is = (
+pub taken_refused : (now count : ℕ) (bytes rest behind : List ℕ) (old mid new : DataSpace) (f : Frame) (fault : StreamFault) (e : TransportError) → AreTakenUpTo now count bytes rest old mid
+    → Begins rest (plain_of f) behind → HasType rest f → IsRefusedBy fault (frame_refusal mid f) → new ≡ mid → fault ≡ Transport e → HasTaken now count bytes old new (Some (Fault e))
+taken_refused now count bytes rest behind old mid new f fault e h b named (inl wanting) same is = absurd (let both : Wanting ≡ Transport e = sym wanting.0 ∙ is in cc)
+taken_refused now count bytes rest behind old mid new f fault e h b named (inr r) same is = (
   h.taken ++ [],
   subst (λ (s : DataSpace). AreFramesTaken now bytes old s (h.taken ++ []) (Some (Fault e))) (sym same)
       (h.goes_on mid [] (Some (Fault e)) (refused rest behind f mid e b named (subst (λ (x : StreamFault). IsRefusal x (frame_refusal mid f)) is r))),
+  as_long count h.taken h.count_is,
 )
 
 -- memory is wanting only at one that isn't refused
@@ -107,9 +127,9 @@ pub unrefused : (s : DataSpace) (f : Frame) (fault : StreamFault) → IsRefusedB
 unrefused s f fault (inl wanting) is = wanting.1
 unrefused s f fault (inr r) is = absurd (subst (λ (x : StreamFault). IsRefusal x (frame_refusal s f)) is r)
 
-pub stops_at : (now : ℕ) (bytes rest after : List ℕ) (old mid : DataSpace) (f : Frame) (fault : StreamFault) → AreTakenUpTo now bytes rest old mid → Begins rest (plain_of f) after
+pub stops_at : (now count : ℕ) (bytes rest after : List ℕ) (old mid : DataSpace) (f : Frame) (fault : StreamFault) → AreTakenUpTo now count bytes rest old mid → Begins rest (plain_of f) after
     → IsRefusedBy fault (frame_refusal mid f) → fault ≡ Wanting → StopsUnrefused now bytes old
-stops_at now bytes rest after old mid f fault h b r is = h.stops (here rest after f mid b (unrefused mid f fault r is))
+stops_at now count bytes rest after old mid f fault h b r is = h.stops (here rest after f mid b (unrefused mid f fault r is))
 
 -- bytes that are valid frames begin with one
 pub first_read : (bytes : List ℕ) (is_eliciting : Bool) → AreValidFrames bytes is_eliciting → HasNoFrame bytes → ⊥

@@ -162,6 +162,17 @@ taken_dedup now old new f closed (of_ack a r) = acked_dedup now old new a r
 taken_dedup now old new f closed (challenge bytes e) = ap (λ (s : DataSpace). s.dedup) e
 taken_dedup now old new f closed (close _ error is e) = ap (λ (s : DataSpace). s.dedup) e
 
+acked_datagrams : (now : ℕ) (old new : DataSpace) (a : _) → IsAckReceived now old new a → new.datagram_receive ≡ old.datagram_receive
+acked_datagrams now old new a r = ap (λ (s : DataSpace). s.datagram_receive) r.lost.rest_is ∙ ap (λ (s : DataSpace). s.datagram_receive) r.mid_is
+
+-- nor how long a DATAGRAM frame's payload may be
+taken_datagrams : (now : ℕ) (old new : DataSpace) (f : Frame) (closed : Option ConnectionError) → IsFrameTaken now old new f closed → new.datagram_receive ≡ old.datagram_receive
+taken_datagrams now old new f closed (passive _ is e) = ap (λ (s : DataSpace). s.datagram_receive) e
+taken_datagrams now old new f closed (of_streams _ c is r e) = ap (λ (s : DataSpace). s.datagram_receive) e
+taken_datagrams now old new f closed (of_ack a r) = acked_datagrams now old new a r
+taken_datagrams now old new f closed (challenge bytes e) = ap (λ (s : DataSpace). s.datagram_receive) e
+taken_datagrams now old new f closed (close _ error is e) = ap (λ (s : DataSpace). s.datagram_receive) e
+
 run_here : (o : Option Run) (run : Run) → In run (some_run o ++ []) → o ≡ Some run
 run_here None run is = absurd is
 run_here (Some r) run (inl same) = ap (λ (r : Run). Some r) same
@@ -179,6 +190,7 @@ module _ (side : Side) (own peer : ℕ) (config : ConnConfig) where
       let view : stream_of q ≡ stream_of (plain_of f) = sym (form_stream q) ∙ ap stream_of form in
       record {
         of = same_of side config.peer old new (same.frame now old new f closed taken) p.of;
+        datagrams = taken_datagrams now old new f closed taken ∙ p.datagrams;
         sent = p.sent;
         came = p.came ++ runs_of (plain_of f ∷ []);
         is_sent = p.is_sent;

@@ -40,6 +40,7 @@ pub mod RunSums
 pub mod StreamsGo
 pub mod Timeouts
 pub mod Transmitted
+pub mod Turned
 pub mod Undisturbed
 pub mod WaitingKept
 pub mod WriterCalls

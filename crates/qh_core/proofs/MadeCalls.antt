@@ -39,13 +39,13 @@ module _ {S : Type 0} where
   IsSame old new = IsSameEnd old new × (new.session ≡ old.session)
 
   itself : (c : Inner S) → IsSame c c
-  itself c = (record { side = refl; local_id = refl; remote_id = refl; config = refl }, refl)
+  itself c = (record { side = refl; local_id = refl; remote_length = refl; config = refl }, refl)
 
   same_by : (old new c : Inner S) → IsSame old c → new ≡ c → IsSame old new
   same_by old new c same is = subst (λ (z : Inner S). IsSame old z) (sym is) same
 
   with_other : (old : Inner S) (s : PlainStreams) → IsSame old (with_streams old s)
-  with_other old s = (record { side = refl; local_id = refl; remote_id = refl; config = refl }, refl)
+  with_other old s = (record { side = refl; local_id = refl; remote_length = refl; config = refl }, refl)
 
   goes_on : (old new : Inner S) (acts : List Act) → IsSame old new → Carries old new acts → GoesOn old new acts
   goes_on old new acts same carries = record { follows = carries; same_end = same.0; same_session = same.1 }

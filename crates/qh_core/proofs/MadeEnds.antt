@@ -5,14 +5,14 @@ use Rattle.qh_base.specs.declared.connection_error.ConnectionError.TheVariants.{
 use Rattle.qh_base.specs.declared.memory.Memory.{Memory as OutOfMemory}
 use Rattle.qh_base.specs.declared.path.Transmit.{Transmit}
 use Rattle.qh_base.specs.declared.time.Moment.{Moment}
-use Rattle.qh_core.proofs.ControlFrames.{open_reads_back}
 use Rattle.qh_core.proofs.MadeCalls.{Carries, CarriesAlone, alone}
+use Rattle.qh_core.proofs.Turned.{turned_stays}
 use Rattle.qh_core.specs.Event.{IsDrainedTold, IsPolledEvent}
 use Rattle.qh_core.specs.Follows.{control_acts, event_acts, transmit_acts}
 use Rattle.qh_core.specs.Inner.{IsFailedBy, IsSameEnd, is_open}
-use Rattle.qh_core.specs.Made.{AcceptsTags, MakesTagsOf, GoesOn, IsMade, IsMadeLocally}
-use Rattle.qh_core.specs.Made.IsAnyCall.{handed_in, lost, handed_out, nothing_sent, unsent, local}
-use Rattle.qh_core.specs.Made.IsLocalCall.{timeout, closed, polled, endpoint_polled, on_streams}
+use Rattle.qh_core.specs.Made.{AcceptsTags, MakesTagsOf, GoesOn, IsMade, IsMadeLocally, IsTurned}
+use Rattle.qh_core.specs.Made.IsAnyCall.{handed_in, lost, handed_out, control_out, nothing_sent, unsent, local}
+use Rattle.qh_core.specs.Made.IsLocalCall.{timeout, closed, polled, endpoint_polled, on_streams, turned}
 use Rattle.qh_core.specs.Made.IsStreamCall.{unchanged}
 use Rattle.qh_core.specs.Receiving.{GoesOnWith, IsClosedWith, IsDatagramTaken, IsEventTaken, IsPacketHandled, IsWantingFor, handed_at, received}
 use Rattle.qh_core.specs.Sending.{AreFramesMade, ClosesReadBack, IsControlKept, IsControlSent, IsDatagramMade, NothingIsSent}
@@ -127,7 +127,7 @@ module _ {S : Type 0} where
       → IfOk result (λ o. o ≡ None → (after ≡ before) × (new ≡ old) × IsControlKept old frames) → OnErr result ((after ≡ before) × IsFailedBy old new)
       → Carries old new (control_acts before after result) → IsSameEnd old new → IsMade accepts sealed old new (control_acts before after result)
   control_made accepts sealed now before after frames (Ok (Some t)) old new some undisturbed denied failed carries same =
-      (handed_out now before after t.transmit some.made (open_reads_back old.state some.opened) undisturbed, goes_on old new _ same (frames_stay now old new _ _ some.made.bytes.made) carries)
+      (control_out now before after frames t some undisturbed, goes_on old new _ same (frames_stay now old new _ _ some.made.bytes.made) carries)
   control_made accepts sealed now before after frames (Ok None) old new some undisturbed denied failed carries same =
       (local [] (on_streams [] (unchanged (denied refl).1)), goes_on old new _ same (ap (λ (z : Inner S). z.session) (denied refl).1) carries)
   control_made accepts sealed now before after frames (Err _) old new some undisturbed denied failed carries same =
@@ -152,3 +152,6 @@ module _ {S : Type 0} where
 
   pub endpoint_made : (told : Option EndpointEvent) (old new : Inner S) → IsDrainedTold old new told → CarriesAlone old new → IsSameEnd old new → IsMadeLocally old new []
   endpoint_made told old new is carries same = (endpoint_polled told is, goes_on old new [] same (endpoint_stays told old new is) (alone old new carries))
+
+  pub turned_made : (old new : Inner S) → IsTurned old new → CarriesAlone old new → IsSameEnd old new → IsMadeLocally old new []
+  turned_made old new turn carries same = (turned turn, goes_on old new [] same (turned_stays old new turn) (alone old new carries))

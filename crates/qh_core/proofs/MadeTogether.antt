@@ -33,14 +33,14 @@ module _ {S : Type 0} where
   local_all accepts sealed old new acts = wider IsMadeLocally (IsMade accepts sealed) old new acts (λ b c u step. (local u step.0, step.1))
 
   pub all_same : (accepts : AcceptsTags S) (sealed : MakesTagsOf S) (old new : Inner S) (acts : List Act) → AreMade accepts sealed old new acts → IsSameEnd old new × (new.session ≡ old.session)
-  all_same accepts sealed old new acts (none) = (record { side = refl; local_id = refl; remote_id = refl; config = refl }, refl)
+  all_same accepts sealed old new acts (none) = (record { side = refl; local_id = refl; remote_length = refl; config = refl }, refl)
   all_same accepts sealed old new acts (more between _ front last before step) =
       let first = all_same accepts sealed old between front before in
       let one = step.1.same_end in (
         record {
           side = one.side ∙ first.0.side;
           local_id = one.local_id ∙ first.0.local_id;
-          remote_id = one.remote_id ∙ first.0.remote_id;
+          remote_length = one.remote_length ∙ first.0.remote_length;
           config = one.config ∙ first.0.config;
         },
         step.1.same_session ∙ first.1,

@@ -27,7 +27,7 @@ use Rattle.qh_transcript.proofs.ReceivingLists.{none_some}
 
 module _ (side : Side) (own peer : ℕ) (config : ConnConfig) where
   lost_follows : (largest now : ℕ) (old new : DataSpace) (t : List Act) → IsLossTaken largest now old new → FollowsOf side own peer config old t → FollowsOf side own peer config new t
-  lost_follows largest now old new t lost = stepped side own peer config old new t (same.lost largest now old new lost) (ap (λ (s : DataSpace). s.dedup) lost.rest_is)
+  lost_follows largest now old new t lost = stepped side own peer config old new t (same.lost largest now old new lost) (ap (λ (s : DataSpace). s.dedup) lost.rest_is) (ap (λ (s : DataSpace). s.datagram_receive) lost.rest_is)
       (λ sent came. arrival.lost_stands largest now old new sent came t lost) (λ given. within.lost largest now old new given t lost)
 
   pinged : (p : Probe) (s : DataSpace) → (pings_after p s).dedup ≡ s.dedup
@@ -35,8 +35,14 @@ module _ (side : Side) (own peer : ℕ) (config : ConnConfig) where
   pinged probe.Stream s = refl
   pinged probe.Others s = refl
 
+  pinged_datagrams : (p : Probe) (s : DataSpace) → (pings_after p s).datagram_receive ≡ s.datagram_receive
+  pinged_datagrams probe.Ping s = refl
+  pinged_datagrams probe.Stream s = refl
+  pinged_datagrams probe.Others s = refl
+
   probe_follows : (old new : DataSpace) (t : List Act) → IsProbeDue old new → FollowsOf side own peer config old t → FollowsOf side own peer config new t
   probe_follows old new t due = stepped side own peer config old new t (same.probe old new due) (ap (λ (s : DataSpace). s.dedup) due.rest_is ∙ pinged due.probe _)
+      (ap (λ (s : DataSpace). s.datagram_receive) due.rest_is ∙ pinged_datagrams due.probe _)
       (λ sent came. arrival.probe_stands old new sent came t due) (λ given. within.probe old new given t due)
 
   aged : (now : ℕ) (old new : DataSpace) (t : List Act) → AreLostByAge now old new → FollowsOf side own peer config old t → FollowsOf side own peer config new t

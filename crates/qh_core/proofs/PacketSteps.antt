@@ -1,5 +1,5 @@
 -- What a packet does whose tag was accepted, and what holds of the connection behind its frames.
-use Rattle.std.proofs.Common.{◌≡◌, ℕ, Bool, true, false, List, [], ◌∷◌, Option, Some, None, refl, sym, ap, subst, ◌∙◌}
+use Rattle.std.proofs.Common.{◌≡◌, ℕ, Bool, true, false, List, [], ◌∷◌, length, Option, Some, None, refl, sym, ap, subst, ◌∙◌}
 use Rattle.qh_base.specs.TransportFault.{IsFault}
 use Rattle.std.specs.Option.{option_map}
 use Rattle.std.specs.Prelude.{◌||◌, OnOk, Result, Ok, Err, is_err}
@@ -61,11 +61,12 @@ module _ {S : Type 0} where
         no_half = λ memory. absurd (let both : ◌≡◌ {A = Option ConnectionError} None (Some Memory) = sym not_lost ∙ memory in cc);
       }
 
-  -- a packet whose number was noted is taken
-  pub noted_taken : (now : Moment) (number : ℕ) (frames : List ℕ) (old new : Inner S) (is_eliciting : Bool) (mid space : DataSpace) (end : Option ConnectionError) → AreValidFrames frames is_eliciting
-      → IsAccepted number is_eliciting old.space mid → HasTaken now.0 frames mid space end → GoesOnWith now end (record old { space = space; idle = restarted now old.idle }) new → IsPacketTaken now number frames old new
-  noted_taken now number frames old new is_eliciting mid space end valid accepted t on =
-      record { is_eliciting = is_eliciting; surveyed = valid; mid = mid; accepted = accepted; space = space; taken = t.0; end = end; are_taken = t.1; goes_on = on }
+  -- a packet whose number was noted is taken, so many of its frames
+  pub noted_taken : (now : Moment) (number count : ℕ) (frames : List ℕ) (old new : Inner S) (is_eliciting : Bool) (mid space : DataSpace) (end : Option ConnectionError) → AreValidFrames frames is_eliciting
+      → IsAccepted number is_eliciting old.space mid → HasTaken now.0 count frames mid space end → GoesOnWith now end (record old { space = space; idle = restarted now old.idle }) new
+      → (p : IsPacketTaken now number frames old new) × (count ≡ length p.taken)
+  noted_taken now number count frames old new is_eliciting mid space end valid accepted t on =
+      (record { is_eliciting = is_eliciting; surveyed = valid; mid = mid; accepted = accepted; space = space; taken = t.0; end = end; are_taken = t.1; goes_on = on }, t.2)
 
   -- one whose number couldn't be noted is read no farther than its first frame, if that is refused
   pub unnoted_refused : (now : Moment) (number : ℕ) (frames : List ℕ) (old new : Inner S) (is_eliciting : Bool) (mid : DataSpace) → IsNewTo old.space number → AreValidFrames frames is_eliciting → mid ≡ old.space

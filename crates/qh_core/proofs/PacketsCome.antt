@@ -41,8 +41,8 @@ module _ {S : Type 0} where
     same : IsSameEnd old new
     space : new.space ≡ old.space
 
-  parts : {old new : Inner S} → new.side ≡ old.side → new.local_id ≡ old.local_id → new.remote_id ≡ old.remote_id → new.config ≡ old.config → new.space ≡ old.space → GoesTo old new
-  parts side local_id remote_id config space = record { same = record { side = side; local_id = local_id; remote_id = remote_id; config = config }; space = space }
+  parts : {old new : Inner S} → new.side ≡ old.side → new.local_id ≡ old.local_id → length new.remote_id ≡ length old.remote_id → new.config ≡ old.config → new.space ≡ old.space → GoesTo old new
+  parts side local_id remote_length config space = record { same = record { side = side; local_id = local_id; remote_length = remote_length; config = config }; space = space }
 
   goes_on : (now : Moment) (end : Option ConnectionError) (old new : Inner S) → GoesOnWith now end old new → GoesTo old new
   goes_on now None old new e = rw e (parts refl refl refl refl refl)
@@ -66,7 +66,7 @@ module _ {S : Type 0} where
       let is = has fs a.surveyed.are in
       let u = t ++ HandedIn d ∷ [] in
       let to = goes_on now a.end _ new a.goes_on in
-      let ends : IsSameEnd old new = record { side = to.same.side; local_id = to.same.local_id; remote_id = to.same.remote_id; config = to.same.config } in
+      let ends : IsSameEnd old new = record { side = to.same.side; local_id = to.same.local_id; remote_length = to.same.remote_length; config = to.same.config } in
       carried_on old new u a.space ends (inr to.space)
       (frames_follow old.side (length old.local_id) (length old.remote_id) old.config now.0 bytes a.mid a.space a.taken a.end fs u a.are_taken a.surveyed.are (content_frame old t d number fs is)
       (accepted_follows old.side (length old.local_id) (length old.remote_id) old.config old.space a.mid u number a.is_eliciting a.accepted (content_number old t d number fs is) p))
@@ -113,7 +113,7 @@ module _ {S : Type 0} where
   -- ---- want of memory
 
   pub failed_end : (old new : Inner S) → IsFailedBy old new → IsSameEnd old new
-  failed_end old new f = rw f.rest_is (record { side = refl; local_id = refl; remote_id = refl; config = refl })
+  failed_end old new f = rw f.rest_is (record { side = refl; local_id = refl; remote_length = refl; config = refl })
 
   pub failed_follows : (old new : Inner S) (t : List Act) → IsFailedBy old new → Following old t → Following new t
   failed_follows old new t f p = carried_on old new t p.space (failed_end old new f) (inl (ap (λ (c : Inner S). c.error) f.rest_is)) (space_follows old t p)
@@ -122,7 +122,7 @@ module _ {S : Type 0} where
 
   -- what is counted changes nothing of it
   counts_follow : (c : Inner S) (counts : UdpStats) (t : List Act) → Following c t → Following (record c { udp_rx = counts }) t
-  counts_follow c counts t p = unchanged c (record c { udp_rx = counts }) t (record { side = refl; local_id = refl; remote_id = refl; config = refl }) refl (λ failed. failed) p
+  counts_follow c counts t p = unchanged c (record c { udp_rx = counts }) t (record { side = refl; local_id = refl; remote_length = refl; config = refl }) refl (λ failed. failed) p
 
   datagram_failed : (c new : Inner S) (t : List Act) (datagram : List ℕ) → IsFailedBy c new → Following c t → Following new (t ++ HandedIn datagram ∷ [])
   datagram_failed c new t datagram f p = carried_on c new (t ++ HandedIn datagram ∷ []) p.space (failed_end c new f) (inl (ap (λ (c : Inner S). c.error) f.rest_is)) (arrived c t datagram p)

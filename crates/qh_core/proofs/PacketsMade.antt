@@ -88,8 +88,8 @@ out_behind now overhead room old new before after made =
     (kept_behind (may_elicit old) (room - (length made.out_mid - length before)) old made.mid made.out_mid after made.packet (nat_lt (length made.out_mid) (length after)) made.eliciting)
 
 -- a packet of the connection's own frames is out, where no ACK was due
-control_behind : (now overhead : ℕ) (side : Side) (old new : DataSpace) (bytes : List ℕ) (made : IsControlMade now overhead side old new bytes) → IsOutBehind old new made.sent.packet true
-control_behind now overhead side old new bytes made =
+control_behind : (now overhead : ℕ) (side : Side) (most : Option ℕ) (old new : DataSpace) (bytes : List ℕ) (made : IsControlMade now overhead side most old new bytes) → IsOutBehind old new made.sent.packet true
+control_behind now overhead side most old new bytes made =
     let b = made.sent in record {
       next = bare_next _ _ old new b;
       acks = (bare_rest _ _ old new b).acks ∙ ap (λ (x : Bool). let a : PlainPendingAcks = record old.acks { is_due = x } in a) made.quiet;
@@ -148,16 +148,16 @@ module _ {S : Type 0} where
         behind = out_behind _ _ _ old.space new.space before (before ++ bytes) made;
       }
   made_open now old new before bytes (control_made here made rest) here_open =
-      let f = control_frames old.side bytes made.control in
+      let f = control_frames old.side old.config.peer_datagram bytes made.control in
       record {
         frames = f.frames;
         are = f.are;
         acknowledge = λ due n there. absurd (both_ways old.space.acks.is_due made.quiet due);
         packet = made.sent.packet;
         is_eliciting = true;
-        ask = λ _. control_wants old.side bytes f;
+        ask = λ _. control_wants old.side old.config.peer_datagram bytes f;
         time_is = made.sent.time_is;
-        behind = control_behind _ _ old.side old.space new.space bytes made;
+        behind = control_behind _ _ old.side old.config.peer_datagram old.space new.space bytes made;
       }
   made_open now old new before bytes (close_made reason until is are rest) here_open = absurd (both_ways (is_open old.state) (ap is_open is) here_open)
 

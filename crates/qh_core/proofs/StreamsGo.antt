@@ -72,6 +72,7 @@ module _ {S : Type 0} where
         space = record c.space { streams = new };
         is_space = inr refl;
         of = record { side_is = go.side ∙ of.side_is; peer_is = go.peer ∙ of.peer_is; said = of.said };
+        datagrams = ap (λ (s : DataSpace). s.datagram_receive) same ∙ f.datagrams;
         sent = f.sent;
         came = f.came;
         is_sent = λ run has. f.is_sent run (subst (λ (z : List (List ℕ)). HasRun (length c.remote_id) z c.side run) (same_out t u go.handed.out) has);

@@ -28,4 +28,4 @@ pub record CanBeSaid (l : PeerLimits) : Type 0 where
   pub uni : l.uni < 2 ^ 62
 
 abbrev pub space_config : ConnConfig → SpaceConfig
-space_config c = record { limits = c.limits; peer = c.peer; initial_rtt = c.initial_rtt; initial_window = c.initial_window }
+space_config c = record { limits = c.limits; peer = c.peer; datagram_receive = c.datagram_receive; initial_rtt = c.initial_rtt; initial_window = c.initial_window }

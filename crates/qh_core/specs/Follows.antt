@@ -154,6 +154,7 @@ module _ {S : Type 0} where
     pub space : DataSpace
     pub is_space : (c.error ≡ Some Memory) ⊎ (c.space ≡ space)
     pub of : AreOf c.side c.config.peer space.streams
+    pub datagrams : space.datagram_receive ≡ c.config.datagram_receive
     pub sent : List Run
     pub came : List Run
     pub is_sent : (run : Run) → HasRun (length c.remote_id) (handed_out t) c.side run → In run sent

@@ -1,5 +1,5 @@
 -- A connection as a value, and what holds of it at every moment.
-use Rattle.std.specs.Prelude.{◌≡◌, ℕ, ◌+◌, ◌-◌, ◌^◌, min, Bool, true, false, [], Some, None, is_some}
+use Rattle.std.specs.Prelude.{◌≡◌, ℕ, ◌+◌, ◌-◌, ◌^◌, min, Bool, true, false, [], length, Some, None, is_some}
 use Rattle.qh_base.specs.declared.connection_error.ConnectionError.TheVariants.{Memory}
 use Rattle.qh_core.specs.Config.{CanBeSaid}
 use Rattle.qh_core.specs.declared.config.ConnConfig.{ConnConfig}
@@ -56,6 +56,8 @@ pub record IsNewSpace (config : ConnConfig) (side : Side) (s : DataSpace) : Type
   pub no_half : HasNoHalf s.streams
   pub streams_are : s.streams ≡ first_streams side config.limits config.peer
   pub of : AreOf side config.peer s.streams
+  -- the longest DATAGRAM frame's payload that is taken (RFC 9221, section 3)
+  pub datagrams : s.datagram_receive ≡ config.datagram_receive
   pub sent : s.sent ≡ []
   pub log : s.log ≡ None
   pub counts : (two_way : Bool) → ((counts_of s.streams two_way).opened ≡ 0) × ((counts_of s.streams two_way).accepted ≡ 0)
@@ -93,5 +95,6 @@ module _ {S : Type 0} where
   pub record IsSameEnd (old new : Inner S) : Type 0 where
     pub side : new.side ≡ old.side
     pub local_id : new.local_id ≡ old.local_id
-    pub remote_id : new.remote_id ≡ old.remote_id
+    -- the peer may be heard under another id of the same length (RFC 9000, section 5.1.2)
+    pub remote_length : length new.remote_id ≡ length old.remote_id
     pub config : new.config ≡ old.config

@@ -1,5 +1,5 @@
 -- What a datagram does that comes (RFC 9000, sections 10.2, 12.2, 12.3 and 12.4).
-use Rattle.std.specs.Prelude.{◌≡◌, ℕ, ◌==◌, Bool, true, ◌||◌, MatchBool, List, [], ◌∷◌, length, Option, Some, None}
+use Rattle.std.specs.Prelude.{◌≡◌, ℕ, ◌==◌, Bool, true, false, ◌||◌, MatchBool, List, [], ◌∷◌, length, Option, Some, None}
 use Rattle.qh_base.specs.TransportFault.{IsFault}
 use Rattle.std.specs.List.{AllByRecursion, list_any}
 use Rattle.std.specs.Option.{option_map}
@@ -204,6 +204,16 @@ module _ {S : Type 0} where
         → new ≡ record old { state = Draining until } → IsDatagramTaken accepts now datagram old new
     draining : (until : Moment) → old.state ≡ Draining until → new ≡ old → IsDatagramTaken accepts now datagram old new
     drained : old.state ≡ Drained → new ≡ old → IsDatagramTaken accepts now datagram old new
+
+  -- A datagram came, and brings the peer's close or doesn't, to an end that isn't open. An end that closed tells so again, until the
+  -- peer says that it closed too; an end that is drained, or that the peer closed, takes nothing.
+  pub data IsClosedHeard (brings_close : Bool) (old new : Inner S) : Type 0 where
+    told_again : (reason : CloseReason) (is_due : Bool) (until : Moment) → old.state ≡ Closed reason is_due until → brings_close ≡ false
+        → new ≡ record old { state = Closed reason true until } → IsClosedHeard brings_close old new
+    closed_too : (reason : CloseReason) (is_due : Bool) (until : Moment) → old.state ≡ Closed reason is_due until → brings_close ≡ true
+        → new ≡ record old { state = Draining until } → IsClosedHeard brings_close old new
+    draining : (until : Moment) → old.state ≡ Draining until → new ≡ old → IsClosedHeard brings_close old new
+    drained : old.state ≡ Drained → new ≡ old → IsClosedHeard brings_close old new
 
   -- a datagram of so many bytes that came is counted
   abbrev pub counted_in : (size : ℕ) → Inner S → Inner S

@@ -68,7 +68,7 @@ module _ {S : Type 0} where
   pub data AreFramesMade (now : Moment) (old new : Inner S) (before frames : List ℕ) : Type 0 where
     packet : is_open old.state ≡ true → IsPacketMade now.0 (overhead old) (1200 - overhead old) old.space new.space before (before ++ frames)
         → new ≡ record old { space = new.space; idle = idle_after now old.space new.space old.idle; udp_tx = new.udp_tx } → AreFramesMade now old new before frames
-    control : is_open old.state ≡ true → IsControlMade now.0 (overhead old) old.side old.space new.space frames
+    control : is_open old.state ≡ true → IsControlMade now.0 (overhead old) old.side old.config.peer_datagram old.space new.space frames
         → new ≡ record old { space = new.space; idle = idle_after now old.space new.space old.idle; udp_tx = new.udp_tx } → AreFramesMade now old new before frames
     close : (reason : Close) (until : Moment) → old.state ≡ Closed reason true until → frames ≡ frame_bytes (close_frame reason)
         → new ≡ record old { state = Closed reason false until; space = record old.space { next_number = old.space.next_number + 1 }; udp_tx = new.udp_tx } → AreFramesMade now old new before frames
@@ -122,7 +122,7 @@ module _ {S : Type 0} where
     pub number : old.space.next_number < 2 ^ 62
     pub after_is : after ≡ before ++ control_bytes (take (fitting (1200 - overhead old) frames) frames)
     pub fits : length (control_bytes (take (fitting (1200 - overhead old) frames) frames)) ≤ 1200 - overhead old
-    pub packet : IsControlMade now.0 (overhead old) old.side old.space new.space (control_bytes (take (fitting (1200 - overhead old) frames) frames))
+    pub packet : IsControlMade now.0 (overhead old) old.side old.config.peer_datagram old.space new.space (control_bytes (take (fitting (1200 - overhead old) frames) frames))
     pub rest_is : new ≡ record old { space = new.space; idle = idle_after now old.space new.space old.idle }
 
   -- A datagram of so many of these frames, and of so many bytes, was appended to a buffer.
@@ -132,7 +132,7 @@ module _ {S : Type 0} where
     pub count_is : count ≡ fitting (1200 - overhead old) frames
     pub some : 0 < count
     pub frames_are : bytes.frames ≡ control_bytes (take count frames)
-    pub packet : IsControlMade now.0 (overhead old) old.side old.space new.space (control_bytes (take count frames))
+    pub packet : IsControlMade now.0 (overhead old) old.side old.config.peer_datagram old.space new.space (control_bytes (take count frames))
 
   -- A datagram was made of as many of these frames of the connection's own as it has room for, from the first on.
   pub record IsControlSent (sealed : Side → Space → ℕ → List ℕ) (now : Moment) (old new : Inner S) (before after : List ℕ) (frames : List ControlFrame) (sent : ControlSent) : Type 0 where
@@ -142,7 +142,7 @@ module _ {S : Type 0} where
     pub some : 0 < sent.count
     pub frames_are : made.bytes.frames ≡ control_bytes (take sent.count frames)
     pub number_is : sent.number ≡ old.space.next_number
-    pub packet : IsControlMade now.0 (overhead old) old.side old.space new.space (control_bytes (take sent.count frames))
+    pub packet : IsControlMade now.0 (overhead old) old.side old.config.peer_datagram old.space new.space (control_bytes (take sent.count frames))
 
   -- frames of the connection's own may be sent now
   abbrev pub MaySendControl : Inner S → Type 0

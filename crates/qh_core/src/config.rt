@@ -12,6 +12,11 @@ pub struct ConnConfig {
     pub limits: StreamLimits,
     /// The first limits of the peer: what its hello says.
     pub peer: PeerLimits,
+    /// The longest payload of a DATAGRAM frame that this end takes, None if it takes none (RFC 9221, section 3).
+    pub datagram_receive: Option<u64>,
+    /// The longest payload of a DATAGRAM frame that the peer takes, None if it takes none: what its hello says, less the bytes of the
+    /// frame's type and length.
+    pub peer_datagram: Option<u64>,
     /// After so long without a packet the connection ends (RFC 9000, section 10.1); None: it never does so.
     pub idle: Option<Span>,
     /// The round-trip time before a sample (RFC 9002, section 6.2.2).
@@ -28,6 +33,7 @@ impl ConnConfig {
         SpaceConfig {
             limits: self.limits,
             peer: self.peer,
+            datagram_receive: self.datagram_receive,
             initial_rtt: self.initial_rtt,
             initial_window: self.initial_window,
         }

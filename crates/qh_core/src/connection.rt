@@ -16,11 +16,12 @@ ghost use Rattle.qh_recovery.specs.SentPackets.{IsNext, packet_at};
 ghost use Rattle.qh_spec.specs.Transcript.{Act, HandedIn};
 
 mod streams;
+mod turning;
 
 use crate::inner::Parts;
 use crate::{
-    ConnConfig, ConnectionEvent, ConnectionStats, ControlFrame, ControlSent, EndpointEvent, Event,
-    Inner, Session, State,
+    Accepted, ConnConfig, ConnectionEvent, ConnectionStats, ControlFrame, ControlSent,
+    EndpointEvent, Event, Inner, Session, State,
 };
 use qh_base::{
     ConnectionError, ConnectionId, FourTuple, Memory, Moment, Reason, Side, Span, Transmit, VarInt,
@@ -126,15 +127,15 @@ impl<S: Session> Connection<S> {
         }
     }
 
-    /// Takes a datagram as `handle_event` does, and answers the frames of the packet that was accepted, if one was: its number is new and
-    /// was noted, and its frames were taken up to one that closes or is refused. None if no packet was accepted: the space is as it was.
+    /// Takes a datagram as `handle_event` does, and answers the frames of the packet that was accepted, if one was, and how many of them
+    /// were taken: its number is new and was noted, and its frames were taken up to one that closes or is refused. None if no packet was accepted: the space is as it was.
     pub fn handle_datagram<'a>(
         &mut self,
         now: Moment,
         datagram: &'a [u8],
-    ) -> Result<Option<&'a [u8]>, Memory>
+    ) -> Result<Option<Accepted<'a>>, Memory>
         ensures ok { OnOk result (IsDatagramTaken (S.accepts self.old.session) now datagram.now (counted_in (length datagram.now) self.old) self.new) }
-        ensures brings { IfOk result (λ o. IfSome o (λ frames. BringsPacket (S.accepts self.old.session) now datagram.now frames.now (counted_in (length datagram.now) self.old) self.new)) }
+        ensures brings { IfOk result (λ o. IfSome o (λ a. (b : BringsPacket (S.accepts self.old.session) now datagram.now a.frames.now (counted_in (length datagram.now) self.old) self.new) × (a.taken ≡ length b.taken.taken))) }
         ensures none { IfOk result (λ o. o ≡ None → self.new.space ≡ self.old.space) }
         ensures err { OnErr result (IsFailedBy (counted_in (length datagram.now) self.old) self.new) }
         ensures wanting { OnErr result (IsDatagramUnread (S.accepts self.old.session) now datagram.now (counted_in (length datagram.now) self.old)) }
@@ -177,7 +178,7 @@ impl<S: Session> Connection<S> {
         frames: &[ControlFrame],
         buf: &mut Vec<u8>,
     ) -> Result<Option<ControlSent>, Memory>
-        requires { AllByRecursion (MaySend self.old.side) frames.now }
+        requires { AllByRecursion (MaySend self.old.side self.old.config.peer_datagram) frames.now }
         ensures some { IfOk result (λ o. IfSome o (λ sent. IsControlSent (S.sealed self.old.session) now self.old self.new buf.old.items buf.new.items frames.now sent)) }
         ensures none { IfOk result (λ o. o ≡ None → (buf.new.items ≡ buf.old.items) × (self.new ≡ self.old) × IsControlKept self.old frames.now) }
         ensures err { OnErr result ((buf.new.items ≡ buf.old.items) × IsFailedBy self.old self.new) }
@@ -210,23 +211,31 @@ impl<S> Connection<S> {
         self.inner.poll_timeout()
     }
 
-    /// The peer's hello was read: it told the peer's first limits, and with this end's own the idle time in force; the packets that brought
-    /// it told the id under which the peer hears (RFC 9000, sections 7.2, 10.1 and 18.2). The end begins anew with these, as if nothing
+    /// The peer's hello was read: it told the peer's first limits, the longest payload of a DATAGRAM frame that it takes, None if it takes
+    /// none, and with this end's own the idle time in force; the packets that brought it told the id under which the peer hears (RFC 9000,
+    /// sections 7.2, 10.1 and 18.2; RFC 9221, section 3). The end begins anew with these, as if nothing
     /// had been done with it: nothing that was done before may concern packets of application data. A client has a PING to send then, from
     /// whose packet the server learns that the client has its hello. It takes no memory.
-    pub fn greet(&mut self, peer: PeerLimits, remote_id: ConnectionId, timeout: Option<Span>)
+    pub fn greet(
+        &mut self,
+        peer: PeerLimits,
+        peer_datagram: Option<u64>,
+        remote_id: ConnectionId,
+        timeout: Option<Span>,
+    )
         requires { is_open self.old.state ≡ true }
         ensures space { IsNewSpace self.new.config self.new.side self.new.space }
         ensures ping { self.new.space.is_ping_due ≡ is_client self.old.side }
         ensures rest { self.new ≡ record self.old {
           remote_id = remote_id;
-          config = record self.old.config { peer = peer; idle = timeout };
+          config = record self.old.config { peer = peer; peer_datagram = peer_datagram; idle = timeout };
           space = self.new.space;
           idle = record self.old.idle { timeout = timeout };
         } }
         ensures follows { Follows self.new [] }
     {
-        self.inner.greet(self.alloc, peer, remote_id, timeout);
+        self.inner
+            .greet(self.alloc, peer, peer_datagram, remote_id, timeout);
     }
 
     /// What happened next, for the application. None exactly where nothing is left to be told.
@@ -335,13 +344,6 @@ impl<S> Connection<S> {
         ensures { result ≡ is_drained self.now.state }
     {
         self.inner.state.is_drained()
-    }
-
-    /// Whether the handshake isn't complete: there is none yet, so it never is.
-    pub fn is_handshaking(&self) -> bool
-        ensures { result ≡ false }
-    {
-        false
     }
 
     /// Which end this is.

@@ -1,4 +1,4 @@
-ghost use Rattle.std.specs.Prelude.{◌≡◌, ◌≤◌, ◌++◌, OnOk, IfOk, length, take};
+ghost use Rattle.std.specs.Prelude.{◌≡◌, ◌≤◌, ◌++◌, ℕ, Option, OnOk, IfOk, length, take};
 ghost use Rattle.std.specs.List.{AllByRecursion};
 ghost use Rattle.qh_core.specs.Control.{AreControl, MaySend, control_bytes, control_frame, fitting};
 ghost use Rattle.qh_frame.specs.FrameBytes.{frame_bytes};
@@ -7,10 +7,10 @@ ghost use Rattle.qh_spec.specs.declared.sides.Side.{Side as ASide};
 
 use bytes::Bytes;
 use qh_base::{ConnectionId, Memory, ResetToken, Transmit, VarInt};
-use qh_frame::{put_new_connection_id, put_new_token, put_retire_connection_id};
+use qh_frame::{put_datagram, put_new_connection_id, put_new_token, put_retire_connection_id};
 
 /// A frame of a connection's own, beside those of its streams: whoever hands it in keeps it until its packet is acknowledged, and
-/// hands it in again if it was lost.
+/// hands it in again if it was lost, unless it is a datagram.
 #[derive(Drop)]
 pub enum ControlFrame {
     /// A token for a later attempt, from a server (RFC 9000, section 19.7). It isn't empty.
@@ -29,6 +29,10 @@ pub enum ControlFrame {
     RetireConnectionId {
         sequence: VarInt,
     },
+    /// A datagram of the application's, never sent again (RFC 9221, section 4). It has at most 1,140 bytes.
+    Datagram {
+        payload: Bytes,
+    },
 }
 
 /// A datagram of frames of a connection's own.
@@ -45,7 +49,7 @@ pub struct ControlSent {
 impl ControlFrame {
     // Appends the frame.
     fn put(&self, out: &mut Vec<u8>) -> Result<(), Memory>
-        requires { (side : ASide) × MaySend side self.now }
+        requires { (side : ASide) × (most : Option ℕ) × MaySend side most self.now }
         ensures put { OnOk result (out.new.items ≡ out.old.items ++ frame_bytes (control_frame self.now)) }
         ensures read_back { OnOk result (IsReadBack (control_frame self.now)) }
     {
@@ -60,6 +64,7 @@ impl ControlFrame {
             ControlFrame::RetireConnectionId { sequence } => {
                 put_retire_connection_id(out, *sequence)
             }
+            ControlFrame::Datagram { payload } => put_datagram(out, payload.as_slice()),
         }
     }
 }
@@ -70,7 +75,7 @@ pub(crate) fn put_control(
     frames: &[ControlFrame],
     room: usize,
 ) -> Result<usize, Memory>
-    requires { (side : ASide) × AllByRecursion (MaySend side) frames.now }
+    requires { (side : ASide) × (most : Option ℕ) × AllByRecursion (MaySend side most) frames.now }
     ensures count { IfOk result (λ count. count ≡ fitting room frames.now) }
     ensures put { OnOk result (out.new.items ≡ out.old.items ++ control_bytes (take (fitting room frames.now) frames.now)) }
     ensures fits { OnOk result (length (control_bytes (take (fitting room frames.now) frames.now)) ≤ room) }

@@ -12,6 +12,7 @@ mod events;
 mod receiving;
 mod sending;
 mod timeouts;
+mod turning;
 
 use crate::{ConnConfig, ConnectionStats, IdleTimer, State, UdpStats};
 use qh_base::{ConnectionError, ConnectionId, FourTuple, Moment, Side, Span};
@@ -109,12 +110,13 @@ impl<S> Inner<S> {
         }
     }
 
-    // The peer's hello told its first limits and the idle time in force, and the packets that brought it the peer's id: the end begins
+    // The peer's hello told its first limits, which datagrams it takes and the idle time in force, and the packets that brought it the peer's id: the end begins
     // anew with them.
     pub(crate) fn greet(
         &mut self,
         alloc: Global,
         peer: PeerLimits,
+        peer_datagram: Option<u64>,
         remote_id: ConnectionId,
         timeout: Option<Span>,
     )
@@ -127,7 +129,7 @@ impl<S> Inner<S> {
         ensures ping { self.new.space.is_ping_due ≡ is_client self.old.side }
         ensures rest { self.new ≡ record self.old {
           remote_id = remote_id;
-          config = record self.old.config { peer = peer; idle = timeout };
+          config = record self.old.config { peer = peer; peer_datagram = peer_datagram; idle = timeout };
           space = self.new.space;
           idle = record self.old.idle { timeout = timeout };
         } }
@@ -135,6 +137,7 @@ impl<S> Inner<S> {
         self.remote_id = remote_id;
         self.config = ConnConfig {
             peer,
+            peer_datagram,
             idle: timeout,
             ..self.config
         };
@@ -165,7 +168,7 @@ impl<S> Inner<S> {
 
     // Want of memory in the middle of a step: the connection is lost and drained, and all that it held of its streams is
     // dropped, with the log of what they were brought. The counts of lost packets and of probes stay.
-    fn fail(&mut self, alloc: Global, stats: ConnectionStats)
+    pub(crate) fn fail(&mut self, alloc: Global, stats: ConnectionStats)
         ensures failed { IsFailedBy self.old self.new }
         ensures counts { (self.new.space.packets_lost ≡ stats.packets_lost) × (self.new.space.probes_sent ≡ stats.probes) }
         ensures connection { IsConnection self.new }

@@ -34,6 +34,11 @@ pub fn lawful<S>()
         → IsWithinLimits (length c.local_id) (length c.remote_id) c.side c.config before datagram }
 {}
 
+/// A session that was told more, or another one, leaves how a connection stands to all that was done with it.
+pub fn other_session<S>()
+    ensures follows { (c : AnInner S) (s : S) (t : List Act) → Follows c t → Follows (record c { session = s }) t }
+{}
+
 /// What arrival over a link that gives datagrams in time rests on. An open connection stands to the packets that it sent and
 /// accepted so that what is out awaits its acknowledgement, and what came and wants one is acknowledged or about to be. Once
 /// `poll_transmit` was asked, all that came and wants it is acknowledged, and what waits is sent or held by the window, and that

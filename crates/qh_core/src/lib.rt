@@ -4,6 +4,7 @@
 //! The session is plain and INSECURE: it has no cipher, and whoever can write datagrams can forge them.
 #![tactic(auto)]
 
+mod accepted;
 mod config;
 mod connection;
 mod control;
@@ -17,6 +18,7 @@ mod state;
 mod stats;
 mod waiting;
 
+pub use accepted::Accepted;
 pub use config::{ConnConfig, first_limits};
 pub use connection::Connection;
 pub use control::{ControlFrame, ControlSent};
@@ -24,7 +26,7 @@ pub use event::{ConnectionEvent, EndpointEvent, Event};
 pub use fault::TakeFault;
 pub use idle::IdleTimer;
 pub use inner::Inner;
-pub use laws::{in_time, lawful, progress};
+pub use laws::{in_time, lawful, other_session, progress};
 pub use making::{made, made_together};
 pub use qh_base::{Side, Space};
 pub use qh_packet::{PlainData, PlainSession, Session};

@@ -9,7 +9,7 @@ ghost use Rattle.qh_buffers.specs.declared.assembler.Chunk.{Chunk as AChunk};
 ghost use Rattle.qh_core.specs.Event.{IsDrainedTold, IsPolledEvent};
 ghost use Rattle.qh_core.specs.Follows.{Follows, control_acts, event_acts, transmit_acts, write_acts, write_chunks_acts, finish_acts, reset_by_acts, stop_acts, take_acts, received_reset_acts};
 ghost use Rattle.qh_core.specs.Inner.{IsFailedBy, IsSameEnd, is_open, with_streams};
-ghost use Rattle.qh_core.specs.Made.{AcceptsTags, MakesTagsOf, IsMade, IsMadeLocally, IsMadeOnStreams, AreMade, AreMadeLocally, AreMadeOnStreams};
+ghost use Rattle.qh_core.specs.Made.{AcceptsTags, MakesTagsOf, IsMade, IsMadeLocally, IsMadeOnStreams, IsTurned, AreMade, AreMadeLocally, AreMadeOnStreams};
 ghost use Rattle.qh_core.specs.Receiving.{IsClosedWith, IsEventTaken, IsWantingFor, handed_at, received};
 ghost use Rattle.qh_core.specs.Sending.{ClosesReadBack, IsControlKept, IsControlSent, IsDatagramMade, NothingIsSent};
 ghost use Rattle.qh_core.specs.Streams.{IsRead, IsReadFault, IsWriteRefused};
@@ -57,6 +57,8 @@ pub fn made<S>()
     ensures poll { (told : Option ATold) (old new : AnInner S) → IsPolledEvent old new told
         → ((t : List Act) → Follows old t → Follows new t) → IsSameEnd old new → IsMadeLocally old new [] }
     ensures endpoint { (told : Option AnEndpointEvent) (old new : AnInner S) → IsDrainedTold old new told
+        → ((t : List Act) → Follows old t → Follows new t) → IsSameEnd old new → IsMadeLocally old new [] }
+    ensures turned { (old new : AnInner S) → IsTurned old new
         → ((t : List Act) → Follows old t → Follows new t) → IsSameEnd old new → IsMadeLocally old new [] }
     ensures open { (dir : ADir) (result : Result (Option AStreamId) OutOfMemory) (old new : AnInner S)
         → IfOk result (λ o. IfSome o (λ id. (is_open old.state ≡ true) × (id.0 ≡ stream_id old.space.streams.side dir (counts_of old.space.streams (is_two_way dir)).opened)

@@ -1,8 +1,10 @@
-ghost use Rattle.std.specs.Prelude.{◌≡◌};
+ghost use Rattle.std.specs.Prelude.{◌≡◌, true, false, MatchOption};
+ghost use Rattle.qh_base.specs.declared.time.Moment.{Moment as AMoment};
 ghost use Rattle.qh_core.specs.Event.{is_drained};
 ghost use Rattle.qh_core.specs.Inner.{is_open};
 ghost use Rattle.qh_core.specs.Sending.{is_close_due, without_close_due};
 ghost use Rattle.qh_core.specs.Timers.{ends_at};
+ghost use Rattle.qh_core.specs.declared.state.State.TheVariants.{Closed};
 
 use qh_base::{ApplicationClose, ConnectionClose, Moment};
 
@@ -60,6 +62,20 @@ impl State {
         match self {
             State::Closed { is_close_due, .. } => *is_close_due,
             _ => false,
+        }
+    }
+
+    // What the CONNECTION_CLOSE says that is to be sent.
+    pub(crate) fn close_due(&self) -> Option<&Close>
+        ensures { MatchOption result (is_close_due self.now ≡ false) (λ close. (until : AMoment) × (self.now ≡ Closed close.now true until)) }
+    {
+        match self {
+            State::Closed {
+                reason,
+                is_close_due: true,
+                ..
+            } => Some(reason),
+            _ => None,
         }
     }
 

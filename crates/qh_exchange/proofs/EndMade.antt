@@ -1,5 +1,5 @@
 -- An end that calls made another goes on standing to all that was done with it.
-use Rattle.std.proofs.Common.{◌≡◌, ◌≤◌, ℕ, Some, List, ◌++◌, refl, sym, ◌∙◌, ap, subst, length}
+use Rattle.std.proofs.Common.{◌≡◌, ◌≤◌, ℕ, Some, List, ◌++◌, sym, ◌∙◌, ap, subst, length}
 use Rattle.qh_arrival.proofs.AccordsOn.{made_accords}
 use Rattle.qh_arrival.specs.Accord.{Accords, AreTags}
 use Rattle.qh_core.proofs.MadeTogether.{all_same}
@@ -27,7 +27,7 @@ stays : (side : Side) (id_length : ℕ) (config : ConnConfig) (c d : End) → Is
 stays side id_length config c d same session e = record {
   side_is = same.side ∙ e.side_is;
   local = ap length same.local_id ∙ e.local;
-  remote = ap length same.remote_id ∙ e.remote;
+  remote = same.remote_length ∙ e.remote;
   config_is = same.config ∙ e.config_is;
   short = subst (λ (keys : PlainKeys). length keys.key_id ≤ 20) (sym session) e.short;
 }

@@ -19,7 +19,7 @@ same_session old new _ (nothing_told polled why is) = ap (λ (c : End). c.sessio
 -- none was told
 pub polled_none : (c : End) → IsPolledOut c c
 polled_none c = record {
-  same_end = record { side = refl; local_id = refl; remote_id = refl; config = refl };
+  same_end = record { side = refl; local_id = refl; remote_length = refl; config = refl };
   counts = record { bi_opened = refl; bi_accepted = refl; uni_opened = refl; uni_accepted = refl };
   idle_is = refl;
   error_is = refl;
@@ -37,7 +37,7 @@ polled_on first old new told so_far tells kept same made =
     let n = so_far.counts in
     let m = kept.0 in
     record {
-      same_end = record { side = same.side ∙ a.side; local_id = same.local_id ∙ a.local_id; remote_id = same.remote_id ∙ a.remote_id; config = same.config ∙ a.config };
+      same_end = record { side = same.side ∙ a.side; local_id = same.local_id ∙ a.local_id; remote_length = same.remote_length ∙ a.remote_length; config = same.config ∙ a.config };
       counts = record {
         bi_opened = m.bi_opened ∙ n.bi_opened;
         bi_accepted = m.bi_accepted ∙ n.bi_accepted;

@@ -3,7 +3,7 @@ use Rattle.std.proofs.Common.{◌≡◌, ◌⊎◌, inl, inr, ◌≤◌, Bool, t
 use Rattle.qh_base.specs.declared.connection_error.ConnectionError.{ConnectionError}
 use Rattle.qh_base.specs.declared.time.Moment.{Moment}
 use Rattle.qh_conduct.proofs.PeersOn.{same_peers}
-use Rattle.qh_conduct.specs.Restarting.{IsCounting, IsSealed}
+use Rattle.qh_conduct.specs.Restarting.{IsCounting, IsSealedTo}
 use Rattle.qh_core.proofs.Ends.{ended_with}
 use Rattle.qh_core.specs.Inner.{IsSameEnd, is_open}
 use Rattle.qh_core.specs.Receiving.{GoesOnWith, IsDatagramTaken, IsPacketHandled}
@@ -109,7 +109,7 @@ sound_failed now side c d more q tc tq whole is lost joined given = cc
 -- the end was given nothing, and sent only what has its tag
 pub sound_ungiven : (now : Moment) (side : Side) (c d : End) (more : List Event) → IsSameEnd c d → d.session ≡ c.session → (is_open c.state ≡ true → is_open d.state ≡ true)
     → (is_open d.state ≡ true → c.error ≡ None → d.error ≡ None) → given_to side more ≡ []
-    → ((datagram : List ℕ) → c.side ≡ side → In datagram (sent_by side more) → IsSealed (tag_bytes c.session.key_id) side c.remote_id datagram) → Sounds true now side c d more
+    → ((datagram : List ℕ) → c.side ≡ side → In datagram (sent_by side more) → IsSealedTo (tag_bytes c.session.key_id) side (length c.remote_id) datagram) → Sounds true now side c d more
 sound_ungiven now side c d more same session opens lost none sealed q tc tq whole is here joined given = record {
   same_end = same;
   session_is = session;
@@ -120,11 +120,11 @@ sound_ungiven now side c d more same session opens lost none sealed q tc tq whol
 }
 
 pub sound_sent : (now : Moment) (side : Side) (c d : End) (datagram : List ℕ) → IsSameEnd c d → d.session ≡ c.session → is_open d.state ≡ true → (is_open d.state ≡ true → d.error ≡ None)
-    → IsSealed (tag_bytes c.session.key_id) c.side c.remote_id datagram → Sounds true now side c d (Sent side datagram ∷ [])
+    → IsSealedTo (tag_bytes c.session.key_id) c.side (length c.remote_id) datagram → Sounds true now side c d (Sent side datagram ∷ [])
 sound_sent now side c d datagram same session opens lost sealed =
     sound_ungiven now side c d (Sent side datagram ∷ []) same session (λ _. opens) (λ up here. lost up) refl
-    (λ g is i. elim (subst (λ (z : List (List ℕ)). In g z) (sent_one side datagram) i) as (λ _. IsSealed (tag_bytes c.session.key_id) side c.remote_id g) [
-      | inl e ↦ subst (λ (z : List ℕ). IsSealed (tag_bytes c.session.key_id) side c.remote_id z) e (subst (λ (z : Side). IsSealed (tag_bytes c.session.key_id) z c.remote_id datagram) is sealed)
+    (λ g is i. elim (subst (λ (z : List (List ℕ)). In g z) (sent_one side datagram) i) as (λ _. IsSealedTo (tag_bytes c.session.key_id) side (length c.remote_id) g) [
+      | inl e ↦ subst (λ (z : List ℕ). IsSealedTo (tag_bytes c.session.key_id) side (length c.remote_id) z) e (subst (λ (z : Side). IsSealedTo (tag_bytes c.session.key_id) z (length c.remote_id) datagram) is sealed)
       | inr n ↦ absurd n
     ])
 
@@ -158,7 +158,7 @@ sound_given now side c d datagram same session lost opens restarts q tc tq whole
 joined_on : (now : Moment) (side : Side) (c d q : End) (tc tq acts : List Act) (more : List Event) → AreJoined c q tc tq → StaysSound now side c d tc more → IsMadeBy c d acts
     → wire acts ≡ told_acts side more → ((datagram : List ℕ) → In datagram (given_to side more) → In datagram (handed_out tq)) → AreJoined d q (tc ++ acts) tq
 joined_on now side c d q tc tq acts more j s made told given = record {
-  peers = same_peers c q d q s.same_end (record { side = refl; local_id = refl; remote_id = refl; config = refl }) j.peers;
+  peers = same_peers c q d q s.same_end (record { side = refl; local_id = refl; remote_length = refl; config = refl }) j.peers;
   key_is = j.key_is ∙ sym (ap (λ (z : PlainKeys). z.key_id) s.session_is);
   short = subst (λ (z : PlainKeys). length z.key_id ≤ 20) (sym s.session_is) j.short;
   linked = record {
@@ -191,17 +191,17 @@ stays_trans now side c d e tc acts x y a b runs told = record {
   same_end = record {
     side = b.same_end.side ∙ a.same_end.side;
     local_id = b.same_end.local_id ∙ a.same_end.local_id;
-    remote_id = b.same_end.remote_id ∙ a.same_end.remote_id;
+    remote_length = b.same_end.remote_length ∙ a.same_end.remote_length;
     config = b.same_end.config ∙ a.same_end.config;
   };
   session_is = b.session_is ∙ a.session_is;
   up = b.up;
   not_lost = b.not_lost;
-  sealed = λ g i. elim (in_split g (sent_by side x) (sent_by side y) (subst (λ (z : List (List ℕ)). In g z) (sent_by-append side x y) i)) as (λ _. IsSealed (tag_bytes c.session.key_id) side c.remote_id g) [
+  sealed = λ g i. elim (in_split g (sent_by side x) (sent_by side y) (subst (λ (z : List (List ℕ)). In g z) (sent_by-append side x y) i)) as (λ _. IsSealedTo (tag_bytes c.session.key_id) side (length c.remote_id) g) [
     | inl f ↦ a.sealed g f
     | inr f ↦
-        subst (λ (z : PlainKeys). IsSealed (tag_bytes z.key_id) side c.remote_id g) a.session_is
-        (subst (λ (z : List ℕ). IsSealed (tag_bytes d.session.key_id) side z g) a.same_end.remote_id (b.sealed g f))
+        subst (λ (z : PlainKeys). IsSealedTo (tag_bytes z.key_id) side (length c.remote_id) g) a.session_is
+        (subst (λ (z : ℕ). IsSealedTo (tag_bytes d.session.key_id) side z g) a.same_end.remote_length (b.sealed g f))
   ];
   restarted = λ before after g is counts. elim (split_at (Given side g) x y before after is) as (λ _. e.idle.since ≡ now) [
     | inl r ↦ (elim runs.since as (λ _. e.idle.since ≡ now) [ inl same ↦ same ∙ a.restarted before r.0 g r.1 counts | inr from ↦ from ])

@@ -60,10 +60,10 @@ quiet_more u v a b s = (
 -- ---- what no datagram tells
 
 pub same_end_refl : (c : End) → IsSameEnd c c
-same_end_refl c = record { side = refl; local_id = refl; remote_id = refl; config = refl }
+same_end_refl c = record { side = refl; local_id = refl; remote_length = refl; config = refl }
 
 pub same_end_trans : (c d e : End) → IsSameEnd c d → IsSameEnd d e → IsSameEnd c e
-same_end_trans c d e a b = record { side = b.side ∙ a.side; local_id = b.local_id ∙ a.local_id; remote_id = b.remote_id ∙ a.remote_id; config = b.config ∙ a.config }
+same_end_trans c d e a b = record { side = b.side ∙ a.side; local_id = b.local_id ∙ a.local_id; remote_length = b.remote_length ∙ a.remote_length; config = b.config ∙ a.config }
 
 runs_on_trans : (now : Moment) (x y z : IdleTimer) → RunsOn now x y → RunsOn now y z → RunsOn now x z
 runs_on_trans now x y z a b =

@@ -100,7 +100,7 @@ sound_ticked now side ids config events c m d None s p e opens h =
     let clock : d.idle ≡ c.idle = p.idle_is ∙ s.idle_is in
     record {
       local_is = same.local_id ∙ h.local_is;
-      remote_is = same.remote_id ∙ h.remote_is;
+      remote_is = same.remote_length ∙ h.remote_is;
       key_is = ap (λ (z : PlainKeys). z.key_id) (p.session_is ∙ s.session_is) ∙ h.key_is;
       timeout_is = ap (λ (z : IdleTimer). z.timeout) clock ∙ h.timeout_is;
       up = opens refl;

@@ -50,8 +50,9 @@ step_client w now p c t u r K counted some st = record {
   sound = λ whole events entries run honest by s. record {
     fits = s.fits;
     knows = s.knows;
+    takes = s.takes;
     lengths = s.lengths;
-    client = keeps Client p.ids p.config (id_length p) now p.client_end c p.server_end events st.more run.client.acts run.server.acts some honest by s.knows s.fits s.lengths.1
+    client = keeps Client p.ids p.config (id_length p) now p.client_end c p.server_end events st.more run.client.acts run.server.acts some honest by s.knows s.takes s.fits s.lengths.1
         st.silent run.client.at run.server.at (subst (λ (z : Bool). IsEndUndisturbed z now p.client_end c) whole st.undisturbed)
         (subst (λ (z : Bool). KeepsSound z now Client p.client_end c st.more) whole st.sound) s.client s.server;
     server = waits Server p.ids p.config p.server_end events st.more st.silent s.server;
@@ -91,9 +92,10 @@ step_server w now p c t u r K counted some st = record {
   sound = λ whole events entries run honest by s. record {
     fits = s.fits;
     knows = s.knows;
+    takes = s.takes;
     lengths = s.lengths;
     client = waits Client p.ids p.config p.client_end events st.more st.silent s.client;
-    server = keeps Server p.ids p.config (id_length p) now p.server_end c p.client_end events st.more run.server.acts run.client.acts some honest by s.knows s.fits s.lengths.1
+    server = keeps Server p.ids p.config (id_length p) now p.server_end c p.client_end events st.more run.server.acts run.client.acts some honest by s.knows s.takes s.fits s.lengths.1
         st.silent run.server.at run.client.at (subst (λ (z : Bool). IsEndUndisturbed z now p.server_end c) whole st.undisturbed)
         (subst (λ (z : Bool). KeepsSound z now Server p.server_end c st.more) whole st.sound) s.server s.client;
   };
@@ -121,6 +123,7 @@ still_opens_client p now c counted none new names =
       sound = λ events entries run s. record {
         fits = s.fits;
         knows = s.knows;
+        takes = s.takes;
         lengths = s.lengths;
         client = opens Client p.ids p.config (id_length p) now p.client_end c events run.client.acts none new names run.client.at;
         server = s.server;
@@ -147,6 +150,7 @@ still_opens_server p now c counted none new names =
       sound = λ events entries run s. record {
         fits = s.fits;
         knows = s.knows;
+        takes = s.takes;
         lengths = s.lengths;
         client = s.client;
         server = opens Server p.ids p.config (id_length p) now p.server_end c events run.server.acts none new names run.server.at;
@@ -231,6 +235,7 @@ step_ticks now p c d client server t r counted sc ss tc ts fc fs =
     record {
       fits = s.fits;
       knows = s.knows;
+      takes = s.takes;
       lengths = s.lengths;
       client = subst (λ (z : Option ConnectionError). MatchOption z (IsSoundAt Client p.ids p.config c events) (λ e. IsLostFairly now e p.client_end)) well.0
           (fc p.ids p.config events s.client);

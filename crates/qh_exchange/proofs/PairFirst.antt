@@ -1,6 +1,9 @@
 -- A pair before its first turn.
 use Rattle.std.proofs.Common.{◌≡◌, ◌≤◌, Bool, true, List, [], ◌∷◌, Option, Some, None, refl, sym, subst, arith, length}
 use Rattle.std.specs.Prelude.{not}
+use Rattle.std.proofs.lemmas.Option.{none-some}
+use Rattle.qh_conduct.specs.Peers.{TakesFrom}
+use Rattle.qh_core.specs.declared.config.ConnConfig.{ConnConfig}
 use Rattle.qh_roles.specs.Client.{PlainClient, Asking, held}
 use Rattle.qh_roles.specs.Server.{Serving}
 use Rattle.qh_spec.specs.Config.{Fits, PlainConfig}
@@ -78,6 +81,7 @@ sound_first p config events none_c none_s is fits same key =
     record {
       fits = rw is (omega (arith, bidi), omega (arith, uni));
       knows = rw is refl;
+      takes = subst (λ (z : ConnConfig). TakesFrom z z) (sym is) (λ n none. absurd (none-some n none));
       lengths = (same, omega (arith, key, first));
       client = subst (λ (z : Option End). IsSoundAt Client p.ids p.config z events) (sym none_c) tt;
       server = subst (λ (z : Option End). IsSoundAt Server p.ids p.config z events) (sym none_s) tt;
@@ -92,7 +96,7 @@ pub asked_running : (p : PairState) (c : PlainClient) (events : List Event) (ent
 unfolding Running
 asked_running p c events entries none asking next run = record {
   running = asks_first (not p.is_over) p c events entries none asking next run.running;
-  sound = λ e honest. let s = run.sound e honest in record { fits = s.fits; knows = s.knows; lengths = s.lengths; client = s.client; server = s.server };
+  sound = λ e honest. let s = run.sound e honest in record { fits = s.fits; knows = s.knows; takes = s.takes; lengths = s.lengths; client = s.client; server = s.server };
 }
 
 -- no more answers are held than there are places for them

@@ -65,6 +65,7 @@ client_asks p q counted going polled is =
       sound = λ events entries run s. record {
         fits = s.fits;
         knows = s.knows;
+        takes = s.takes;
         lengths = s.lengths;
         client = rests Client p.ids p.config p.client_end q.client_end b d events polled.before_is polled.after_is polled.rest s.client;
         server = s.server;
@@ -115,6 +116,7 @@ server_serves now p q t r s counted going polled is =
           (record {
             fits = s.fits;
             knows = s.knows;
+            takes = s.takes;
             lengths = s.lengths;
             client = s.client;
             server = rests Server p.ids p.config p.server_end q.server_end b d events polled.before_is polled.after_is polled.rest s.server;

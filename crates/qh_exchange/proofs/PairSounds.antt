@@ -3,7 +3,8 @@ use Rattle.std.proofs.Common.{◌≡◌, inl, inr, ◌^◌, ◌≤◌, true, Lis
 use Rattle.std.specs.Prelude.{MatchOption, is_some}
 use Rattle.qh_base.specs.declared.connection_error.ConnectionError.{ConnectionError}
 use Rattle.qh_base.specs.declared.time.Moment.{Moment}
-use Rattle.qh_conduct.specs.Restarting.{IsCounting, IsSealed}
+use Rattle.qh_conduct.specs.Peers.{TakesFrom}
+use Rattle.qh_conduct.specs.Restarting.{IsCounting, IsSealedTo}
 use Rattle.qh_core.specs.Config.{peer_of}
 use Rattle.qh_core.specs.Inner.{is_open, with_streams}
 use Rattle.qh_core.specs.Timers.{IsUndisturbed}
@@ -32,23 +33,29 @@ pub other_twice : (s : Side) → other (other s) ≡ s
 other_twice Client = refl
 other_twice Server = refl
 
+-- two ends with one config take what they send
+both_take : (config taker sender : ConnConfig) → config ≡ taker → config ≡ sender → TakesFrom config config → TakesFrom taker sender
+both_take config taker sender first second takes = subst (λ (z : ConnConfig). TakesFrom z sender) first (subst (λ (z : ConnConfig). TakesFrom config z) second takes)
+
 -- two ends that are sound are joined, where their link is honest
 joined : (side : Side) (ids : Ids) (config : ConnConfig) (k : ℕ) (c q : End) (events : List Event) (t u : List Act) → IsHonest events
-    → config.peer ≡ peer_of config.limits
+    → config.peer ≡ peer_of config.limits → TakesFrom config config
     → (config.limits.max_bidi ≤ 2 ^ 60) × (config.limits.max_uni ≤ 2 ^ 60) → length ids.key ≤ 20
     → EndAt true side k config (Some c) events t → EndAt true (other side) k config (Some q) events u
     → IsSoundEnd side ids config c events → IsSoundEnd (other side) ids config q events → AreJoined c q t u
-joined side ids config k c q events t u honest knows fits short at to s r =
-    let remote : q.remote_id ≡ own_id side ids = r.remote_is ∙ ap (λ (z : Side). own_id z ids) (other_twice side) in
+joined side ids config k c q events t u honest knows takes fits short at to s r =
+    let remote : length q.remote_id ≡ length (own_id side ids) = r.remote_is ∙ ap (λ (z : Side). length (own_id z ids)) (other_twice side) in
     record {
       peers = record {
         sides = to.stands.0.side_is ∙ ap other (sym at.stands.0.side_is);
-        there = remote ∙ sym s.local_is;
-        back = s.remote_is ∙ sym r.local_is;
+        there = remote ∙ sym (ap length s.local_is);
+        back = s.remote_is ∙ sym (ap length r.local_is);
         known = ap (λ (z : ConnConfig). z.peer) to.stands.0.config_is ∙ knows ∙ ap (λ (z : ConnConfig). peer_of z.limits) (sym at.stands.0.config_is);
         knows = ap (λ (z : ConnConfig). z.peer) at.stands.0.config_is ∙ knows ∙ ap (λ (z : ConnConfig). peer_of z.limits) (sym to.stands.0.config_is);
         fits = subst (λ (z : ConnConfig). (z.limits.max_bidi ≤ 2 ^ 60) × (z.limits.max_uni ≤ 2 ^ 60)) (sym at.stands.0.config_is) fits;
         fits_back = subst (λ (z : ConnConfig). (z.limits.max_bidi ≤ 2 ^ 60) × (z.limits.max_uni ≤ 2 ^ 60)) (sym to.stands.0.config_is) fits;
+        datagrams = both_take config c.config q.config (sym at.stands.0.config_is) (sym to.stands.0.config_is) takes;
+        datagrams_back = both_take config q.config c.config (sym to.stands.0.config_is) (sym at.stands.0.config_is) takes;
       };
       key_is = r.key_is ∙ sym s.key_is;
       short = subst (λ (z : List ℕ). length z ≤ 20) (sym s.key_is) short;
@@ -63,9 +70,9 @@ joined side ids config k c q events t u honest knows fits short at to s r =
       peer_accords = to.stands.1;
       sealed = λ d i.
           let old = r.sealed d (subst (λ (z : List (List ℕ)). In d z) (whole_out (other side) events u to.told) i) in
-          subst (λ (z : List ℕ). IsSealed (tag_bytes z) q.side q.remote_id d) (sym r.key_is)
-          (subst (λ (z : Side). IsSealed (tag_bytes ids.key) z q.remote_id d) (sym to.stands.0.side_is)
-          (subst (λ (z : List ℕ). IsSealed (tag_bytes ids.key) (other side) z d) (sym r.remote_is) old));
+          subst (λ (z : List ℕ). IsSealedTo (tag_bytes z) q.side (length q.remote_id) d) (sym r.key_is)
+          (subst (λ (z : Side). IsSealedTo (tag_bytes ids.key) z (length q.remote_id) d) (sym to.stands.0.side_is)
+          (subst (λ (z : ℕ). IsSealedTo (tag_bytes ids.key) (other side) z d) (sym r.remote_is) old));
       up = s.up;
       peer_open = r.up;
       peer_not_lost = r.not_lost;
@@ -77,7 +84,7 @@ stays : (side : Side) (ids : Ids) (config : ConnConfig) (now : Moment) (c d : En
     → IsSoundEnd side ids config c events → IsSoundEnd side ids config d (events ++ more)
 stays side ids config now c d events more t given by u st s = record {
   local_is = st.same_end.local_id ∙ s.local_is;
-  remote_is = st.same_end.remote_id ∙ s.remote_is;
+  remote_is = st.same_end.remote_length ∙ s.remote_is;
   key_is = ap (λ (z : PlainKeys). z.key_id) st.session_is ∙ s.key_is;
   timeout_is = u.idle.timeout ∙ s.timeout_is;
   up = st.up;
@@ -85,8 +92,8 @@ stays side ids config now c d events more t given by u st s = record {
   sealed = λ x i. elim (in_split x (sent_by side events) (sent_by side more) (subst (λ (z : List (List ℕ)). In x z) (sent_by-append side events more) i)) [
     | inl a ↦ s.sealed x a
     | inr b ↦
-        subst (λ (z : List ℕ). IsSealed (tag_bytes z) side (own_id (other side) ids) x) s.key_is
-        (subst (λ (z : List ℕ). IsSealed (tag_bytes c.session.key_id) side z x) s.remote_is (st.sealed x b))
+        subst (λ (z : List ℕ). IsSealedTo (tag_bytes z) side (length (own_id (other side) ids)) x) s.key_is
+        (subst (λ (z : ℕ). IsSealedTo (tag_bytes c.session.key_id) side z x) s.remote_is (st.sealed x b))
   ];
   heard = heard_on (length (own_id side ids)) side now c d events more t given by u.idle s.heard
       (λ before after x is counts. st.restarted before after x is
@@ -95,16 +102,16 @@ stays side ids config now c d events more t given by u st s = record {
 
 -- an end went on, and its peer is there and did nothing meanwhile
 pub keeps : (side : Side) (ids : Ids) (config : ConnConfig) (k : ℕ) (now : Moment) (old new peer : Option End) (events more : List Event) (t u : List Act)
-    → is_some peer ≡ true → IsHonest (events ++ more) → AreBy now.0 (events ++ more) → config.peer ≡ peer_of config.limits → (config.limits.max_bidi ≤ 2 ^ 60) × (config.limits.max_uni ≤ 2 ^ 60) → length ids.key ≤ 20
+    → is_some peer ≡ true → IsHonest (events ++ more) → AreBy now.0 (events ++ more) → config.peer ≡ peer_of config.limits → TakesFrom config config → (config.limits.max_bidi ≤ 2 ^ 60) × (config.limits.max_uni ≤ 2 ^ 60) → length ids.key ≤ 20
     → told_acts (other side) more ≡ [] → EndAt true side k config old events t → EndAt true (other side) k config peer events u
     → IsEndUndisturbed true now old new → KeepsSound true now side old new more
     → IsSoundAt side ids config old events → IsSoundAt (other side) ids config peer events → IsSoundAt side ids config new (events ++ more)
-keeps side ids config k now None None peer events more t u some honest by knows fits short silent at to rest keep s r = tt
-keeps side ids config k now None (Some d) peer events more t u some honest by knows fits short silent at to rest keep s r = absurd rest
-keeps side ids config k now (Some c) None peer events more t u some honest by knows fits short silent at to rest keep s r = absurd rest
-keeps side ids config k now (Some c) (Some d) None events more t u some honest by knows fits short silent at to rest keep s r = cc
-keeps side ids config k now (Some c) (Some d) (Some q) events more t u some honest by knows fits short silent at to rest keep s r =
-    let joins : AreJoined c q t u = joined side ids config k c q events t u (honest_front events more honest) knows fits short at to s r in
+keeps side ids config k now None None peer events more t u some honest by knows takes fits short silent at to rest keep s r = tt
+keeps side ids config k now None (Some d) peer events more t u some honest by knows takes fits short silent at to rest keep s r = absurd rest
+keeps side ids config k now (Some c) None peer events more t u some honest by knows takes fits short silent at to rest keep s r = absurd rest
+keeps side ids config k now (Some c) (Some d) None events more t u some honest by knows takes fits short silent at to rest keep s r = cc
+keeps side ids config k now (Some c) (Some d) (Some q) events more t u some honest by knows takes fits short silent at to rest keep s r =
+    let joins : AreJoined c q t u = joined side ids config k c q events t u (honest_front events more honest) knows takes fits short at to s r in
     let sent : sent_by (other side) (events ++ more) ≡ handed_out u
     = sent_by-append (other side) events more ∙ (ap (λ (z : List (List ℕ)). sent_by (other side) events ++ z) (silent_sent_by (other side) more silent)
     ∙ (append-nil (sent_by (other side) events) ∙ sym (whole_out (other side) events u to.told))) in
@@ -159,7 +166,7 @@ rests side ids config old new c d events is_old is_new rest s =
     subst (λ (z : Option End). IsSoundAt side ids config z events) (sym is_new)
     (record {
       local_is = ap (λ (z : End). z.local_id) rest ∙ o.local_is;
-      remote_is = ap (λ (z : End). z.remote_id) rest ∙ o.remote_is;
+      remote_is = ap (λ (z : End). length z.remote_id) rest ∙ o.remote_is;
       key_is = ap (λ (z : End). z.session.key_id) rest ∙ o.key_is;
       timeout_is = ap (λ (z : IdleTimer). z.timeout) idle ∙ o.timeout_is;
       up = ap (λ (z : End). is_open z.state) rest ∙ o.up;

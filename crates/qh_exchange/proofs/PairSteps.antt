@@ -44,7 +44,7 @@ runs_over p over w events entries run = record {
 }
 
 pub sound_over : (p : PairState) (over : Bool) (events : List Event) → IsSound p events → IsSound (record p { is_over = over }) events
-sound_over p over events s = record { fits = s.fits; knows = s.knows; lengths = s.lengths; client = s.client; server = s.server }
+sound_over p over events s = record { fits = s.fits; knows = s.knows; takes = s.takes; lengths = s.lengths; client = s.client; server = s.server }
 
 -- whatever of its last act is told, some events tell of all that it did
 pub has_run : (w : Bool) (p : PairState) (events : List Event) (entries : List PlainEntry) → p.is_over ≡ true → length p.client.answers ≡ length p.client.requests → IsRunning w p events entries → HasRun p
@@ -239,6 +239,7 @@ step_waits now w p t u r more K counted cs ss e kind = record {
   sound = λ whole events entries run honest by s. record {
     fits = s.fits;
     knows = s.knows;
+    takes = s.takes;
     lengths = s.lengths;
     client = waits Client p.ids p.config p.client_end events more cs s.client;
     server = waits Server p.ids p.config p.server_end events more ss s.server;

@@ -2,6 +2,7 @@
 -- these lists.
 use Rattle.std.specs.Prelude.{◌≡◌, ℕ, ◌^◌, ◌≤◌, Bool, true, false, not, List, [], ◌∷◌, ◌++◌, Option, Some, None, Result, length, filter, slice_get, MatchBool}
 use Rattle.qh_arrival.specs.Accord.{Accords}
+use Rattle.qh_conduct.specs.Peers.{TakesFrom}
 use Rattle.qh_core.specs.Config.{peer_of}
 use Rattle.qh_core.specs.Made.{AreMade}
 use Rattle.qh_core.specs.declared.config.ConnConfig.{ConnConfig}
@@ -130,10 +131,12 @@ pub record IsRunning (is_whole : Bool) (p : PairState) (events : List Event) (en
   pub client : ClientAt is_whole p events
   pub server : ServerAt is_whole p events entries
 
--- The limits are such that a frame can say them, and each end knows the other's; so is the key; each end is sound.
+-- The limits are such that a frame can say them, and each end knows the other's; so is the key; either takes the DATAGRAM frames that the
+-- other may send; each end is sound.
 pub record IsSound (p : PairState) (events : List Event) : Type 0 where
   pub fits : (p.config.limits.max_bidi ≤ 2 ^ 60) × (p.config.limits.max_uni ≤ 2 ^ 60)
   pub knows : p.config.peer ≡ peer_of p.config.limits
+  pub takes : TakesFrom p.config p.config
   pub lengths : (length p.ids.server ≡ length p.ids.client) × (length p.ids.key ≤ 20)
   pub client : IsSoundAt Client p.ids p.config p.client_end events
   pub server : IsSoundAt Server p.ids p.config p.server_end events

@@ -1,4 +1,5 @@
 -- What the ends of a pair begin with, by the settings of an exchange.
+use Rattle.std.specs.Prelude.{None}
 use Rattle.std.specs.Option.{option_map}
 use Rattle.qh_core.specs.Config.{peer_of}
 use Rattle.qh_core.specs.declared.config.ConnConfig.{ConnConfig}
@@ -29,4 +30,6 @@ conn_config config = record {
   idle = option_map (λ n. record { 0 = n }) config.idle;
   initial_rtt = record { 0 = config.initial_rtt };
   initial_window = config.initial_window;
+  datagram_receive = None;
+  peer_datagram = None;
 }

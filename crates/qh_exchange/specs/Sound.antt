@@ -2,7 +2,7 @@
 -- counts.
 use Rattle.std.specs.Prelude.{◌≡◌, ℕ, ◌+◌, ◌≤◌, true, List, [], ◌∷◌, ◌++◌, Option, Some, None, Result, Err, length}
 use Rattle.qh_base.specs.declared.time.Span.{Span}
-use Rattle.qh_conduct.specs.Restarting.{IsCounting, IsSealed}
+use Rattle.qh_conduct.specs.Restarting.{IsCounting, IsSealedTo}
 use Rattle.qh_core.specs.Inner.{is_open}
 use Rattle.qh_core.specs.declared.config.ConnConfig.{ConnConfig}
 use Rattle.qh_core.specs.declared.inner.Inner.{Inner}
@@ -59,12 +59,12 @@ own_id Server ids = ids.server
 -- datagram that counts, or later.
 pub record IsSoundEnd (side : Side) (ids : Ids) (config : ConnConfig) (c : Inner PlainKeys) (events : List Event) : Type 0 where
   pub local_is : c.local_id ≡ own_id side ids
-  pub remote_is : c.remote_id ≡ own_id (other side) ids
+  pub remote_is : length c.remote_id ≡ length (own_id (other side) ids)
   pub key_is : c.session.key_id ≡ ids.key
   pub timeout_is : c.idle.timeout ≡ config.idle
   pub up : is_open c.state ≡ true
   pub not_lost : c.error ≡ None
-  pub sealed : (datagram : List ℕ) → In datagram (sent_by side events) → IsSealed (tag_bytes ids.key) side (own_id (other side) ids) datagram
+  pub sealed : (datagram : List ℕ) → In datagram (sent_by side events) → IsSealedTo (tag_bytes ids.key) side (length (own_id (other side) ids)) datagram
   pub heard : AtCounting (length (own_id side ids)) side events (λ m. m ≤ c.idle.since.0)
 
 abbrev pub IsSoundAt : Side → Ids → ConnConfig → Option (Inner PlainKeys) → List Event → Type 0

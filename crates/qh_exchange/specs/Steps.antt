@@ -5,7 +5,7 @@ use Rattle.qh_base.specs.declared.connection_error.ConnectionError.TheVariants a
 use Rattle.qh_base.specs.declared.time.Moment.{Moment}
 use Rattle.qh_base.specs.declared.time.Span.{Span}
 use Rattle.qh_conduct.specs.Peers.{AreLinked, ArePeers}
-use Rattle.qh_conduct.specs.Restarting.{AreSealed, IsCounting, IsSealed}
+use Rattle.qh_conduct.specs.Restarting.{AreSealed, IsCounting, IsSealedTo}
 use Rattle.qh_core.specs.Inner.{HaveSameCounts, IsSameEnd, is_open, with_streams}
 use Rattle.qh_core.specs.Timers.{IsTimedOut, IsUndisturbed}
 use Rattle.qh_core.specs.declared.config.ConnConfig.{ConnConfig}
@@ -59,10 +59,10 @@ pub record IsNewEnd (side : Side) (id_length : ℕ) (config : ConnConfig) (now :
   pub not_lost : c.error ≡ None
   pub up : is_open c.state ≡ true
 
--- it has these ids, and this key
+-- it has these ids, the peer's by its length, and this key
 pub record HasNames (side : Side) (ids : Ids) (c : End) : Type 0 where
   pub local_is : c.local_id ≡ own_id side ids
-  pub remote_is : c.remote_id ≡ own_id (other side) ids
+  pub remote_is : length c.remote_id ≡ length (own_id (other side) ids)
   pub key_is : c.session.key_id ≡ ids.key
 
 -- acts that no writer and no reader of a stream sees
@@ -103,7 +103,7 @@ pub record StaysSound (now : Moment) (side : Side) (c d : End) (t : List Act) (m
   pub session_is : d.session ≡ c.session
   pub up : is_open d.state ≡ true
   pub not_lost : d.error ≡ None
-  pub sealed : (datagram : List ℕ) → In datagram (sent_by side more) → IsSealed (tag_bytes c.session.key_id) side c.remote_id datagram
+  pub sealed : (datagram : List ℕ) → In datagram (sent_by side more) → IsSealedTo (tag_bytes c.session.key_id) side (length c.remote_id) datagram
   pub restarted : (before after : List Event) (datagram : List ℕ) → more ≡ before ++ Given side datagram ∷ after
       → IsCounting (length c.local_id) (other side) (handed_in t ++ given_to side before) datagram → d.idle.since ≡ now
 

@@ -421,6 +421,8 @@ fn conn_config(config: &Config) -> ConnConfig
         idle: config.idle,
         initial_rtt: config.initial_rtt,
         initial_window: config.initial_window,
+        datagram_receive: None,
+        peer_datagram: None,
     }
 }
 

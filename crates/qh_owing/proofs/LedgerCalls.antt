@@ -23,9 +23,9 @@ use Rattle.qh_core.specs.Event.IsDrainedTold.{drained as drained_told, none as n
 use Rattle.qh_core.specs.Event.IsPolledEvent.{stream as stream_told, lost as lost_told, none as nothing_told}
 use Rattle.qh_core.specs.Follows.{event_acts, transmit_acts}
 use Rattle.qh_core.specs.Inner.{IsFailedBy, IsNewSpace, IsSameEnd, is_open, with_streams}
-use Rattle.qh_core.specs.Made.{AcceptsTags, MakesTagsOf, AreMade, IsAnyCall, IsLocalCall, IsStreamCall}
-use Rattle.qh_core.specs.Made.IsAnyCall.{handed_in as datagram_in, lost as unheard, handed_out as datagram_out, nothing_sent, unsent, local}
-use Rattle.qh_core.specs.Made.IsLocalCall.{timeout, closed, polled, endpoint_polled, on_streams}
+use Rattle.qh_core.specs.Made.{AcceptsTags, MakesTagsOf, AreMade, IsAnyCall, IsLocalCall, IsStreamCall, IsTurned}
+use Rattle.qh_core.specs.Made.IsAnyCall.{handed_in as datagram_in, lost as unheard, handed_out as datagram_out, control_out, nothing_sent, unsent, local}
+use Rattle.qh_core.specs.Made.IsLocalCall.{timeout, closed, polled, endpoint_polled, turned, on_streams}
 use Rattle.qh_core.specs.Progress.{NumberedPacket, Progress}
 use Rattle.qh_core.specs.Receiving.{GoesOnWith, IsClosedWith, IsDatagramTaken, IsEventTaken, IsFaulted, IsNewTo, IsOldTo, IsOpenedBy, IsPacketHandled, IsPacketTaken, received}
 use Rattle.qh_core.specs.Receiving.IsDatagramTaken.{dropped as dropped_datagram, handled as handled_datagram, told_again, closed_too, draining as draining_datagram, drained as drained_datagram}
@@ -46,6 +46,7 @@ use Rattle.qh_frame.specs.FrameBytes.{frame_bytes}
 use Rattle.qh_half.specs.Recv.{PlainRecv}
 use Rattle.qh_halves.specs.RecvHalves.{recv_half_in}
 use Rattle.qh_owing.proofs.LedgerNext.{aged_next, frames_next, probed_next}
+use Rattle.qh_owing.proofs.TurnedAside.{IsAside, open_back, turned_aside}
 use Rattle.qh_owing.proofs.LedgerStreams.{call_keeps, hands_none, only_streams, polled_keeps}
 use Rattle.qh_owing.proofs.NumbersKept.{aged_same, frames_same, made_same, probed_same}
 use Rattle.qh_owing.specs.Ledger.{AreNoted, AreSent, HasLedger, IsLedger, IsSentIn, KeepsLedger, packet_of, runs_accepted}
@@ -101,13 +102,13 @@ open_not_drained state up is = both_ways (is_open state) (ap is_open is) up
 
 module _ {S : Type 0} where
   went_end : (now : Moment) (end : Option ConnectionError) (b c : Inner S) → GoesOnWith now end b c → IsSameEnd b c
-  went_end now None b c e = rw e (record { side = refl; local_id = refl; remote_id = refl; config = refl })
-  went_end now (Some e) b c on_so = rw ((ended_with now e b c on_so).rest_is) (record { side = refl; local_id = refl; remote_id = refl; config = refl })
+  went_end now None b c e = rw e (record { side = refl; local_id = refl; remote_length = refl; config = refl })
+  went_end now (Some e) b c on_so = rw ((ended_with now e b c on_so).rest_is) (record { side = refl; local_id = refl; remote_length = refl; config = refl })
 
   taken_end : (now : Moment) (number : ℕ) (bytes : List ℕ) (b c : Inner S) → IsPacketTaken now number bytes b c → IsSameEnd b c
   taken_end now number bytes b c taken =
       let e = went_end now taken.end (record b { space = taken.space; idle = restarted now b.idle }) c taken.goes_on in
-      record { side = e.side; local_id = e.local_id; remote_id = e.remote_id; config = e.config }
+      record { side = e.side; local_id = e.local_id; remote_length = e.remote_length; config = e.config }
 
 -- ---- of the same end
 
@@ -139,9 +140,9 @@ module _ {S : Type 0} (accepts : AcceptsTag) (sealed : Side → Space → ℕ �
     dedup : c.space.dedup ≡ b.space.dedup
 
   -- what was sent stays so, where nothing is handed out
-  sent_still : (b c : Inner S) (t u : List Act) (sent : List NumberedPacket) → IsSameEnd b c → handed_out u ≡ [] → AreSent sealed b.side b.remote_id (handed_out t) sent
-      → AreSent sealed c.side c.remote_id (handed_out (t ++ u)) sent
-  sent_still b c t u sent same none p = rw (same.side, same.remote_id, nothing_out t u none) p
+  sent_still : (b c : Inner S) (t u : List Act) (sent : List NumberedPacket) → IsSameEnd b c → handed_out u ≡ [] → AreSent sealed b.side (length b.remote_id) (handed_out t) sent
+      → AreSent sealed c.side (length c.remote_id) (handed_out (t ++ u)) sent
+  sent_still b c t u sent same none p = rw (same.side, same.remote_length, nothing_out t u none) p
 
   next_still : (b c : Inner S) (sent : List NumberedPacket) → IsQuiet b c → (b.state ≡ Drained) ⊎ (b.space.next_number ≡ length sent) → (c.state ≡ Drained) ⊎ (c.space.next_number ≡ length sent)
   next_still b c sent q (inl over) = inl (q.drained over)
@@ -197,7 +198,7 @@ module _ {S : Type 0} (accepts : AcceptsTag) (sealed : Side → Space → ℕ �
   -- the streams alone changed
   streams_quiet : (b : Inner S) (s : PlainStreams) → ((came : List Run) → KeepsWhatCame b.space.streams came → KeepsWhatCame s came) → IsQuiet b (with_streams b s)
   streams_quiet b s keep = record {
-    same = record { side = refl; local_id = refl; remote_id = refl; config = refl };
+    same = record { side = refl; local_id = refl; remote_length = refl; config = refl };
     drained = λ e. e;
     next = inr refl;
     opens = λ e. e;
@@ -209,7 +210,7 @@ module _ {S : Type 0} (accepts : AcceptsTag) (sealed : Side → Space → ℕ �
   -- the connection isn't open any more, or wasn't
   shut_quiet : (b : Inner S) (state : State) (error : Option ConnectionError) → is_open state ≡ false → (b.state ≡ Drained → state ≡ Drained) → IsQuiet b (record b { state = state; error = error })
   shut_quiet b state error down stays = record {
-    same = record { side = refl; local_id = refl; remote_id = refl; config = refl };
+    same = record { side = refl; local_id = refl; remote_length = refl; config = refl };
     drained = stays;
     next = inr refl;
     opens = λ up. absurd (both_ways (is_open state) down up);
@@ -233,7 +234,7 @@ module _ {S : Type 0} (accepts : AcceptsTag) (sealed : Side → Space → ℕ �
   }
 
   own : (b : Inner S) → IsSameEnd b b
-  own b = record { side = refl; local_id = refl; remote_id = refl; config = refl }
+  own b = record { side = refl; local_id = refl; remote_length = refl; config = refl }
 
   stays : (b : Inner S) → IsQuiet b b
   stays b = same_quiet b b (own b) refl refl
@@ -250,7 +251,7 @@ module _ {S : Type 0} (accepts : AcceptsTag) (sealed : Side → Space → ℕ �
   timed_quiet : (now : ℕ) (b c : Inner S) → IsTimedOut now b c → IsQuiet b c
   timed_quiet now b c (idle_out _ _ is) = quiet_by b _ c is (shut_quiet b Drained _ refl (λ e. refl))
   timed_quiet now b c (recovery_out mid up idle aged probed is) = quiet_by b _ c is (record {
-    same = record { side = refl; local_id = refl; remote_id = refl; config = refl };
+    same = record { side = refl; local_id = refl; remote_length = refl; config = refl };
     drained = λ e. e;
     next = inr (probed_next now mid c.space probed ∙ aged_next now b.space mid aged);
     opens = λ e. e;
@@ -280,7 +281,7 @@ module _ {S : Type 0} (accepts : AcceptsTag) (sealed : Side → Space → ℕ �
   polled_quiet b c _ (lost_told mid error tells _ _ is) =
       quiet_by b _ c is
       (record {
-        same = record { side = refl; local_id = refl; remote_id = refl; config = refl };
+        same = record { side = refl; local_id = refl; remote_length = refl; config = refl };
         drained = λ e. e;
         next = inr refl;
         opens = λ e. e;
@@ -290,14 +291,43 @@ module _ {S : Type 0} (accepts : AcceptsTag) (sealed : Side → Space → ℕ �
       })
 
   told_quiet : (b c : Inner S) (told : Option EndpointEvent) → IsDrainedTold b c told → IsQuiet b c
-  told_quiet b c _ (drained_told _ _ is) = quiet_by b _ c is (same_quiet b (record b { is_drained_told = true }) (record { side = refl; local_id = refl; remote_id = refl; config = refl }) refl refl)
+  told_quiet b c _ (drained_told _ _ is) = quiet_by b _ c is (same_quiet b (record b { is_drained_told = true }) (record { side = refl; local_id = refl; remote_length = refl; config = refl }) refl refl)
   told_quiet b c _ (none_told _ is) = quiet_by b b c is (stays b)
+
+  -- a handshake beside it
+  aside_quiet : (b c : Inner S) → IsAside b c → IsQuiet b c
+  aside_quiet b c a = record {
+    same = a.same;
+    drained = λ is. (a.drained is).0;
+    next = inr (ap (λ (s : DataSpace). s.next_number) a.space);
+    opens = a.opens;
+    dedup = λ _. ap (λ (s : DataSpace). s.dedup) a.space;
+    progress = λ _ sent accepted p.
+        fewer_progress b c sent accepted
+        (same_fewer b.space c.space (ap (λ (s : DataSpace). s.next_number) a.space) (ap (λ (s : DataSpace). s.acks) a.space) (ap (λ (s : DataSpace). s.sent) a.space)) p;
+    came = λ _ came p. subst (λ (s : DataSpace). KeepsWhatCame s.streams came) (sym a.space) p;
+  }
+
+  failed_quiet : (b c : Inner S) → IsFailedBy b c → IsQuiet b c
+  failed_quiet b c f = quiet_by b _ c f.rest_is (record {
+    same = record { side = refl; local_id = refl; remote_length = refl; config = refl };
+    drained = λ e. refl;
+    next = inl refl;
+    opens = λ up. absurd (both_ways false refl up);
+    dedup = λ up. absurd (both_ways false refl up);
+    progress = λ up. absurd (both_ways false refl up);
+    came = λ up. absurd (both_ways false refl up);
+  })
+
+  turned_quiet : (b c : Inner S) → IsTurned b c → IsQuiet b c
+  turned_quiet b c is = elim (turned_aside b c is) [ inl lacks ↦ failed_quiet b c lacks | inr aside ↦ aside_quiet b c aside ]
 
   local_quiet : (b c : Inner S) (u : List Act) → IsLocalCall b c u → IsQuiet b c
   local_quiet b c u (timeout now timed _) = timed_quiet now b c timed
   local_quiet b c u (closed now code reason closes keeps) = close_quiet now _ _ b c closes keeps
   local_quiet b c u (polled told is) = polled_quiet b c told is
   local_quiet b c u (endpoint_polled told is) = told_quiet b c told is
+  local_quiet b c u (turned is) = turned_quiet b c is
   local_quiet b c u (on_streams _ call) = stream_quiet b c u call
 
   local_none : (b c : Inner S) (u : List Act) → IsLocalCall b c u → (handed_in u ≡ []) × (handed_out u ≡ [])
@@ -305,6 +335,7 @@ module _ {S : Type 0} (accepts : AcceptsTag) (sealed : Side → Space → ℕ �
   local_none b c u (closed now code reason closes keeps) = (refl, refl)
   local_none b c u (polled told is) = (refl, refl)
   local_none b c u (endpoint_polled told is) = (refl, refl)
+  local_none b c u (turned is) = (refl, refl)
   local_none b c u (on_streams _ call) = hands_none b c u call
 
   local_ledger : (b c : Inner S) (u t : List Act) → IsLocalCall b c u → KeepsLedger accepts sealed b t → KeepsLedger accepts sealed c (t ++ u)
@@ -316,17 +347,6 @@ module _ {S : Type 0} (accepts : AcceptsTag) (sealed : Side → Space → ℕ �
 
   itself : (b c : Inner S) (t : List Act) → IsQuiet b c → KeepsLedger accepts sealed b t → KeepsLedger accepts sealed c t
   itself b c t q k = subst (λ (z : List Act). KeepsLedger accepts sealed c z) (append-nil t) (alone b c t q k)
-
-  failed_quiet : (b c : Inner S) → IsFailedBy b c → IsQuiet b c
-  failed_quiet b c f = quiet_by b _ c f.rest_is (record {
-    same = record { side = refl; local_id = refl; remote_id = refl; config = refl };
-    drained = λ e. refl;
-    next = inl refl;
-    opens = λ up. absurd (both_ways false refl up);
-    dedup = λ up. absurd (both_ways false refl up);
-    progress = λ up. absurd (both_ways false refl up);
-    came = λ up. absurd (both_ways false refl up);
-  })
 
   -- ---- a datagram comes
 
@@ -423,7 +443,7 @@ module _ {S : Type 0} (accepts : AcceptsTag) (sealed : Side → Space → ℕ �
   datagram_ledger now d b c t (drained_datagram was is) k = over b c t d (quiet_by b b c is (stays b)) (ap (λ (z : Inner S). is_open z.state) is ∙ ap is_open was) k
 
   counted : (b : Inner S) (u : _) (t : List Act) → KeepsLedger accepts sealed b t → KeepsLedger accepts sealed (record b { udp_rx = u }) t
-  counted b u t = itself b (record b { udp_rx = u }) t (same_quiet b (record b { udp_rx = u }) (record { side = refl; local_id = refl; remote_id = refl; config = refl }) refl refl)
+  counted b u t = itself b (record b { udp_rx = u }) t (same_quiet b (record b { udp_rx = u }) (record { side = refl; local_id = refl; remote_length = refl; config = refl }) refl refl)
 
   maybe_closed : (up : Bool) (now : Moment) (reason : CloseReason) (error : ConnectionError) (b c : Inner S) (t : List Act) → is_open b.state ≡ up → MatchBool up (IsClosedWith now reason error b c) (c ≡ b)
       → KeepsLedger accepts sealed b t → KeepsLedger accepts sealed c (t ++ [])
@@ -443,9 +463,9 @@ module _ {S : Type 0} (accepts : AcceptsTag) (sealed : Side → Space → ℕ �
   -- ---- a datagram goes
 
   -- one packet more was sent
-  sent_more : (b c : Inner S) (t : List Act) (sent : List NumberedPacket) (d : List ℕ) (p : NumberedPacket) → IsSameEnd b c → AreSent sealed b.side b.remote_id (handed_out t) sent
-      → p.number ≡ length sent → IsSentIn sealed b.side b.remote_id d p → AreSent sealed c.side c.remote_id (handed_out (t ++ HandedOut d ∷ [])) (sent ++ p ∷ [])
-  sent_more b c t sent d p same are number is = rw (same.side, same.remote_id, one_gone t d) (more_sent (handed_out t) sent d p are number is)
+  sent_more : (b c : Inner S) (t : List Act) (sent : List NumberedPacket) (d : List ℕ) (p : NumberedPacket) → IsSameEnd b c → AreSent sealed b.side (length b.remote_id) (handed_out t) sent
+      → p.number ≡ length sent → IsSentIn sealed b.side (length b.remote_id) d p → AreSent sealed c.side (length c.remote_id) (handed_out (t ++ HandedOut d ∷ [])) (sent ++ p ∷ [])
+  sent_more b c t sent d p same are number is = rw (same.side, same.remote_length, one_gone t d) (more_sent (handed_out t) sent d p are number is)
 
   module _ (now : Moment) (b c : Inner S) (before after : List ℕ) (transmit : Transmit) (t : List Act) (m : IsDatagramMade sealed now b c before after transmit) (back : ClosesReadBack b.state)
       (k : KeepsLedger accepts sealed b t) where
@@ -461,7 +481,7 @@ module _ {S : Type 0} (accepts : AcceptsTag) (sealed : Side → Space → ℕ �
           let a = l.accepted_are in
           record {
             sent = k.sent ++ p ∷ [];
-            sent_are = sent_more b c t k.sent d p q.same k.sent_are l.progress.next (record { bytes = m.bytes.frames; below = m.bytes.number; is = refl; are = g.1 });
+            sent_are = sent_more b c t k.sent d p q.same k.sent_are l.progress.next (record { destination = b.remote_id; length_is = refl; bytes = m.bytes.frames; below = m.bytes.number; is = refl; are = g.1 });
             next = inr (g.2.next);
             ledger = inr (
               accepted,
@@ -488,7 +508,7 @@ module _ {S : Type 0} (accepts : AcceptsTag) (sealed : Side → Space → ℕ �
           record {
             sent = k.sent ++ p ∷ [];
             sent_are = sent_more b c t k.sent d p same k.sent_are is
-                (record { bytes = m.bytes.frames; below = m.bytes.number; is = refl; are = one_frame (close_frame reason) m.bytes.frames frames_are (back reason until was) });
+                (record { destination = b.remote_id; length_is = refl; bytes = m.bytes.frames; below = m.bytes.number; is = refl; are = one_frame (close_frame reason) m.bytes.frames frames_are (back reason until was) });
             next = inr (next ∙ (ap (λ (n : ℕ). n + 1) is ∙ sym (length-append k.sent (p ∷ []))));
             ledger = inl down;
           }
@@ -496,15 +516,15 @@ module _ {S : Type 0} (accepts : AcceptsTag) (sealed : Side → Space → ℕ �
 
     frames_ledger : (first : List ℕ) → AreFramesMade now b c first m.bytes.frames → KeepsLedger accepts sealed c (t ++ HandedOut d ∷ [])
     frames_ledger first (packet_frames up made is) = by_packet up (record {
-      same = subst (λ (z : Inner S). IsSameEnd b z) (sym is) (record { side = refl; local_id = refl; remote_id = refl; config = refl });
+      same = subst (λ (z : Inner S). IsSameEnd b z) (sym is) (record { side = refl; local_id = refl; remote_length = refl; config = refl });
       dedup = made_same _ _ _ b.space c.space _ _ made;
     })
     frames_ledger first (control_frames up made is) = by_packet up (record {
-      same = subst (λ (z : Inner S). IsSameEnd b z) (sym is) (record { side = refl; local_id = refl; remote_id = refl; config = refl });
+      same = subst (λ (z : Inner S). IsSameEnd b z) (sym is) (record { side = refl; local_id = refl; remote_length = refl; config = refl });
       dedup = (bare_rest _ _ b.space c.space made.sent).dedup;
     })
     frames_ledger first (close_frames reason until was frames_are is) =
-        by_close reason until was frames_are (subst (λ (z : Inner S). IsSameEnd b z) (sym is) (record { side = refl; local_id = refl; remote_id = refl; config = refl }))
+        by_close reason until was frames_are (subst (λ (z : Inner S). IsSameEnd b z) (sym is) (record { side = refl; local_id = refl; remote_length = refl; config = refl }))
         (ap (λ (z : Inner S). is_open z.state) is) (ap (λ (z : Inner S). z.space.next_number) is)
 
     made_ledger : KeepsLedger accepts sealed c (t ++ transmit_acts before after (Ok (Some transmit)))
@@ -520,6 +540,8 @@ module _ {S : Type 0} where
   any_ledger accepts sealed b c u t (datagram_in event taken _) k = event_ledger (accepts b.session) (sealed b.session) event b c t taken k
   any_ledger accepts sealed b c u t (unheard event f _) k = unheard_ledger (accepts b.session) (sealed b.session) event b c t f k
   any_ledger accepts sealed b c u t (datagram_out now before after transmit m back _) k = made_ledger (accepts b.session) (sealed b.session) now b c before after transmit t m back k
+  any_ledger accepts sealed b c u t (control_out now before after frames sent is _) k =
+      made_ledger (accepts b.session) (sealed b.session) now b c before after sent.transmit t is.made (open_back b.state is.opened) k
   any_ledger accepts sealed b c u t (nothing_sent none) k = alone (accepts b.session) (sealed b.session) b c t (quiet_by (accepts b.session) (sealed b.session) b b c none.0 (stays (accepts b.session) (sealed b.session) b)) k
   any_ledger accepts sealed b c u t (unsent f) k = alone (accepts b.session) (sealed b.session) b c t (failed_quiet (accepts b.session) (sealed b.session) b c f) k
   any_ledger accepts sealed b c u t (local _ call) k = local_ledger (accepts b.session) (sealed b.session) b c u t call k
@@ -550,7 +572,7 @@ module _ {S : Type 0} where
   }
 
   pub ledger_open : (accepts : AcceptsTag) (sealed : Side → Space → ℕ → List ℕ) (c : Inner S) (t : List Act) → is_open c.state ≡ true → HasLedger accepts sealed c t
-      → (sent : List NumberedPacket) × AreSent sealed c.side c.remote_id (handed_out t) sent × ((accepted : List NumberedPacket) × IsLedger accepts sealed c sent accepted t)
+      → (sent : List NumberedPacket) × AreSent sealed c.side (length c.remote_id) (handed_out t) sent × ((accepted : List NumberedPacket) × IsLedger accepts sealed c sent accepted t)
   unfolding HasLedger
   ledger_open accepts sealed c t up k = elim k.ledger [
     | inl shut ↦ absurd (both_ways (is_open c.state) shut up)
@@ -558,6 +580,6 @@ module _ {S : Type 0} where
   ]
 
   pub ledger_sent : (accepts : AcceptsTag) (sealed : Side → Space → ℕ → List ℕ) (c : Inner S) (t : List Act) → HasLedger accepts sealed c t
-      → (sent : List NumberedPacket) × AreSent sealed c.side c.remote_id (handed_out t) sent
+      → (sent : List NumberedPacket) × AreSent sealed c.side (length c.remote_id) (handed_out t) sent
   unfolding HasLedger
   ledger_sent accepts sealed c t k = (k.sent, k.sent_are)

@@ -27,16 +27,16 @@ get_end (z ∷ zs) x = get_end zs x
 
 -- ---- the packets
 
-module _ (sealed : Side → Space → ℕ → List ℕ) (side : Side) (destination : List ℕ) where
-  sent_as_many : (datagrams : List (List ℕ)) (sent : List NumberedPacket) → AreSent sealed side destination datagrams sent → length sent ≡ length datagrams
+module _ (sealed : Side → Space → ℕ → List ℕ) (side : Side) (id_length : ℕ) where
+  sent_as_many : (datagrams : List (List ℕ)) (sent : List NumberedPacket) → AreSent sealed side id_length datagrams sent → length sent ≡ length datagrams
   sent_as_many datagrams sent (none) = refl
   sent_as_many _ _ (more datagrams packets d p before _ _) =
       length-append packets (p ∷ []) ∙ (ap (λ (n : ℕ). n + 1) (sent_as_many datagrams packets before) ∙ sym (length-append datagrams (d ∷ [])))
 
   abbrev IsNumbered : (sent : List NumberedPacket) → (k : ℕ) → (d : List ℕ) → Type 0
-  IsNumbered sent k d = (p : NumberedPacket) × (slice_get sent k ≡ Some p) × (p.number ≡ k) × IsSentIn sealed side destination d p
+  IsNumbered sent k d = (p : NumberedPacket) × (slice_get sent k ≡ Some p) × (p.number ≡ k) × IsSentIn sealed side id_length d p
 
-  numbered : (datagrams : List (List ℕ)) (sent : List NumberedPacket) (k : ℕ) (d : List ℕ) → AreSent sealed side destination datagrams sent → slice_get datagrams k ≡ Some d → IsNumbered sent k d
+  numbered : (datagrams : List (List ℕ)) (sent : List NumberedPacket) (k : ℕ) (d : List ℕ) → AreSent sealed side id_length datagrams sent → slice_get datagrams k ≡ Some d → IsNumbered sent k d
   numbered datagrams sent k d (none) e = absurd (cc)
   numbered _ _ k d (more datagrams packets last p before number is) e = elim (get_more datagrams last d k e) [
     | inl earlier ↦
@@ -47,15 +47,15 @@ module _ (sealed : Side → Space → ℕ → List ℕ) (side : Side) (destinati
           p,
           subst (λ (n : ℕ). slice_get (packets ++ p ∷ []) n ≡ Some p) (sym place) (get_end packets p),
           number ∙ sym place,
-          subst (λ (z : List ℕ). IsSentIn sealed side destination z p) same is,
+          subst (λ (z : List ℕ). IsSentIn sealed side id_length z p) same is,
         )
   ]
 
-pub sent_numbers : (sealed : Side → Space → ℕ → List ℕ) (side : Side) (destination : List ℕ) (datagrams : List (List ℕ)) (sent : List NumberedPacket) (k : ℕ) (d : List ℕ)
-    → AreSent sealed side destination datagrams sent → slice_get datagrams k ≡ Some d
-    → (p : NumberedPacket) × (slice_get sent k ≡ Some p) × (p.number ≡ k) × IsSentIn sealed side destination d p
-sent_numbers sealed side destination datagrams sent k d = numbered sealed side destination datagrams sent k d
+pub sent_numbers : (sealed : Side → Space → ℕ → List ℕ) (side : Side) (id_length : ℕ) (datagrams : List (List ℕ)) (sent : List NumberedPacket) (k : ℕ) (d : List ℕ)
+    → AreSent sealed side id_length datagrams sent → slice_get datagrams k ≡ Some d
+    → (p : NumberedPacket) × (slice_get sent k ≡ Some p) × (p.number ≡ k) × IsSentIn sealed side id_length d p
+sent_numbers sealed side id_length datagrams sent k d = numbered sealed side id_length datagrams sent k d
 
-pub sent_lengths : (sealed : Side → Space → ℕ → List ℕ) (side : Side) (destination : List ℕ) (datagrams : List (List ℕ)) (sent : List NumberedPacket)
-    → AreSent sealed side destination datagrams sent → length sent ≡ length datagrams
-sent_lengths sealed side destination datagrams sent = sent_as_many sealed side destination datagrams sent
+pub sent_lengths : (sealed : Side → Space → ℕ → List ℕ) (side : Side) (id_length : ℕ) (datagrams : List (List ℕ)) (sent : List NumberedPacket)
+    → AreSent sealed side id_length datagrams sent → length sent ≡ length datagrams
+sent_lengths sealed side id_length datagrams sent = sent_as_many sealed side id_length datagrams sent

@@ -6,6 +6,7 @@ pub mod NumbersKept
 pub mod OwingDatagrams
 pub mod OwingAcks
 pub mod OwingPackets
+pub mod TurnedAside
 pub mod OwingConnections
 pub mod OwingCalls
 pub mod WhatIsOwed

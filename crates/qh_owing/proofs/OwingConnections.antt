@@ -78,7 +78,7 @@ module _ {S : Type 0} (accepts : AcceptsTag) where
   pub record GoesOn (old new : Inner S) : Type 0 where
     pub side : new.side ≡ old.side
     pub local : new.local_id ≡ old.local_id
-    pub remote : new.remote_id ≡ old.remote_id
+    pub remote : length new.remote_id ≡ length old.remote_id
     pub opens : is_open new.state ≡ true → is_open old.state ≡ true
     pub numbers : is_open new.state ≡ true → HasSameNumbers old.space new.space
 
@@ -118,7 +118,7 @@ module _ {S : Type 0} (accepts : AcceptsTag) where
   without_more c t o = subst (λ (z : List Act). Owes accepts c z) (append-nil t) o
 
   -- one that isn't open owes nothing any more
-  pub shut : (old new : Inner S) (t u : List Act) → new.side ≡ old.side → new.local_id ≡ old.local_id → new.remote_id ≡ old.remote_id → is_open new.state ≡ false → Owes accepts old t → Owes accepts new (t ++ u)
+  pub shut : (old new : Inner S) (t u : List Act) → new.side ≡ old.side → new.local_id ≡ old.local_id → length new.remote_id ≡ length old.remote_id → is_open new.state ≡ false → Owes accepts old t → Owes accepts new (t ++ u)
   shut old new t u side local remote closed o =
       on old new t u (record { side = side; local = local; remote = remote; opens = λ up. absurd (both_ways (is_open new.state) closed up); numbers = λ up. absurd (both_ways (is_open new.state) closed up) })
       (λ accepted up known are. absurd (both_ways (is_open new.state) closed up))
@@ -211,13 +211,13 @@ module _ {S : Type 0} (accepts : AcceptsTag) where
         subst (λ (n : Inner S). Owes accepts n (t ++ u)) (sym c.rest_is) (shut old _ t u refl refl refl refl o)
 
     went_end : (now : Moment) (end : Option ConnectionError) (old new : Inner S) → GoesOnWith now end old new → IsSameEnd old new
-    went_end now None old new e = rw e (record { side = refl; local_id = refl; remote_id = refl; config = refl })
-    went_end now (Some e) old new on_so = rw ((ended_with now e old new on_so).rest_is) (record { side = refl; local_id = refl; remote_id = refl; config = refl })
+    went_end now None old new e = rw e (record { side = refl; local_id = refl; remote_length = refl; config = refl })
+    went_end now (Some e) old new on_so = rw ((ended_with now e old new on_so).rest_is) (record { side = refl; local_id = refl; remote_length = refl; config = refl })
 
     taken_end : (now : Moment) (number : ℕ) (bytes : List ℕ) (old new : Inner S) → IsPacketTaken now number bytes old new → IsSameEnd old new
     taken_end now number bytes old new taken =
         let e = went_end now taken.end (record old { space = taken.space; idle = restarted now old.idle }) new taken.goes_on in
-        record { side = e.side; local_id = e.local_id; remote_id = e.remote_id; config = e.config }
+        record { side = e.side; local_id = e.local_id; remote_length = e.remote_length; config = e.config }
 
     handled : (now : Moment) (number : ℕ) (bytes d : List ℕ) (old new : Inner S) (t : List Act) → is_open old.state ≡ true → IsOpenedBy accepts old d number bytes → IsPacketHandled now number bytes old new
         → Owes accepts old t → Owes accepts new (t ++ HandedIn d ∷ [])
@@ -227,7 +227,7 @@ module _ {S : Type 0} (accepts : AcceptsTag) where
     handled now number bytes d old new t was opened (unnoted e eliciting fresh read at f) o = faulted now e old new t (HandedIn d ∷ []) f o
     handled now number bytes d old new t was opened (taken_packet fresh taken) o = elim (cases_Bool (is_open new.state)) [
       | inl still ↦ taken_open now number bytes d old new t opened fresh taken still was o
-      | inr closed ↦ let e = taken_end now number bytes old new taken in shut old new t (HandedIn d ∷ []) e.side e.local_id e.remote_id closed o
+      | inr closed ↦ let e = taken_end now number bytes old new taken in shut old new t (HandedIn d ∷ []) e.side e.local_id e.remote_length closed o
     ]
 
     datagram_taken : (now : Moment) (d : List ℕ) (old new : Inner S) (t : List Act) → IsDatagramTaken accepts now d old new → Owes accepts old t → Owes accepts new (t ++ HandedIn d ∷ [])
@@ -291,7 +291,7 @@ module _ {S : Type 0} (accepts : AcceptsTag) where
       → AreFramesMade now old new header bytes → Owes accepts old t → Owes accepts new (t ++ HandedOut (datagram_of sealed old bytes) ∷ [])
   frames_made sealed now old new header bytes t makes below (packet_frames opened packet_made e) o =
       let u = HandedOut (datagram_of sealed old bytes) ∷ [] in
-      on old new t u (record { side = ap (λ (c : Inner S). c.side) e; local = ap (λ (c : Inner S). c.local_id) e; remote = ap (λ (c : Inner S). c.remote_id) e; opens = λ up. opened; numbers = λ up. made_same now.0 (overhead old) (1200 - overhead old) old.space new.space header (header ++ bytes) packet_made })
+      on old new t u (record { side = ap (λ (c : Inner S). c.side) e; local = ap (λ (c : Inner S). c.local_id) e; remote = ap (λ (c : Inner S). length c.remote_id) e; opens = λ up. opened; numbers = λ up. made_same now.0 (overhead old) (1200 - overhead old) old.space new.space header (header ++ bytes) packet_made })
       (none_come old new t u refl)
       (λ accepted up p.
       let m = made_owing (length old.remote_id) old.side accepted t now.0 (overhead old) (1200 - overhead old) old.space new.space header (header ++ bytes) packet_made p in
@@ -301,7 +301,7 @@ module _ {S : Type 0} (accepts : AcceptsTag) where
       let d = datagram_of sealed old bytes in
       let u = HandedOut d ∷ [] in
       let size = overhead old + length bytes in
-      on old new t u (record { side = ap (λ (c : Inner S). c.side) e; local = ap (λ (c : Inner S). c.local_id) e; remote = ap (λ (c : Inner S). c.remote_id) e; opens = λ up. opened; numbers = λ up. (bare_rest now.0 size old.space new.space made.sent).dedup })
+      on old new t u (record { side = ap (λ (c : Inner S). c.side) e; local = ap (λ (c : Inner S). c.local_id) e; remote = ap (λ (c : Inner S). length c.remote_id) e; opens = λ up. opened; numbers = λ up. (bare_rest now.0 size old.space new.space made.sent).dedup })
       (none_come old new t u refl)
       (λ accepted up p. bare_owing (length old.remote_id) old.side accepted t now.0 size old.space new.space made.sent d p) o
   frames_made sealed now old new header bytes t makes below (close_frames reason until is frames_are e) o =

@@ -22,18 +22,20 @@ use Rattle.qh_transcript.specs.Waiting.{KeepsWhatCame}
 
 -- ---- what was sent
 
--- the datagram is the 1-RTT packet with this number and these frames, to this id, with the tag that is made for it
-pub record IsSentIn (sealed : Side → Space → ℕ → List ℕ) (side : Side) (destination datagram : List ℕ) (p : NumberedPacket) : Type 0 where
+-- the datagram is the 1-RTT packet with this number and these frames, to some id of this length, with the tag that is made for it
+pub record IsSentIn (sealed : Side → Space → ℕ → List ℕ) (side : Side) (id_length : ℕ) (datagram : List ℕ) (p : NumberedPacket) : Type 0 where
+  pub destination : List ℕ
+  pub length_is : length destination ≡ id_length
   pub bytes : List ℕ
   pub below : p.number < 2 ^ 62
   pub is : datagram ≡ header_bytes destination p.number ++ (bytes ++ sealed side Data p.number)
   pub are : AreQuicFrames bytes p.frames
 
 -- the datagrams are these packets, one each, in this order, and their numbers are 0, 1, 2 and so on
-pub data AreSent (sealed : Side → Space → ℕ → List ℕ) (side : Side) (destination : List ℕ) : (datagrams : List (List ℕ)) → List NumberedPacket → Type 0 where
-  none : AreSent sealed side destination [] []
-  more : (datagrams : List (List ℕ)) (packets : List NumberedPacket) (datagram : List ℕ) (p : NumberedPacket) → AreSent sealed side destination datagrams packets
-      → p.number ≡ length packets → IsSentIn sealed side destination datagram p → AreSent sealed side destination (datagrams ++ datagram ∷ []) (packets ++ p ∷ [])
+pub data AreSent (sealed : Side → Space → ℕ → List ℕ) (side : Side) (id_length : ℕ) : (datagrams : List (List ℕ)) → List NumberedPacket → Type 0 where
+  none : AreSent sealed side id_length [] []
+  more : (datagrams : List (List ℕ)) (packets : List NumberedPacket) (datagram : List ℕ) (p : NumberedPacket) → AreSent sealed side id_length datagrams packets
+      → p.number ≡ length packets → IsSentIn sealed side id_length datagram p → AreSent sealed side id_length (datagrams ++ datagram ∷ []) (packets ++ p ∷ [])
 
 -- ---- what was accepted
 
@@ -69,7 +71,7 @@ module _ {S : Type 0} (accepts : AcceptsTag) (sealed : Side → Space → ℕ �
   -- drained, so that none follows. While it is open its packets stand in the ledger.
   pub record KeepsLedger (c : Inner S) (t : List Act) : Type 0 where
     pub sent : List NumberedPacket
-    pub sent_are : AreSent sealed c.side c.remote_id (handed_out t) sent
+    pub sent_are : AreSent sealed c.side (length c.remote_id) (handed_out t) sent
     pub next : (c.state ≡ Drained) ⊎ (c.space.next_number ≡ length sent)
     pub ledger : (is_open c.state ≡ false) ⊎ ((accepted : List NumberedPacket) × IsLedger c sent accepted t)
 

@@ -1,6 +1,6 @@
 -- What a connection owes to its peer: how its space of application data stands to the bytes and ends that were written and that no
 -- accepted ACK covers, by the datagrams that went both ways (RFC 9000, sections 2.2 and 13.3).
-use Rattle.std.specs.Prelude.{◌≡◌, ◌⊎◌, ℕ, ◌+◌, ◌^◌, ◌<◌, ◌≤◌, Bool, true, false, List, [], ◌∷◌, ◌++◌, length, map, Option, Some, None}
+use Rattle.std.specs.Prelude.{◌≡◌, ◌⊎◌, ℕ, ◌+◌, ◌<◌, ◌≤◌, Bool, true, false, List, [], ◌∷◌, ◌++◌, length, map, Option, Some, None}
 use Rattle.qh_buffers.specs.SendBuffer.{taken_to, mark_at, is_queued}
 use Rattle.qh_buffers.specs.declared.send_buffer.Mark.TheVariants.{Acked, Sent}
 use Rattle.qh_core.specs.Inner.{is_open}

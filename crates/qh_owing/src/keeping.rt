@@ -17,16 +17,16 @@ pub fn ledger<S>()
     ensures made { (accepts : AcceptsTags S) (sealed : MakesTagsOf S) (old new : AnInner S) (acts t : List Act) → AreMade accepts sealed old new acts
         → HasLedger (accepts old.session) (sealed old.session) old t → HasLedger (accepts old.session) (sealed old.session) new (t ++ acts) }
     ensures open { (accepts : AcceptsTag) (sealed : ASide → ASpace → ℕ → List ℕ) (c : AnInner S) (t : List Act) → is_open c.state ≡ true → HasLedger accepts sealed c t
-        → (sent : List APacket) × AreSent sealed c.side c.remote_id (handed_out t) sent × ((accepted : List APacket) × IsLedger accepts sealed c sent accepted t) }
+        → (sent : List APacket) × AreSent sealed c.side (length c.remote_id) (handed_out t) sent × ((accepted : List APacket) × IsLedger accepts sealed c sent accepted t) }
     ensures sent { (accepts : AcceptsTag) (sealed : ASide → ASpace → ℕ → List ℕ) (c : AnInner S) (t : List Act) → HasLedger accepts sealed c t
-        → (sent : List APacket) × AreSent sealed c.side c.remote_id (handed_out t) sent }
+        → (sent : List APacket) × AreSent sealed c.side (length c.remote_id) (handed_out t) sent }
 {}
 
 /// Datagrams that are packets one each have as many numbers: the one at each place has that number, and none has another's.
 pub fn sent_once()
-    ensures numbers { (sealed : ASide → ASpace → ℕ → List ℕ) (side : ASide) (destination : List ℕ) (datagrams : List (List ℕ)) (sent : List APacket) (k : ℕ) (d : List ℕ)
-        → AreSent sealed side destination datagrams sent → slice_get datagrams k ≡ Some d
-        → (p : APacket) × (slice_get sent k ≡ Some p) × (p.number ≡ k) × IsSentIn sealed side destination d p }
-    ensures lengths { (sealed : ASide → ASpace → ℕ → List ℕ) (side : ASide) (destination : List ℕ) (datagrams : List (List ℕ)) (sent : List APacket)
-        → AreSent sealed side destination datagrams sent → length sent ≡ length datagrams }
+    ensures numbers { (sealed : ASide → ASpace → ℕ → List ℕ) (side : ASide) (id_length : ℕ) (datagrams : List (List ℕ)) (sent : List APacket) (k : ℕ) (d : List ℕ)
+        → AreSent sealed side id_length datagrams sent → slice_get datagrams k ≡ Some d
+        → (p : APacket) × (slice_get sent k ≡ Some p) × (p.number ≡ k) × IsSentIn sealed side id_length d p }
+    ensures lengths { (sealed : ASide → ASpace → ℕ → List ℕ) (side : ASide) (id_length : ℕ) (datagrams : List (List ℕ)) (sent : List APacket)
+        → AreSent sealed side id_length datagrams sent → length sent ≡ length datagrams }
 {}

@@ -9,7 +9,7 @@ ghost use Rattle.qh_buffers.specs.declared.assembler.Chunk.{Chunk as AChunk};
 ghost use Rattle.qh_core.specs.Event.{IsDrainedTold, IsPolledEvent};
 ghost use Rattle.qh_core.specs.Follows.{Follows, event_acts, transmit_acts, write_acts, write_chunks_acts, finish_acts, reset_by_acts, stop_acts, take_acts, received_reset_acts};
 ghost use Rattle.qh_core.specs.Inner.{IsFailedBy, IsNewSpace, is_open, with_streams};
-ghost use Rattle.qh_core.specs.Made.{AcceptsTags, MakesTagsOf, AreMade};
+ghost use Rattle.qh_core.specs.Made.{AcceptsTags, MakesTagsOf, AreMade, IsTurned};
 ghost use Rattle.qh_core.specs.Receiving.{IsClosedWith, IsEventTaken, received};
 ghost use Rattle.qh_core.specs.Sending.{IsDatagramMade, NothingIsSent};
 ghost use Rattle.qh_core.specs.Streams.{IsRead, IsReadFault, IsWriteRefused};
@@ -59,6 +59,7 @@ pub fn owing<S>()
         → (is_open old.state ≡ true → IsClosedWith now reason error old new) → (is_open old.state ≡ false → new ≡ old) → Owes accepts old t → Owes accepts new t }
     ensures poll { (accepts : AcceptsTag) (result : Option AnEvent) (old new : AnInner S) (t : List Act) → IsPolledEvent old new result → Owes accepts old t → Owes accepts new t }
     ensures endpoint { (accepts : AcceptsTag) (result : Option AnEndpointEvent) (old new : AnInner S) (t : List Act) → IsDrainedTold old new result → Owes accepts old t → Owes accepts new t }
+    ensures turned { (accepts : AcceptsTag) (old new : AnInner S) (t : List Act) → IsTurned old new → Owes accepts old t → Owes accepts new t }
     ensures opens { (accepts : AcceptsTag) (dir : ADir) (result : Result (Option AStreamId) OutOfMemory) (old new : AnInner S) (t : List Act)
         → IfOk result (λ o. IfSome o (λ id. (is_open old.state ≡ true) × (id.0 ≡ stream_id old.space.streams.side dir (counts_of old.space.streams (is_two_way dir)).opened)
         × ((counts_of old.space.streams (is_two_way dir)).opened < (counts_of old.space.streams (is_two_way dir)).max_opened)

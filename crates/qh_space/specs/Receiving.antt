@@ -1,6 +1,6 @@
 -- What a frame of the peer's does to the space, and which are refused (RFC 9000, sections 12.4, 13 and 19; RFC 9002, sections 5
 -- and 6).
-use Rattle.std.specs.Prelude.{◌≡◌, ℕ, ◌+◌, ◌-◌, ◌^◌, ◌==◌, nat_lt, min, max, take, Bool, true, false, List, Option, Some, None, is_some, if◌then◌else◌}
+use Rattle.std.specs.Prelude.{◌≡◌, ℕ, ◌+◌, ◌-◌, ◌^◌, ◌==◌, nat_lt, nat_le, min, max, take, length, Bool, true, false, List, Option, Some, None, is_some, if◌then◌else◌}
 use Rattle.qh_base.specs.declared.connection_error.ConnectionError.{ConnectionError}
 use Rattle.qh_base.specs.declared.connection_error.ConnectionError.TheVariants.{ConnectionClosed, ApplicationClosed}
 use Rattle.qh_frame.specs.Plain.{ack_of}
@@ -50,13 +50,19 @@ abbrev pub coming_refusal : PlainStreams → Option StreamFrame → Option Refus
 coming_refusal s (Some f) = refusal_of s f
 coming_refusal s None = None
 
+-- a DATAGRAM frame is taken if such frames are on, and its payload isn't longer than the limit (RFC 9221, section 3; own: the limit is
+-- one on the payload)
+abbrev pub datagram_refusal : (most : Option ℕ) → (size frame : ℕ) → Option Refusal
+datagram_refusal None size frame = refused codes.protocol_violation frame
+datagram_refusal (Some most) size frame = if nat_le size most then None else refused codes.protocol_violation frame
+
 -- Why a frame is refused: an ACK of a number that was never sent (section 13.1), NEW_TOKEN and HANDSHAKE_DONE at a server
--- (sections 19.7 and 19.20), DATAGRAM, which isn't on (RFC 9221, section 3), and the refusals of the streams.
+-- (sections 19.7 and 19.20), a DATAGRAM frame that isn't taken (RFC 9221, section 3), and the refusals of the streams.
 abbrev pub frame_refusal : DataSpace → Frame → Option Refusal
 frame_refusal s (kind.Ack a) = if nat_lt a.greatest s.next_number then None else refused codes.protocol_violation (type_of (kind.Ack a))
 frame_refusal s (kind.NewToken token) = refused_at_server s.streams.side frame_types.new_token
 frame_refusal s kind.HandshakeDone = refused_at_server s.streams.side frame_types.handshake_done
-frame_refusal s (kind.Datagram payload has_length) = refused codes.protocol_violation (type_of (kind.Datagram payload has_length))
+frame_refusal s (kind.Datagram payload has_length) = datagram_refusal s.datagram_receive (length payload.now) (type_of (kind.Datagram payload has_length))
 frame_refusal s f = coming_refusal s.streams (coming_of f)
 
 -- Want of memory may come for a frame of which something is to be kept: of a stream, or of a count; of a limit on all bytes and of an
@@ -102,7 +108,7 @@ pub record IsAckReceived (now : ℕ) (old new : DataSpace) (a : Ack) : Type 0 wh
   }
   pub lost : IsLossTaken (greatest_of old.largest_acked a.greatest) now mid new
 
--- frames that change nothing of the space
+-- Frames that change nothing of the space. What a DATAGRAM frame bears is for whoever takes the frames that the space passes over.
 abbrev pub is_passive : Frame → Bool
 is_passive kind.Padding = true
 is_passive kind.Ping = true
@@ -115,6 +121,7 @@ is_passive (kind.NewConnectionId sequence prior id token) = true
 is_passive (kind.RetireConnectionId sequence) = true
 is_passive (kind.PathResponse bytes) = true
 is_passive kind.HandshakeDone = true
+is_passive (kind.Datagram payload has_length) = true
 is_passive other = false
 
 abbrev pub some_type : ℕ → Option ℕ

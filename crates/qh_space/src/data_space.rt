@@ -24,6 +24,8 @@ pub struct SpaceConfig {
     pub initial_rtt: Span,
     /// How many bytes may be in flight at first.
     pub initial_window: u64,
+    /// The longest payload of a DATAGRAM frame that is taken, None if none is (RFC 9221, section 3).
+    pub datagram_receive: Option<u64>,
 }
 
 /// The packet number space of application data (RFC 9000, section 12.3; RFC 9002). Its parts are whole by themselves; what holds
@@ -60,6 +62,8 @@ pub struct DataSpace {
     pub packets_lost: u64,
     /// How many probes were due so far.
     pub probes_sent: u64,
+    /// The longest payload of a DATAGRAM frame that is taken, None if none is (RFC 9221, section 3).
+    pub datagram_receive: Option<u64>,
 }
 
 impl DataSpace {
@@ -75,6 +79,7 @@ impl DataSpace {
         ensures recovery { (result.rtt ≡ new_estimator config.initial_rtt.0) × (result.congestion ≡ new_controller config.initial_window) × (result.pto_count ≡ 0) × (result.is_probe_due ≡ false) }
         ensures nothing_due { (result.is_ping_due ≡ false) × (result.path_response ≡ None) }
         ensures log { result.log ≡ None }
+        ensures datagrams { result.datagram_receive ≡ config.datagram_receive }
     {
         let mut streams = Streams::new(alloc, side, config.limits);
         streams.set_peer(config.peer);
@@ -94,6 +99,7 @@ impl DataSpace {
             is_probe_due: false,
             packets_lost: 0,
             probes_sent: 0,
+            datagram_receive: config.datagram_receive,
         }
     }
 

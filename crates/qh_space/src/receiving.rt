@@ -1,11 +1,11 @@
-ghost use Rattle.std.specs.Prelude.{◌≡◌, nat_lt, ◌<◌, ◌≤◌, ◌^◌, ◌∷◌, ◌||◌, ℕ, List, None, false, true, if◌then◌else◌, is_some, IsOk, OnOk, OnErr, IfOk, IfErr};
+ghost use Rattle.std.specs.Prelude.{◌≡◌, nat_lt, length, ◌<◌, ◌≤◌, ◌^◌, ◌∷◌, ◌||◌, ℕ, List, None, false, true, if◌then◌else◌, is_some, IsOk, OnOk, OnErr, IfOk, IfErr};
 ghost use Rattle.qh_frame.specs.Plain.{ack_of};
 ghost use Rattle.qh_loss.specs.Owed.{AreOwed};
 ghost use Rattle.qh_loss.specs.Settled.{IsAckConfirmed};
 ghost use Rattle.qh_recovery.specs.Accepted.{Remembers};
 ghost use Rattle.qh_recovery.specs.PendingAcks.{IsJoined};
 ghost use Rattle.qh_recovery.specs.SentPackets.{packet_at, frame_count};
-ghost use Rattle.qh_space.specs.Receiving.{IsFrameTaken, IsAckReceived, IsLossTaken, IsClosedBy, coming_of, frame_refusal, greatest_of, measured, IsStream, may_want_memory, refused_at_server, some_type};
+ghost use Rattle.qh_space.specs.Receiving.{IsFrameTaken, IsAckReceived, IsLossTaken, IsClosedBy, coming_of, datagram_refusal, frame_refusal, greatest_of, measured, IsStream, may_want_memory, refused_at_server, some_type};
 ghost use Rattle.qh_space.specs.Space.{IsSpace};
 ghost use Rattle.qh_spec.specs.Codes as codes;
 ghost use Rattle.qh_streams.specs.declared.fault.StreamFault.TheVariants.{Memory as Wanting};
@@ -125,7 +125,7 @@ impl DataSpace {
             Frame::PathChallenge(bytes) => self.path_response = Some(*bytes),
             Frame::NewToken { .. } => self.refuse_at_server(FrameType::NEW_TOKEN)?,
             Frame::HandshakeDone => self.refuse_at_server(FrameType::HANDSHAKE_DONE)?,
-            Frame::Datagram { .. } => return Err(violation(frame.frame_type())),
+            Frame::Datagram { payload, .. } => self.refuse_datagram(payload, frame.frame_type())?,
             _ => return Ok(closed_by(frame)),
         }
         Ok(None)
@@ -214,6 +214,17 @@ impl DataSpace {
         match self.streams.side() {
             Side::Server => Err(violation(frame)),
             Side::Client => Ok(()),
+        }
+    }
+
+    // Refuses the payload of a DATAGRAM frame of this type, if such frames are off or it is longer than the limit.
+    fn refuse_datagram(&self, payload: &[u8], frame: FrameType) -> Result<(), StreamFault>
+        ensures ok { OnOk result (datagram_refusal self.now.datagram_receive (length payload.now) frame.0 ≡ None) }
+        ensures fault { IfErr result (λ e. IsRefusal e (datagram_refusal self.now.datagram_receive (length payload.now) frame.0)) }
+    {
+        match self.datagram_receive {
+            Some(most) if payload.len() as u64 <= most => Ok(()),
+            _ => Err(violation(frame)),
         }
     }
 }

@@ -167,6 +167,8 @@ impl Settings {
             },
             initial_rtt: Span(self.rtt),
             initial_window: self.window,
+            datagram_receive: None,
+            peer_datagram: None,
         }
     }
 
@@ -177,6 +179,7 @@ impl Settings {
             peer: self.peer(),
             initial_rtt: Span(self.rtt),
             initial_window: self.window,
+            datagram_receive: None,
         }
     }
 

@@ -27,7 +27,7 @@ impl<S> Inner<S> {
     }
 
     // This end found a fault, and closes.
-    pub(super) fn close_by_fault(&mut self, now: Moment, error: TransportError)
+    pub(crate) fn close_by_fault(&mut self, now: Moment, error: TransportError)
         ensures { IsFaulted now error self.old self.new }
     {
         let close = Close::Connection(ConnectionClose {
@@ -39,7 +39,7 @@ impl<S> Inner<S> {
     }
 
     // The peer closed.
-    pub(super) fn drain(&mut self, now: Moment, error: ConnectionError)
+    pub(crate) fn drain(&mut self, now: Moment, error: ConnectionError)
         ensures { IsDrainingFrom now error self.old self.new }
     {
         self.state = State::Draining {

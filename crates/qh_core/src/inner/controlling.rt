@@ -26,7 +26,7 @@ impl<S: Session> Inner<S> {
         buf: &mut Vec<u8>,
     ) -> Result<Option<ControlSent>, Memory>
         requires whole { IsConnection self.old }
-        requires frames { AllByRecursion (MaySend self.old.side) frames.now }
+        requires frames { AllByRecursion (MaySend self.old.side self.old.config.peer_datagram) frames.now }
         ensures some { IfOk result (λ o. IfSome o (λ sent. IsControlSent (S.sealed self.old.session) now self.old self.new buf.old.items buf.new.items frames.now sent)) }
         ensures tag { IfOk result (λ o. IfSome o (λ sent. length (S.sealed self.old.session self.old.side Data self.old.space.next_number) ≡ 32)) }
         ensures none { IfOk result (λ o. o ≡ None → (buf.new.items ≡ buf.old.items) × (self.new ≡ self.old) × IsControlKept self.old frames.now) }
@@ -66,7 +66,7 @@ impl<S: Session> Inner<S> {
         buf: &mut Vec<u8>,
     ) -> Result<Option<(usize, usize)>, Memory>
         requires whole { IsConnection self.old }
-        requires frames { AllByRecursion (MaySend self.old.side) frames.now }
+        requires frames { AllByRecursion (MaySend self.old.side self.old.config.peer_datagram) frames.now }
         ensures some { IfOk result (λ o. IfSome o (λ it. AreControlAppended (S.sealed self.old.session) now self.old self.new buf.old.items buf.new.items frames.now it.0 it.1)) }
         ensures tag { IfOk result (λ o. IfSome o (λ it. length (S.sealed self.old.session self.old.side Data self.old.space.next_number) ≡ 32)) }
         ensures none { IfOk result (λ o. o ≡ None → (buf.new.items ≡ buf.old.items) × (self.new ≡ self.old) × IsControlKept self.old frames.now) }
@@ -122,7 +122,7 @@ impl<S> Inner<S> {
         requires number { self.old.space.next_number < 2 ^ 62 }
         requires room { room ≡ 1200 - overhead self.old }
         requires wide { 1143 ≤ room }
-        requires frames { AllByRecursion (MaySend self.old.side) frames.now }
+        requires frames { AllByRecursion (MaySend self.old.side self.old.config.peer_datagram) frames.now }
         ensures count { IfOk result (λ count. count ≡ fitting room frames.now) }
         ensures some { IfOk result (λ count. 0 < count → AreControlPut now self.old self.new out.old.items out.new.items frames.now) }
         ensures none { IfOk result (λ count. count ≡ 0 → self.new ≡ self.old) }

@@ -1,4 +1,4 @@
-ghost use Rattle.std.specs.Prelude.{◌≡◌, ◌⊎◌, ◌<◌, ◌^◌, ℕ, List, [], None, Some, Bool, true, false, OnOk, OnErr, IfOk, IfSome, IfNone, IfErr, IsTrue};
+ghost use Rattle.std.specs.Prelude.{◌≡◌, ◌⊎◌, ◌<◌, ◌^◌, ℕ, List, [], length, None, Some, Bool, true, false, OnOk, OnErr, IfOk, IfSome, IfNone, IfErr, IsTrue};
 ghost use Rattle.qh_base.specs.TransportFault.{IsFault};
 ghost use Rattle.std.specs.Option.{option_map};
 ghost use Rattle.qh_base.specs.declared.connection_error.ConnectionError.TheVariants.{TransportError as Fault};
@@ -20,7 +20,7 @@ ghost use Rattle.qh_spec.specs.QuicFrames.{QuicFrame, AreQuicFrames};
 ghost use Rattle.qh_streams.specs.declared.fault.StreamFault.TheVariants.{Transport, Memory as Wanting};
 ghost use Rattle.std.specs.List.{AllByRecursion, list_any};
 
-use crate::{Inner, Session, State};
+use crate::{Accepted, Inner, Session, State};
 use qh_base::{ConnectionError, Memory, Moment, TransportError};
 use qh_frame::{Frame, get_frame};
 use qh_packet::{OneRttPacket, open_packet, validate_frames};
@@ -36,10 +36,10 @@ impl<S: Session> Inner<S> {
         alloc: Global,
         now: Moment,
         datagram: &'a [u8],
-    ) -> Result<Option<&'a [u8]>, Memory>
+    ) -> Result<Option<Accepted<'a>>, Memory>
         requires { IsConnection self.old }
         ensures ok { OnOk result (IsDatagramTaken (S.accepts self.old.session) now datagram.now self.old self.new) }
-        ensures brings { IfOk result (λ o. IfSome o (λ frames. BringsPacket (S.accepts self.old.session) now datagram.now frames.now self.old self.new)) }
+        ensures brings { IfOk result (λ o. IfSome o (λ a. (b : BringsPacket (S.accepts self.old.session) now datagram.now a.frames.now self.old self.new) × (a.taken ≡ length b.taken.taken))) }
         ensures none { IfOk result (λ o. o ≡ None → self.new.space ≡ self.old.space) }
         ensures has { is_open self.old.state ≡ true → HasWhatOpens (S.accepts self.old.session) self.old datagram.now }
         ensures err { OnErr result (IsFailedBy self.old self.new) }
@@ -49,7 +49,7 @@ impl<S: Session> Inner<S> {
         match self.state {
             State::Established => {}
             State::Closed { .. } => {
-                self.hear_closed(datagram);
+                self.take_closed(datagram);
                 return Ok(None);
             }
             State::Draining { .. } | State::Drained => return Ok(None),
@@ -58,15 +58,17 @@ impl<S: Session> Inner<S> {
             return Ok(None);
         };
         let stats = self.stats();
-        let Ok(is_accepted) = self.handle_packet(alloc, now, packet.number, packet.frames) else {
+        let Ok(accepted) = self.handle_packet(alloc, now, packet.number, packet.frames) else {
             self.fail(alloc, stats);
             return Err(Memory);
         };
-        if is_accepted {
-            Ok(Some(packet.frames))
-        } else {
-            Ok(None)
-        }
+        let Some(taken) = accepted else {
+            return Ok(None);
+        };
+        Ok(Some(Accepted {
+            frames: packet.frames,
+            taken,
+        }))
     }
 
     // The packet that a datagram is, where it is one for this end.
@@ -84,26 +86,15 @@ impl<S: Session> Inner<S> {
         )
     }
 
-    // A datagram came to an end that closed: it tells so again, unless the peer closed too.
-    fn hear_closed(&mut self, datagram: &[u8])
+    // A datagram came to an end that isn't open.
+    fn take_closed(&mut self, datagram: &[u8])
         requires whole { IsConnection self.old }
         requires closed { is_open self.old.state ≡ false }
         ensures taken { (now : AMoment) → IsDatagramTaken (S.accepts self.old.session) now datagram.now self.old self.new }
         ensures connection { IsConnection self.new }
     {
         let brings_close = self.brings_close(datagram);
-        if let State::Closed {
-            is_close_due,
-            until,
-            ..
-        } = &mut self.state
-        {
-            if brings_close {
-                self.state = State::Draining { until: *until };
-            } else {
-                *is_close_due = true;
-            }
-        }
+        self.hear_closed(brings_close);
     }
 
     // Whether a datagram is a packet that closes.
@@ -119,33 +110,33 @@ impl<S: Session> Inner<S> {
 }
 
 impl<S> Inner<S> {
-    // A packet came whose tag was accepted. Whether it is accepted: its number was noted, and its frames are taken up to one that
-    // closes or is refused. After want of memory some of it may have been taken.
+    // A packet came whose tag was accepted. If it is accepted its number was noted, and its frames were taken up to one that closes or
+    // is refused: it answers how many. After want of memory some of it may have been taken.
     fn handle_packet(
         &mut self,
         alloc: Global,
         now: Moment,
         number: u64,
         frames: &[u8],
-    ) -> Result<bool, Memory>
+    ) -> Result<Option<usize>, Memory>
         requires whole { IsConnection self.old }
         requires open { is_open self.old.state ≡ true }
         requires number { number < 2 ^ 62 }
         ensures ok { OnOk result (IsPacketHandled now number frames.now self.old self.new) }
-        ensures accepted { IfOk result (λ yes. yes ≡ true → IsNewTo self.old.space number × IsPacketTaken now number frames.now self.old self.new) }
-        ensures not { IfOk result (λ yes. yes ≡ false → self.new.space ≡ self.old.space) }
+        ensures accepted { IfOk result (λ o. IfSome o (λ count. IsNewTo self.old.space number × ((p : IsPacketTaken now number frames.now self.old self.new) × (count ≡ length p.taken)))) }
+        ensures not { IfOk result (λ o. o ≡ None → self.new.space ≡ self.old.space) }
         ensures err { OnErr result (self.new ≡ record self.old { space = self.new.space; idle = self.new.idle }) }
         ensures wanting { OnErr result (IsPacketUnread now number frames.now self.old) }
         ensures connection { OnOk result (IsConnection self.new) }
     {
         if !self.space.dedup.is_new(number) {
-            return Ok(false);
+            return Ok(None);
         }
         let surveyed = match validate_frames(frames) {
             Ok(surveyed) => surveyed,
             Err(fault) => {
                 self.close_by_fault(now, fault.transport_error());
-                return Ok(false);
+                return Ok(None);
             }
         };
         if self
@@ -154,13 +145,14 @@ impl<S> Inner<S> {
             .is_err()
         {
             self.refuse_unnoted(alloc, now, frames)?;
-            return Ok(false);
+            return Ok(None);
         }
         self.idle.on_accepted(now);
-        if let Some(error) = take_frames(&mut self.space, alloc, now, frames)? {
+        let (count, end) = take_frames(&mut self.space, alloc, now, frames)?;
+        if let Some(error) = end {
             self.end_by(now, error);
         }
-        Ok(true)
+        Ok(Some(count))
     }
 
     // Memory is wanting to note the number of a packet. A fault of its first frame closes all the same.
@@ -196,28 +188,32 @@ impl<S> Inner<S> {
     }
 }
 
-// Takes the frames of a packet, up to one that closes or is refused. Answers the error that ends the connection then.
+// Takes the frames of a packet, up to one that closes or is refused. Answers how many, and the error that ends the connection then.
 fn take_frames(
     space: &mut DataSpace,
     alloc: Global,
     now: Moment,
     frames: &[u8],
-) -> Result<Option<ConnectionError>, Memory>
+) -> Result<(usize, Option<ConnectionError>), Memory>
     requires space { IsSpace space.old }
     requires surveyed { (is_eliciting : Bool) × AreValidFrames frames.now is_eliciting }
-    ensures ok { IfOk result (λ end. (taken : List AFrame) × AreFramesTaken now.0 frames.now space.old space.new taken end) }
+    ensures ok { IfOk result (λ it. (taken : List AFrame) × AreFramesTaken now.0 frames.now space.old space.new taken it.1 × (it.0 ≡ length taken)) }
     ensures wanting { OnErr result (StopsUnrefused now.0 frames.now space.old) }
     ensures space { OnOk result (IsSpace space.new) }
 {
+    let mut count = 0;
     let mut rest = frames;
     while let Ok((frame, more)) = get_frame(rest) {
         match space.take_frame(alloc, &frame, now) {
-            Ok(None) => rest = more,
-            Ok(Some(closed)) => return Ok(Some(closed)),
-            Err(fault) => return Ok(Some(error_by(fault)?)),
+            Ok(None) => {
+                rest = more;
+                count += 1;
+            }
+            Ok(Some(closed)) => return Ok((count + 1, Some(closed))),
+            Err(fault) => return Ok((count, Some(error_by(fault)?))),
         }
     }
-    Ok(None)
+    Ok((count, None))
 }
 
 // The error that ends a connection where a frame is refused.

@@ -33,6 +33,9 @@ returns-clause-polled g c = ends.polled_behaves
 pub returns-clause-drained : goal.returns-clause-drained
 returns-clause-drained g c = ends.drained_behaves
 
+pub returns-clause-turned : goal.returns-clause-turned
+returns-clause-turned g c = ends.turned_behaves
+
 pub returns-clause-called : goal.returns-clause-called
 returns-clause-called g c = law.called_behaves
 

@@ -31,6 +31,9 @@ returns-clause-drained g c = law.drained_granted
 pub returns-clause-means : goal.returns-clause-means
 returns-clause-means g c = law.means_granted
 
+pub returns-clause-takes : goal.returns-clause-takes
+returns-clause-takes g c = law.takes_granted
+
 pub returns-clause-half : goal.returns-clause-half
 returns-clause-half g c inner id half p is = law.half_granted inner.config.limits inner.space.streams id half p is
 

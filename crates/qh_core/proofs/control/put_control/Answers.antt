@@ -7,7 +7,7 @@ pub loop-frame-init : goal.loop-frame-init
 loop-frame-init c = (refl, none_put c.args.room c.args.frames.now c.args.out.now.items)
 
 pub put-requires : goal.put-requires
-put-requires c = (c.requires.0, rw (← c.frame-item.is) at (holds_at (MaySend c.requires.0) c.args.frames.now c.loop-frame.frame-index c.frame-item.result c.loop-frame-test.true c.requires.1))
+put-requires c = (c.requires.0, c.requires.1, rw (← c.frame-item.is) at (holds_at (MaySend c.requires.0 c.requires.1) c.args.frames.now c.loop-frame.frame-index c.frame-item.result c.loop-frame-test.true c.requires.2))
 
 pub loop-frame-preserved : goal.loop-frame-preserved
 loop-frame-preserved c =

@@ -1,5 +1,5 @@
 use Rattle.qh_core.proofs.MadeCalls.{accept_made, concurrent_made, finish_made, open_made, priority_made, read_made, receive_window_made, received_reset_made, reset_made, send_window_made, stop_made, write_chunks_made, write_made}
-use Rattle.qh_core.proofs.MadeEnds.{close_made, control_made, endpoint_made, event_made, poll_made, timeout_made, transmit_made}
+use Rattle.qh_core.proofs.MadeEnds.{close_made, control_made, endpoint_made, event_made, poll_made, timeout_made, transmit_made, turned_made}
 use Rattle.qh_core.proofs.making.made.Goals as goal
 
 pub returns-clause-event : goal.returns-clause-event
@@ -22,6 +22,9 @@ returns-clause-poll g c = poll_made
 
 pub returns-clause-endpoint : goal.returns-clause-endpoint
 returns-clause-endpoint g c = endpoint_made
+
+pub returns-clause-turned : goal.returns-clause-turned
+returns-clause-turned g c = turned_made
 
 pub returns-clause-open : goal.returns-clause-open
 returns-clause-open g c = open_made

@@ -1,4 +1,4 @@
-use Rattle.std.proofs.Common.{◌≡◌, ◌∙◌, Result, Ok, ap, refl}
+use Rattle.std.proofs.Common.{◌≡◌, ◌∙◌, Result, Ok, ap, length, refl}
 use Rattle.qh_base.specs.declared.memory.Memory.{Memory}
 use Rattle.qh_packet.specs.Session.{PlainKeys}
 use Rattle.qh_exchange.specs.Pair.{End}
@@ -19,7 +19,7 @@ returns c =
           (λ space. c.accords.ensures.fresh (plain_accepts c.new-2.result.session) (plain_sealed c.new-2.result.session) c.new-2.result space (ap (λ (z : End). z.error) made.value) made.follows) refl refl refl;
       names = record {
         local_is = ap (λ (z : End). z.local_id) made.value ∙ ids.are.0;
-        remote_is = ap (λ (z : End). z.remote_id) made.value ∙ ids.are.1;
+        remote_is = ap (λ (z : End). length z.remote_id) made.value ∙ ap length ids.are.1;
         key_is = ap (λ (z : End). z.session.key_id) made.value ∙ key_of c.in_ok-session.session _ c.in_ok-session.ensures;
       };
     }

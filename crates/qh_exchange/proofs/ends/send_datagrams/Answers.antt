@@ -72,7 +72,7 @@ loop-datagram-preserved g c =
       step = end_trans true c.args.now c.args.side _ _ _ _ _ _ _ (λ more. more ≡ Sent c.args.side datagram ∷ []) (AreSent c.args.side (c.loop-datagram._datagram + 1)) c.loop-datagram.invariant.step
           (end_sent c.args.now c.args.side _ _ _ _ datagram (λ more. more ≡ Sent c.args.side datagram ∷ []) sent refl next.same_end next.undisturbed
           (subst (λ (b : Bool). IsMadeBy c.loop-datagram.end c.has_next.new.end (polled_acts datagram (Ok b))) c.if-not-found.false next.made)
-          (sound_sent c.args.now c.args.side _ _ datagram next.same_end next.session next.open c.is_owed-in-loop-datagram.ensures.open (next.sealed c.if-not-found.false)))
+          (sound_sent c.args.now c.args.side _ _ datagram next.same_end next.session next.open c.is_owed-in-loop-datagram.ensures.open (_, refl, next.sealed c.if-not-found.false)))
           (λ x y k m. rw m (sent_more c.args.side c.loop-datagram._datagram datagram x k));
       up = next.open;
       told = told_trans c.args.end.now.space.streams c.loop-datagram.end.space.streams c.has_next.new.end.space.streams c.loop-datagram.invariant.told next.told;

@@ -1,5 +1,6 @@
 use Rattle.qh_owing.proofs.OwingCalls.{accept_owes, chunks_owe, concurrent_owes, endpoint_owes, finish_owes, open_owes, poll_owes, priority_owes, read_owes, receive_window_owes, received_reset_owes, reset_owes, send_window_owes, stop_owes, write_owes}
 use Rattle.qh_owing.proofs.OwingConnections.{close_owes, event_owes, timed_out, transmit_owes}
+use Rattle.qh_owing.proofs.OwingMade.{turned_owes}
 use Rattle.qh_owing.proofs.WhatIsOwed.{confirmed, fresh, still_owed}
 use Rattle.qh_streams.specs.Streams.{is_two_way}
 use Rattle.qh_owing.proofs.laws.owing.Goals as goal
@@ -30,6 +31,9 @@ returns-clause-poll g c = poll_owes
 
 pub returns-clause-endpoint : goal.returns-clause-endpoint
 returns-clause-endpoint g c = endpoint_owes
+
+pub returns-clause-turned : goal.returns-clause-turned
+returns-clause-turned g c = turned_owes
 
 pub returns-clause-opens : goal.returns-clause-opens
 returns-clause-opens g c = open_owes

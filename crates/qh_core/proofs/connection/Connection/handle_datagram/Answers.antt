@@ -13,3 +13,6 @@ returns-clause-undisturbed g c =
     let inner = c.self.inside.inner in
     let kept = datagram_kept (g.S.Session.accepts inner.session) inner c.handle_datagram.new.self c.args.now c.args.datagram.now c.count.new.self c.handle_datagram.result c.handle_datagram.ensures.ok in
     rw (← c.self.view_is) kept
+
+pub returns-clause-brings : goal.returns-clause-brings
+returns-clause-brings g c = rw (← c.self.view_is) (rw c.count.ensures at c.handle_datagram.ensures.brings)

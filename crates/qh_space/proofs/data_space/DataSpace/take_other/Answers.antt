@@ -2,7 +2,7 @@ use Rattle.std.proofs.Common.{refl}
 use Rattle.qh_space.specs.Receiving.IsFrameTaken.{passive, challenge, ack}
 use Rattle.qh_space.proofs.FramesTaken.{other_taken}
 use Rattle.qh_space.proofs.data_space.DataSpace.take_other.Goals as goal
-use Rattle.qh_space.proofs.data_space.DataSpace.take_other.Goals.{in-Ack+in_ok-take_ack-in-Ack, in-PathChallenge, in-NewToken+in_ok-refuse_at_server-in-NewToken, in-HandshakeDone+in_ok-refuse_at_server-in-HandshakeDone}
+use Rattle.qh_space.proofs.data_space.DataSpace.take_other.Goals.{in-Ack+in_ok-take_ack-in-Ack, in-PathChallenge, in-NewToken+in_ok-refuse_at_server-in-NewToken, in-HandshakeDone+in_ok-refuse_at_server-in-HandshakeDone, in-Datagram+in_ok-refuse_datagram-in-Datagram}
 
 pub returns-in_default : goal.returns-in_default
 returns-in_default c =
@@ -17,4 +17,5 @@ returns-clause-ok c = elim c.match-frame.branch [
   | in-PathChallenge w ↦ rw w.in-PathChallenge.is (challenge _ w.self-is)
   | in-NewToken+in_ok-refuse_at_server-in-NewToken w ↦ rw w.in-NewToken.is (passive _ refl w.self-is)
   | in-HandshakeDone+in_ok-refuse_at_server-in-HandshakeDone w ↦ rw w.in-HandshakeDone.is (passive _ refl w.self-is)
+  | in-Datagram+in_ok-refuse_datagram-in-Datagram w ↦ rw w.in-Datagram.is (passive _ refl w.self-is)
 ]
