@@ -1,5 +1,5 @@
 -- The ids of the peer's that wait.
-use Rattle.std.proofs.Common.{◌≡◌, ◌≢◌, ℕ, ◌+◌, ◌<◌, ◌≤◌, ◌==◌, nat_lt, nat_le, cond, ltb, not, false, Bool, List, [], ◌∷◌, length, get_or, filter, map, insert, All, IsSome, IsTrue, unwrap_or, Some, None}
+use Rattle.std.proofs.Common.{◌≡◌, ◌≢◌, ℕ, ◌+◌, ◌^◌, ◌<◌, ◌≤◌, ◌==◌, nat_lt, nat_le, cond, ltb, not, false, Bool, List, [], ◌∷◌, length, get_or, filter, map, insert, All, IsSome, IsTrue, unwrap_or, Some, None}
 use Rattle.std.proofs.Common.{refl, sym, ap, ◌∙◌, subst, one-add, arith}
 use Rattle.std.specs.List.{position_or_len}
 use Rattle.std.proofs.lemmas.Bool.{cond_both, ltb-true, ltb-false, leb-true, eqb-false, lt-leb, le-leb, not-true, not-false, or_parts}
@@ -7,7 +7,7 @@ use Rattle.std.proofs.lemmas.Bool.Decides.{nat_tests}
 use Rattle.std.proofs.lemmas.List.{length-map}
 use Rattle.std.proofs.lemmas.List.Elements.{All-cons, All-nil, All-head, All-tail, All-filter, All-weaker, All-map, All-push, filter_passes}
 use Rattle.std.proofs.lemmas.List.Filters.{length-filter_both}
-use Rattle.qh_cids.specs.CidQueue.{PlainCids, IsQueue, MayWait, IsRising, held, limit, has_sequence, is_repeated, gone, raised, added, settled, succeeded, with_cid}
+use Rattle.qh_cids.specs.CidQueue.{PlainCids, AreFitting, IsQueue, MayWait, IsRising, held, limit, has_sequence, is_repeated, gone, raised, added, settled, succeeded, with_cid}
 use Rattle.qh_cids.specs.declared.cid_queue.RemoteCid.{RemoteCid}
 
 -- ---- an id in its place
@@ -115,9 +115,10 @@ held_added cid n q retired =
 -- ---- what holds at any time
 
 sound_succeeded : (q : PlainCids) (cids : List RemoteCid) (retired : List ℕ) → q.waiting ≡ cids → IsRising cids → All (MayWait q) cids
-    → held (succeeded q cids retired).cids ≤ limit → IsQueue (succeeded q cids retired).cids
-sound_succeeded q [] retired none rising each within = record { within = within; rising = subst IsRising (sym none) rising; each = subst (All (MayWait q)) (sym none) each; in_use = λ low. none }
-sound_succeeded q (first ∷ later) retired none rising each within =
+    → AreFitting q → held (succeeded q cids retired).cids ≤ limit → IsQueue (succeeded q cids retired).cids
+sound_succeeded q [] retired none rising each fitting within = record { within = within; rising = subst IsRising (sym none) rising; each = subst (All (MayWait q)) (sym none) each; in_use = λ low. none; fitting = fitting }
+sound_succeeded q (first ∷ later) retired none rising each fitting within =
+    let fits = subst (All (λ (cid : RemoteCid). cid.sequence < 2 ^ 62)) none fitting.1 in
     let head = All-head (MayWait q) first later each in
     let tail = All-tail (MayWait q) first later each in
     record {
@@ -125,14 +126,15 @@ sound_succeeded q (first ∷ later) retired none rising each within =
       rising = rising.1;
       each = λ k d in'. let here = tail k d in' in record { kept = here.kept; other = λ same. absurd (omega (arith, rising.0 k d in', same)); as_long = here.as_long ∙ sym head.as_long; has_token = here.has_token };
       in_use = λ low. absurd (omega (arith, head.kept, low));
+      fitting = (All-head (λ (cid : RemoteCid). cid.sequence < 2 ^ 62) first later fits, All-tail (λ (cid : RemoteCid). cid.sequence < 2 ^ 62) first later fits);
     }
 
 pub IsQueue-settled : (q : PlainCids) (retired : List ℕ) → IsRising q.waiting → All (MayWait q) q.waiting
-    → held (settled q retired).cids ≤ limit → IsQueue (settled q retired).cids
-IsQueue-settled q retired rising each =
+    → AreFitting q → held (settled q retired).cids ≤ limit → IsQueue (settled q retired).cids
+IsQueue-settled q retired rising each fitting =
     cond_both (nat_lt q.active.sequence q.retire_prior_to) (succeeded q q.waiting retired) (record { cids = q; retired = retired; has_new_active = false }) (λ h. held h.cids ≤ limit → IsQueue h.cids)
-    (λ e within. sound_succeeded q q.waiting retired refl rising each within)
-    (λ e within. record { within = within; rising = rising; each = each; in_use = λ low. absurd (omega (arith, ltb-false q.active.sequence q.retire_prior_to e, low)) })
+    (λ e within. sound_succeeded q q.waiting retired refl rising each fitting within)
+    (λ e within. record { within = within; rising = rising; each = each; in_use = λ low. absurd (omega (arith, ltb-false q.active.sequence q.retire_prior_to e, low)); fitting = fitting })
 
 -- all below n are to be retired
 pub All-raised : (n : ℕ) (q : PlainCids) → All (MayWait q) q.waiting → All (MayWait (raised n q)) (raised n q).waiting
@@ -140,6 +142,12 @@ All-raised n q each k d in' =
     let above = filter_passes (λ cid. nat_le n cid.sequence) q.waiting k d in' in
     let here = All-filter (λ cid. nat_le n cid.sequence) (MayWait q) q.waiting each k d in' in
     record { kept = leb-true n _ above; other = here.other; as_long = here.as_long; has_token = here.has_token }
+
+AreFitting-raised : (n : ℕ) (q : PlainCids) → AreFitting q → AreFitting (raised n q)
+AreFitting-raised n q fitting = (fitting.0, All-filter (λ cid. nat_le n cid.sequence) (λ cid. cid.sequence < 2 ^ 62) q.waiting fitting.1)
+
+AreFitting-added : (cid : RemoteCid) (n : ℕ) (q : PlainCids) → cid.sequence < 2 ^ 62 → AreFitting q → AreFitting (added cid (raised n q))
+AreFitting-added cid n q fits fitting = (fitting.0, All-with_cid (λ cid. cid.sequence < 2 ^ 62) cid (raised n q).waiting fits (AreFitting-raised n q fitting).1)
 
 pub length_both : (n : ℕ) (cids : List RemoteCid) → length (filter (λ cid. nat_le n cid.sequence) cids) + length (map (λ cid. cid.sequence) (filter (λ cid. nat_lt cid.sequence n) cids)) ≡ length cids
 length_both n cids =
@@ -151,7 +159,7 @@ held_raised n q = omega (arith, length_both n q.waiting)
 pub IsQueue-raised : (n : ℕ) (q : PlainCids) (retired : List ℕ) → IsQueue q → IsQueue (settled (raised n q) retired).cids
 IsQueue-raised n q retired sound =
     IsQueue-settled (raised n q) retired (IsRising-filter (λ cid. nat_le n cid.sequence) q.waiting sound.rising) (All-raised n q sound.each)
-    (omega (arith, held_settled-le (raised n q) retired, held_raised n q, sound.within))
+    (AreFitting-raised n q sound.fitting) (omega (arith, held_settled-le (raised n q) retired, held_raised n q, sound.within))
 
 -- an id is added that is none of them
 pub All-added : (cid : RemoteCid) (n : ℕ) (q : PlainCids) → All (MayWait q) q.waiting → MayWait (raised n q) cid → All (MayWait (added cid (raised n q))) (added cid (raised n q)).waiting
@@ -159,12 +167,12 @@ All-added cid n q each may k d in' =
     let here = All-with_cid (MayWait (raised n q)) cid (raised n q).waiting may (All-raised n q each) k d in' in
     record { kept = here.kept; other = here.other; as_long = here.as_long; has_token = here.has_token }
 
-pub IsQueue-added : (cid : RemoteCid) (n : ℕ) (q : PlainCids) (retired : List ℕ) → IsQueue q → MayWait (raised n q) cid → has_sequence cid.sequence q.waiting ≡ false
+pub IsQueue-added : (cid : RemoteCid) (n : ℕ) (q : PlainCids) (retired : List ℕ) → IsQueue q → MayWait (raised n q) cid → cid.sequence < 2 ^ 62 → has_sequence cid.sequence q.waiting ≡ false
     → held (settled (added cid (raised n q)) retired).cids ≤ limit → IsQueue (settled (added cid (raised n q)) retired).cids
-IsQueue-added cid n q retired sound may new within =
+IsQueue-added cid n q retired sound may fits new within =
     let others = All-filter (λ other. nat_le n other.sequence) (λ other. other.sequence ≢ cid.sequence) q.waiting (All-not_found cid.sequence q.waiting new) in
     IsQueue-settled (added cid (raised n q)) retired (IsRising-with_cid cid (raised n q).waiting others (IsRising-filter (λ other. nat_le n other.sequence) q.waiting sound.rising))
-    (All-added cid n q sound.each may) within
+    (All-added cid n q sound.each may) (AreFitting-added cid n q fits sound.fitting) within
 
 -- ---- what is retired, and what comes into use
 
@@ -222,3 +230,20 @@ pub IsOther-new : (m n : ℕ) (q : PlainCids) → is_repeated m q ≡ false → 
 IsOther-new m n q new =
     let parts = or_parts (m == q.active.sequence) (has_sequence m q.waiting) new in
     record { unused = eqb-false m q.active.sequence parts.0; unkept = All-filter (λ cid. nat_le n cid.sequence) (λ cid. cid.sequence ≢ m) q.waiting (All-not_found m q.waiting parts.1) }
+
+-- ---- what is retired fits into frames
+
+All-fitting_succeeded : (q : PlainCids) (cids : List RemoteCid) (retired : List ℕ) → q.active.sequence < 2 ^ 62 → All (λ n. n < 2 ^ 62) retired → All (λ n. n < 2 ^ 62) (succeeded q cids retired).retired
+All-fitting_succeeded q [] retired fits each = each
+All-fitting_succeeded q (first ∷ later) retired fits each = All-push (λ n. n < 2 ^ 62) retired q.active.sequence each fits
+
+pub All-fitting_settled : (q : PlainCids) (retired : List ℕ) → q.active.sequence < 2 ^ 62 → All (λ n. n < 2 ^ 62) retired → All (λ n. n < 2 ^ 62) (settled q retired).retired
+All-fitting_settled q retired fits each =
+    cond_both (nat_lt q.active.sequence q.retire_prior_to) (succeeded q q.waiting retired) (record { cids = q; retired = retired; has_new_active = false }) (λ h. All (λ n. n < 2 ^ 62) h.retired)
+    (λ e. All-fitting_succeeded q q.waiting retired fits each)
+    (λ e. each)
+
+pub All-fitting_gone : (n : ℕ) (q : PlainCids) → AreFitting q → All (λ m. m < 2 ^ 62) (gone n q)
+All-fitting_gone n q fitting =
+    All-map (λ m. m < 2 ^ 62) (λ (cid : RemoteCid). cid.sequence) (filter (λ cid. nat_lt cid.sequence n) q.waiting)
+    (All-filter (λ cid. nat_lt cid.sequence n) (λ cid. cid.sequence < 2 ^ 62) q.waiting fitting.1)

@@ -1,5 +1,5 @@
 -- The connection ids that the peer issued and that weren't retired (RFC 9000, sections 5.1.1, 5.1.2 and 19.15).
-use Rattle.std.specs.Prelude.{◌≡◌, ◌≢◌, ℕ, ◌+◌, ◌<◌, ◌≤◌, ◌==◌, nat_lt, nat_le, max, Bool, true, false, not, ◌&&◌, ◌||◌, List, [], ◌∷◌, ◌++◌, length, filter, map, All, IsSome, if◌then◌else◌, ⊤}
+use Rattle.std.specs.Prelude.{◌≡◌, ◌≢◌, ℕ, ◌+◌, ◌^◌, ◌<◌, ◌≤◌, ◌==◌, nat_lt, nat_le, max, Bool, true, false, not, ◌&&◌, ◌||◌, List, [], ◌∷◌, ◌++◌, length, filter, map, All, IsSome, if◌then◌else◌, ⊤}
 use Rattle.std.specs.List.{list_any}
 use Rattle.qh_cids.specs.declared.cid_queue.RemoteCid.{RemoteCid}
 
@@ -28,12 +28,17 @@ pub record MayWait (q : PlainCids) (cid : RemoteCid) : Type 0 where
   pub as_long : length cid.id ≡ length q.active.id
   pub has_token : IsSome cid.reset_token
 
+-- each sequence fits into a frame
+abbrev pub AreFitting : PlainCids → Type 0
+AreFitting q = (q.active.sequence < 2 ^ 62) × All (λ cid. cid.sequence < 2 ^ 62) q.waiting
+
 -- what holds at any time. One that is to be retired is in use only if no other waits (own)
 pub record IsQueue (q : PlainCids) : Type 0 where
   pub within : held q ≤ limit
   pub rising : IsRising q.waiting
   pub each : All (MayWait q) q.waiting
   pub in_use : q.active.sequence < q.retire_prior_to → q.waiting ≡ []
+  pub fitting : AreFitting q
 
 -- ---- what a NEW_CONNECTION_ID frame makes of the ids
 

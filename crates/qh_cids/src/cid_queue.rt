@@ -1,4 +1,4 @@
-ghost use Rattle.std.specs.Prelude.{◌≡◌, ◌≢◌, ◌↔◌, ◌+◌, ◌<◌, ◌≤◌, ◌++◌, ℕ, false, nat_lt, nat_le, List, [], ◌∷◌, length, filter, map, insert, All, IsErr, IsSome, IsTrue, IfOk, IfSome, OnErr, OnOk};
+ghost use Rattle.std.specs.Prelude.{◌≡◌, ◌≢◌, ◌↔◌, ◌+◌, ◌<◌, ◌≤◌, ◌^◌, ◌++◌, ℕ, false, nat_lt, nat_le, List, [], ◌∷◌, length, filter, map, insert, All, IsErr, IsSome, IsTrue, IfOk, IfSome, OnErr, OnOk};
 ghost use Rattle.std.specs.Option.{option_to_list};
 ghost use Rattle.arrayvec.specs.ArrayVec.{array_vec_len};
 ghost use Rattle.qh_cids.specs.CidQueue.{IsQueue, added, gone, handled, has_sequence as has_sequence_by, held, is_late as is_late_by, is_repeated as is_repeated_by, limit, raised, settled, with_cid};
@@ -87,7 +87,7 @@ impl CidQueue {
     }
 
     /// A NEW_CONNECTION_ID frame came: it bears this id, and says that all sequences below `retire_prior_to` are to be retired
-    /// (RFC 9000, section 19.15).
+    /// (RFC 9000, section 19.15). Its sequence is below 2^62, as all in frames are.
     ///
     /// An id below what earlier frames said, other than that in use, is to be retired at once. One whose sequence is known is
     /// a repetition: the one that came first stays (own). One that isn't as long as the id in use isn't kept, and is to be retired (own). Any other
@@ -99,12 +99,14 @@ impl CidQueue {
     pub fn insert(&mut self, cid: RemoteCid, retire_prior_to: u64) -> Result<Inserted, InsertError>
         requires token { IsSome cid.reset_token }
         requires prior { retire_prior_to ≤ cid.sequence }
+        requires fits { cid.sequence < 2 ^ 62 }
         ensures refused { IsErr result ↔ (limit < held (handled cid retire_prior_to self.old).cids) }
         ensures unchanged { OnErr result (self.new ≡ self.old) }
         ensures after { OnOk result (self.new ≡ (handled cid retire_prior_to self.old).cids) }
         ensures retired { IfOk result (λ i. i.retired.items ≡ (handled cid retire_prior_to self.old).retired) }
         ensures has_new_active { IfOk result (λ i. i.has_new_active ≡ (handled cid retire_prior_to self.old).has_new_active) }
         ensures spares { IfOk result (λ i. All (λ sequence. sequence ≢ self.new.active.sequence) i.retired.items) }
+        ensures fitting { IfOk result (λ i. All (λ sequence. sequence < 2 ^ 62) i.retired.items) }
         ensures has_token { IfOk result (λ i. IsTrue i.has_new_active → IsSome self.new.active.reset_token) }
     {
         if self.is_late(&cid) {
@@ -156,12 +158,14 @@ impl CidQueue {
 
     // All below `prior` are to be retired, and also this sequence, which no id here has.
     fn raise(&mut self, prior: u64, also: Option<u64>) -> Inserted
-        requires { IfSome also (λ sequence. is_repeated_by sequence self.old ≡ false) }
+        requires new { IfSome also (λ sequence. is_repeated_by sequence self.old ≡ false) }
+        requires fits { IfSome also (λ sequence. sequence < 2 ^ 62) }
         ensures after { self.new ≡ (settled (raised prior self.old) (gone prior self.old ++ option_to_list also)).cids }
         ensures within { held self.new ≤ limit }
         ensures retired { result.retired.items ≡ (settled (raised prior self.old) (gone prior self.old ++ option_to_list also)).retired }
         ensures has_new_active { result.has_new_active ≡ (settled (raised prior self.old) (gone prior self.old ++ option_to_list also)).has_new_active }
         ensures spares { All (λ sequence. sequence ≢ self.new.active.sequence) result.retired.items }
+        ensures fitting { All (λ sequence. sequence < 2 ^ 62) result.retired.items }
         ensures has_token { IsTrue result.has_new_active → IsSome self.new.active.reset_token }
     {
         let mut retired = retire_below(&mut self.waiting, prior);
@@ -178,11 +182,13 @@ impl CidQueue {
         requires kept { prior ≤ cid.sequence }
         requires other { is_repeated_by cid.sequence self.old ≡ false }
         requires as_long { length cid.id ≡ length self.old.active.id }
+        requires fits { cid.sequence < 2 ^ 62 }
         requires room { (retired : List ℕ) → held (settled (added cid (raised prior self.old)) retired).cids ≤ limit }
         ensures after { self.new ≡ (settled (added cid (raised prior self.old)) (gone prior self.old)).cids }
         ensures retired { result.retired.items ≡ (settled (added cid (raised prior self.old)) (gone prior self.old)).retired }
         ensures has_new_active { result.has_new_active ≡ (settled (added cid (raised prior self.old)) (gone prior self.old)).has_new_active }
         ensures spares { All (λ sequence. sequence ≢ self.new.active.sequence) result.retired.items }
+        ensures fitting { All (λ sequence. sequence < 2 ^ 62) result.retired.items }
         ensures has_token { IsTrue result.has_new_active → IsSome self.new.active.reset_token }
     {
         let retired = retire_below(&mut self.waiting, prior);

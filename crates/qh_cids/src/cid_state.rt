@@ -85,6 +85,13 @@ impl CidState {
         Ok((self.active.len() as u64) < limit)
     }
 
+    /// How long each id is.
+    pub fn id_len(&self) -> usize
+        ensures { result ≡ self.now.id_len }
+    {
+        self.id_len
+    }
+
     /// How many ids were issued, with the sequences below this number.
     pub fn issued(&self) -> u64
         ensures value { result ≡ self.now.issued }

@@ -1,7 +1,7 @@
-use Rattle.std.proofs.Common.{◌≡◌, ◌≢◌, ◌≤◌, ◌==◌, ℕ, All, IsSome, IsTrue, List, length, insert, false, refl, ap, sym, ◌∙◌, subst, subst₂}
+use Rattle.std.proofs.Common.{◌≡◌, ◌≢◌, ◌<◌, ◌≤◌, ◌^◌, ◌==◌, ℕ, All, IsSome, IsTrue, List, length, insert, false, refl, ap, sym, ◌∙◌, subst, subst₂}
 use Rattle.std.proofs.lemmas.Bool.{or_parts, eqb-false}
 use Rattle.qh_cids.specs.CidQueue.{PlainCids, Handled, MayWait, IsQueue, has_sequence, held, limit, is_repeated, gone, raised, added, settled, with_cid}
-use Rattle.qh_cids.proofs.Queues.{IsQueue-added, All-added, All-settled, All-gone_added, IsSome-settled}
+use Rattle.qh_cids.proofs.Queues.{IsQueue-added, All-added, All-settled, All-fitting_settled, All-fitting_gone, All-gone_added, IsSome-settled}
 use Rattle.qh_cids.proofs.cid_queue.CidQueue.add.Goals as goal
 
 abbrev before : goal.After-settle → PlainCids
@@ -45,7 +45,7 @@ may c = record {
 pub invariant_of-self : goal.invariant_of-self
 invariant_of-self c =
     let room = subst (λ (q : PlainCids). held (settled (added c.args.cid (raised c.args.prior q)) (gone c.args.prior (before c))).cids ≤ limit) (sym c.self.view_is) (c.requires.room (gone c.args.prior (before c))) in
-    subst IsQueue (sym (cids c)) (IsQueue-added c.args.cid c.args.prior (before c) (gone c.args.prior (before c)) c.self.invariant (may c) (new c).1 room)
+    subst IsQueue (sym (cids c)) (IsQueue-added c.args.cid c.args.prior (before c) (gone c.args.prior (before c)) c.self.invariant (may c) c.requires.fits (new c).1 room)
 
 pub returns-clause-retired : goal.returns-clause-retired
 returns-clause-retired c = retired c ∙ ap (λ (q : PlainCids). (settled (added c.args.cid (raised c.args.prior q)) (gone c.args.prior q)).retired) c.self.view_is
@@ -61,3 +61,8 @@ returns-clause-has_token c is_new =
     subst (λ (q : PlainCids). IsSome q.active.reset_token) (sym (cids c))
     (IsSome-settled (added c.args.cid (raised c.args.prior (before c))) (gone c.args.prior (before c)) (All-added c.args.cid c.args.prior (before c) c.self.invariant.each (may c))
     (subst IsTrue (c.settle.ensures.has_new_active ∙ handed c (λ h. h.has_new_active)) is_new))
+
+pub returns-clause-fitting : goal.returns-clause-fitting
+returns-clause-fitting c =
+    subst (λ (ns : List ℕ). All (λ n. n < 2 ^ 62) ns) (sym (retired c))
+    (All-fitting_settled (added c.args.cid (raised c.args.prior (before c))) (gone c.args.prior (before c)) c.self.invariant.fitting.0 (All-fitting_gone c.args.prior (before c) c.self.invariant.fitting))

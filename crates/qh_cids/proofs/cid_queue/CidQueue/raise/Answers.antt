@@ -1,8 +1,8 @@
-use Rattle.std.proofs.Common.{◌≡◌, ◌≢◌, ◌++◌, ℕ, All, IsSome, IsTrue, IfSome, List, [], Option, None, Some, option_to_list, false, append-nil, ap, ap₂, sym, ◌∙◌, subst, subst₂}
+use Rattle.std.proofs.Common.{◌≡◌, ◌≢◌, ◌<◌, ◌^◌, ◌++◌, ℕ, All, IsSome, IsTrue, IfSome, List, [], Option, None, Some, option_to_list, false, append-nil, ap, ap₂, sym, ◌∙◌, subst, subst₂}
 use Rattle.arrayvec.specs.ArrayVec.{ArrayVec}
 use Rattle.std.proofs.lemmas.List.Elements.{All-append, All-cons, All-nil}
 use Rattle.qh_cids.specs.CidQueue.{PlainCids, Handled, IsQueue, is_repeated, gone, raised, settled}
-use Rattle.qh_cids.proofs.Queues.{IsOther, IsOther-new, IsQueue-raised, All-raised, All-settled, All-gone, IsSome-settled}
+use Rattle.qh_cids.proofs.Queues.{IsOther, IsOther-new, IsQueue-raised, All-raised, All-settled, All-gone, All-fitting_settled, All-fitting_gone, IsSome-settled}
 use Rattle.qh_cids.proofs.cid_queue.CidQueue.raise.Goals.{in-Some, in_default}
 use Rattle.qh_cids.proofs.cid_queue.CidQueue.raise.Goals as goal
 
@@ -51,7 +51,7 @@ returns-clause-retired c = retired c ∙ ap (λ (q : PlainCids). (settled (raise
 
 pub returns-clause-spares : goal.returns-clause-spares
 returns-clause-spares c =
-    let new = subst (λ (q : PlainCids). IfSome c.args.also (λ m. is_repeated m q ≡ false)) (sym c.self.view_is) c.requires in
+    let new = subst (λ (q : PlainCids). IfSome c.args.also (λ m. is_repeated m q ≡ false)) (sym c.self.view_is) c.requires.new in
     subst₂ (λ (q : PlainCids) (ns : List ℕ). All (λ n. n ≢ q.active.sequence) ns) (sym (cids c)) (sym (retired c))
     (All-settled (raised c.args.prior (before c)) (to_retire c) (All-raised c.args.prior (before c) c.self.invariant.each)
     (All-append (IsOther (raised c.args.prior (before c))) _ _ (All-gone c.args.prior (before c) c.self.invariant.each) (All-also c.args.prior (before c) c.args.also new)))
@@ -61,3 +61,13 @@ returns-clause-has_token c is_new =
     subst (λ (q : PlainCids). IsSome q.active.reset_token) (sym (cids c))
     (IsSome-settled (raised c.args.prior (before c)) (to_retire c) (All-raised c.args.prior (before c) c.self.invariant.each)
     (subst IsTrue (c.settle.ensures.has_new_active ∙ handed c (λ h. h.has_new_active)) is_new))
+
+All-also_fits : (also : Option ℕ) → IfSome also (λ m. m < 2 ^ 62) → All (λ m. m < 2 ^ 62) (option_to_list also)
+All-also_fits None fits = All-nil (λ m. m < 2 ^ 62)
+All-also_fits (Some m) fits = All-cons (λ m. m < 2 ^ 62) m [] fits (All-nil (λ m. m < 2 ^ 62))
+
+pub returns-clause-fitting : goal.returns-clause-fitting
+returns-clause-fitting c =
+    subst (λ (ns : List ℕ). All (λ n. n < 2 ^ 62) ns) (sym (retired c))
+    (All-fitting_settled (raised c.args.prior (before c)) (to_retire c) c.self.invariant.fitting.0
+    (All-append (λ n. n < 2 ^ 62) _ _ (All-fitting_gone c.args.prior (before c) c.self.invariant.fitting) (All-also_fits c.args.also c.requires.fits)))

@@ -1,0 +1,5 @@
+pub mod Acked
+pub mod Kept
+pub mod Lost
+pub mod Packed
+pub mod Taken

@@ -1,0 +1,3 @@
+pub mod Control
+pub mod Datagrams
+pub mod Queue
