@@ -1,0 +1,9 @@
+pub mod HandshakeDatagrams
+pub mod MadeOpens
+pub mod MadeQuietly
+pub mod OrderSteps
+pub mod ShakeLaws
+pub mod ShortDatagrams
+pub mod StateKept
+pub mod Steps
+pub mod WithinParts

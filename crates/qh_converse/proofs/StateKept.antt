@@ -1,0 +1,137 @@
+-- A step of the handshake, and of the end of the 1-RTT packets, leaves what the end stands for by what was done so far.
+use Rattle.std.proofs.Common.{◌≡◌, ℕ, Bool, true, false, List, [], ◌∷◌, ◌++◌, length, Option, Some, None, refl, sym, ap, subst, ◌∙◌}
+use Rattle.std.proofs.lemmas.Option.{same_Some}
+use Rattle.std.specs.Prelude.{not, ◌&&◌, is_some}
+use Rattle.qh_conduct.specs.Behaves.{Behaves}
+use Rattle.qh_converse.proofs.OrderSteps.{alone_orders, quiet_orders, same_orders}
+use Rattle.qh_converse.proofs.ShakeLaws.{AreQuiet, shake_in}
+use Rattle.qh_converse.specs.Converses.{IsBegun, IsInOrder, peer_limits, progress_of}
+use Rattle.qh_converse.specs.Parts.{IsShakeOf}
+use Rattle.qh_core.specs.Inner.{IsSameEnd, is_client, is_open}
+use Rattle.qh_core.specs.declared.config.ConnConfig.{ConnConfig}
+use Rattle.qh_core.specs.declared.inner.Inner.{Inner}
+use Rattle.qh_handshake.specs.Follows.{Follows}
+use Rattle.qh_handshake.specs.declared.handshake.Handshake.{Handshake}
+use Rattle.qh_hello.specs.declared.transport_parameters.TransportParameters.{TransportParameters}
+use Rattle.qh_spec.proofs.HandshakeOrderLaws.{act_orders, sends_orders}
+use Rattle.qh_spec.specs.Greeted.{HasGreetedInOrder, IsGreeted}
+use Rattle.qh_spec.specs.HandshakeOrder.{Orders}
+use Rattle.qh_spec.specs.Link.{other}
+use Rattle.qh_spec.specs.Parted.{AreShort, IsInitialAlone}
+use Rattle.qh_spec.specs.Transcript.{Act, HandedIn, HandedOut, handed_in}
+use Rattle.qh_spec.specs.declared.sides.Side.{Side}
+use Rattle.qh_spec.specs.declared.sides.Side.TheVariants.{Client, Server}
+
+-- what is known to be there isn't missing
+there : {X : Type 0} (o : Option X) → is_some o ≡ true → o ≡ None → ⊥
+there o some none = let z : true ≡ false = sym some ∙ ap is_some none in cc
+
+-- a client hears nothing before it is connected
+hears_nothing : (m : Bool) (side : Side) → (m ≡ true → side ≡ Client) → m && not (is_client side) ≡ true → ⊥
+hears_nothing false side client e = cc
+hears_nothing true Client client e = cc
+hears_nothing true Server client e = let z : Server ≡ Client = client refl in cc
+
+is_heard : (k : Bool) (side : Side) → side ≡ Server → k ≡ true → k && not (is_client side) ≡ true
+is_heard k Client server connected = let z : Client ≡ Server = server in cc
+is_heard true Server server connected = refl
+is_heard false Server server connected = cc
+
+module _ {S : Type 0} where
+  -- ---- the end of the 1-RTT packets
+
+  pub same_begun : (old new : Handshake) (c : Inner S) (part : List Act) → new.side ≡ old.side → new.local_id ≡ old.local_id → new.peer ≡ old.peer → IsBegun old c part → IsBegun new c part
+  same_begun old new c part side id peer b = record {
+    side_is = b.side_is ∙ sym side;
+    id_is = b.id_is ∙ sym id;
+    behaves = b.behaves;
+    short = b.short;
+    not_yet = λ e. b.not_yet (sym peer ∙ e);
+    limits = λ p e up. b.limits p (sym peer ∙ e) up;
+  }
+
+  pub made_begun : (h : Handshake) (c new : Inner S) (part acts : List Act) → IsSameEnd c new → (is_open new.state ≡ true → is_open c.state ≡ true) → Behaves new (part ++ acts)
+      → AreShort (part ++ acts) → (h.peer ≡ None → acts ≡ []) → IsBegun h c part → IsBegun h new (part ++ acts)
+  made_begun h c new part acts same opens behaves short quiet b = record {
+    side_is = same.side ∙ b.side_is;
+    id_is = same.local_id ∙ b.id_is;
+    behaves = behaves;
+    short = short;
+    not_yet = λ e. ap (λ (z : List Act). z ++ acts) (b.not_yet e) ∙ quiet e;
+    limits = λ p e up. ap (λ (k : ConnConfig). k.peer) same.config ∙ b.limits p e (opens up);
+  }
+
+  -- one act more, of an end that was greeted
+  pub acted_begun : (h : Handshake) (c new : Inner S) (part : List Act) (a : Act) → IsSameEnd c new → (is_open new.state ≡ true → is_open c.state ≡ true) → Behaves new (part ++ a ∷ [])
+      → AreShort (part ++ a ∷ []) → is_some h.peer ≡ true → IsBegun h c part → IsBegun h new (part ++ a ∷ [])
+  acted_begun h c new part a same opens behaves short greeted b = made_begun h c new part (a ∷ []) same opens behaves short (λ e. absurd (there h.peer greeted e)) b
+
+  -- the end was greeted as its connection ended
+  pub shut_begun : (old new : Handshake) (c : Inner S) (part : List Act) → new.side ≡ old.side → new.local_id ≡ old.local_id → is_open c.state ≡ false → is_some new.peer ≡ true → IsBegun old c part
+      → IsBegun new c part
+  shut_begun old new c part side id shut greeted b = record {
+    side_is = b.side_is ∙ sym side;
+    id_is = b.id_is ∙ sym id;
+    behaves = b.behaves;
+    short = b.short;
+    not_yet = λ e. absurd (there new.peer greeted e);
+    limits = λ p e up. let z : true ≡ false = sym up ∙ shut in cc;
+  }
+
+  -- an end of 1-RTT packets begins with the limits of the hello that came
+  pub greeted_begun : (h : Handshake) (c : Inner S) (p : TransportParameters) → c.side ≡ h.side → c.local_id ≡ h.local_id → h.peer ≡ Some p → c.config.peer ≡ peer_limits p → Behaves c []
+      → IsBegun h c []
+  greeted_begun h c p side id peer limits behaves = record {
+    side_is = side;
+    id_is = id;
+    behaves = behaves;
+    short = λ d i. absurd i;
+    not_yet = λ e. let z : None ≡ Some p = sym e ∙ peer in cc;
+    limits = λ r e up. limits ∙ ap (λ (z : TransportParameters). peer_limits z) (same_Some p r (sym peer ∙ e));
+  }
+
+  -- ---- the order
+
+  pub same_order : (old new : Handshake) (c d : Inner S) (k : Bool) (t : List Act) → new.side ≡ old.side → new.peer ≡ old.peer → d.local_id ≡ c.local_id → length d.remote_id ≡ length c.remote_id
+      → IsInOrder old c k t → IsInOrder new d k t
+  same_order old new c d k t side peer local remote order n is =
+      let greeted : is_some new.peer ≡ is_some old.peer = ap (λ (o : Option TransportParameters). is_some o) peer in
+      subst (λ (id : List ℕ). Orders (length id) n (progress_of new k) t) (sym local)
+      (same_orders (length c.local_id) n (progress_of old k) (progress_of new k) t side greeted (ap (λ (s : Side). k && not (is_client s)) side)
+      (order n (λ e. is (greeted ∙ e) ∙ remote)))
+
+  pub came_order : (old new : Handshake) (c : Inner S) (k : Bool) (t : List Act) (d : List ℕ) → new.side ≡ old.side → new.peer ≡ old.peer → IsInOrder old c k t
+      → IsInOrder new c k (t ++ HandedIn d ∷ [])
+  came_order old new c k t d side peer order n is =
+      act_orders (length c.local_id) n (progress_of new k) t (HandedIn d) (λ g e. cc) (same_order old new c c k t side peer refl refl order n is)
+
+  -- the end is greeted by a datagram; a server isn't connected by that
+  pub greeted_order : (old new : Handshake) (c d : Inner S) (k m : Bool) (t : List Act) (g : List ℕ) → new.side ≡ old.side → old.peer ≡ None → (m ≡ true → new.side ≡ Client)
+      → d.local_id ≡ c.local_id → IsGreeted (length d.local_id) (handed_in (t ++ HandedIn g ∷ [])) (other new.side) → IsInOrder old c k t → IsInOrder new d m (t ++ HandedIn g ∷ [])
+  greeted_order old new c d k m t g side none client local greeted order n _ =
+      let before = act_orders (length c.local_id) n (progress_of old k) t (HandedIn g) (λ x e. cc) (order n (λ e. absurd (there old.peer e none))) in
+      record {
+        greeted = λ _. greeted;
+        heard = λ e. absurd (hears_nothing m new.side client e);
+        order = subst (λ (s : Side). HasGreetedInOrder (length d.local_id) n s (t ++ HandedIn g ∷ [])) (sym side)
+            (subst (λ (id : List ℕ). HasGreetedInOrder (length id) n old.side (t ++ HandedIn g ∷ [])) (sym local) before.order);
+      }
+
+  pub quiet_order : (h : Handshake) (c : Inner S) (k : Bool) (acts t : List Act) → AreQuiet acts → IsInOrder h c k t → IsInOrder h c k (t ++ acts)
+  quiet_order h c k acts t quiet order n is = quiet_orders (length c.local_id) n (progress_of h k) acts t quiet (order n is)
+
+  -- the handshake hands out one Initial packet
+  pub alone_order : (hello : List ℕ) (old new : Handshake) (c : Inner S) (k : Bool) (shake t : List Act) (d : List ℕ) → new.side ≡ old.side → new.peer ≡ old.peer → IsInitialAlone d
+      → IsShakeOf shake t → Follows hello new (shake ++ HandedOut d ∷ []) → IsInOrder old c k t → IsInOrder new c k (t ++ HandedOut d ∷ [])
+  alone_order hello old new c k shake t d side peer alone is_shake follows order n is =
+      alone_orders (length c.local_id) n (progress_of new k) t d alone
+      (λ server from payload has. subst (λ (z : List (List ℕ)). IsGreeted (length c.local_id) z (other new.side)) (shake_in shake t is_shake)
+      (follows.answers shake [] d refl server n from payload has (length c.local_id)))
+      (same_order old new c c k t side peer refl refl order n is)
+
+  -- the end hands out a 1-RTT packet
+  pub sent_order : (h : Handshake) (c d : Inner S) (k : Bool) (t : List Act) (x : List ℕ) → is_some h.peer ≡ true → (h.side ≡ Server → k ≡ true) → d.local_id ≡ c.local_id
+      → length d.remote_id ≡ length c.remote_id → IsInOrder h c k t → IsInOrder h d k (t ++ HandedOut x ∷ [])
+  sent_order h c d k t x greeted connected local remote order n is =
+      sends_orders (length d.local_id) n (progress_of h k) t x (λ _. greeted) (λ server _. is_heard k h.side server (connected server)) (λ _ _ _ _. greeted)
+      (same_order h h c d k t refl refl local remote order n is)

@@ -1,0 +1,2 @@
+pub mod Converses
+pub mod Parts

@@ -1,0 +1,60 @@
+ghost use Rattle.std.specs.Prelude.{◌≡◌, ◌++◌, ◌∷◌, ℕ, Bool, true, false, List, [], length, Option, Some, None, is_some};
+ghost use Rattle.qh_base.specs.declared.connection_error.ConnectionError.{ConnectionError as AnError};
+ghost use Rattle.qh_base.specs.declared.time.Moment.{Moment as AMoment};
+ghost use Rattle.qh_conduct.specs.Announced.{MakesTags};
+ghost use Rattle.qh_conduct.specs.Reached.{AreNamed};
+ghost use Rattle.qh_converse.specs.Converses.{Converses, Hears, peer_limits};
+ghost use Rattle.qh_core.specs.Follows.{Follows as CoreFollows};
+ghost use Rattle.qh_core.specs.Inner.{IsNewSpace, is_open};
+ghost use Rattle.qh_core.specs.Made.{AcceptsTags, MakesTagsOf, IsMade};
+ghost use Rattle.qh_core.specs.declared.inner.Inner.{Inner as AnInner};
+ghost use Rattle.qh_handshake.specs.Follows.{IsFresh};
+ghost use Rattle.qh_handshake.specs.Handshake.{dropping};
+ghost use Rattle.qh_handshake.specs.Incoming.{IsDatagramTaken};
+ghost use Rattle.qh_handshake.specs.Lost.{IsLost};
+ghost use Rattle.qh_handshake.specs.declared.handshake.Handshake.{Handshake as AHandshake};
+ghost use Rattle.qh_hello.specs.declared.transport_parameters.TransportParameters.{TransportParameters as Parameters};
+ghost use Rattle.qh_packet.specs.Session.{AcceptsTag, NamesTags};
+ghost use Rattle.qh_spec.specs.Greeted.{HasPacketOf};
+ghost use Rattle.qh_spec.specs.Link.{other};
+ghost use Rattle.qh_spec.specs.Parted.{EndsWith, IsShort};
+ghost use Rattle.qh_spec.specs.Transcript.{Act, HandedIn, handed_in};
+ghost use Rattle.qh_spec.specs.declared.sides.Side.TheVariants.{Client};
+ghost use Rattle.qh_spec.specs.declared.sides.Space.TheVariants.{Data};
+
+use qh_conduct::{behaves, behaves_on};
+use qh_handshake::{follows, goes_on, sends};
+
+/// A datagram comes: the handshake takes its Initial packets (`hears`), by which the end may be greeted (`greets`), also as the connection
+/// ends by it (`ends`) or for want of memory (`lost`, `ends_lost`); of what is behind
+/// them the end of the 1-RTT packets hears nothing (`unheard`), or takes it (`heard`); and a server is connected by it (`connects`).
+pub fn hears<S>()
+    ensures fresh { (hello : List ℕ) (h : AHandshake) (c : AnInner S) → IsFresh hello h → c.side ≡ h.side → c.local_id ≡ h.local_id → IsNewSpace c.config c.side c.space → CoreFollows c []
+        → Converses hello h c false [] }
+    ensures hears { (accepts : AcceptsTag) (now : AMoment) (d rest hello : List ℕ) (old new : AHandshake) (retried learned : Option (List ℕ)) (end : Option AnError) (c : AnInner S) (k : Bool) (t : List Act)
+        → NamesTags accepts → IsDatagramTaken accepts now d old new rest retried learned end → new.peer ≡ old.peer → Converses hello old c k t → Hears hello new c k t d }
+    ensures greets { (accepts : AcceptsTag) (now : AMoment) (d rest hello : List ℕ) (old new : AHandshake) (retried learned : Option (List ℕ)) (end : Option AnError) (c next : AnInner S) (k m : Bool) (t : List Act) (p : Parameters)
+        → NamesTags accepts → IsDatagramTaken accepts now d old new rest retried learned end → old.peer ≡ None → new.peer ≡ Some p
+        → IsNewSpace next.config next.side next.space → CoreFollows next [] → next.config.peer ≡ peer_limits p → next.side ≡ c.side → next.local_id ≡ c.local_id
+        → (m ≡ true → new.side ≡ Client) → Converses hello old c k t → Hears hello new next m t d }
+    ensures lost { (accepts : AcceptsTag) (now : AMoment) (d hello : List ℕ) (old new : AHandshake) (learned : Option (List ℕ)) (c : AnInner S) (k : Bool) (t : List Act)
+        → NamesTags accepts → IsLost accepts now d old new learned → new.peer ≡ old.peer → Converses hello old c k t → Hears hello (dropping new) c k t d }
+    ensures ends { (accepts : AcceptsTag) (now : AMoment) (d rest hello : List ℕ) (old new : AHandshake) (retried learned : Option (List ℕ)) (end : Option AnError) (c : AnInner S) (t : List Act) (p : Parameters)
+        → NamesTags accepts → IsDatagramTaken accepts now d old new rest retried learned end → old.peer ≡ None → new.peer ≡ Some p → is_open c.state ≡ false
+        → Converses hello old c false t → Hears hello new c false t d }
+    ensures ends_lost { (accepts : AcceptsTag) (now : AMoment) (d hello : List ℕ) (old new : AHandshake) (learned : Option (List ℕ)) (c : AnInner S) (t : List Act) (p : Parameters)
+        → NamesTags accepts → IsLost accepts now d old new learned → old.peer ≡ None → new.peer ≡ Some p → is_open c.state ≡ false
+        → Converses hello old c false t → Hears hello (dropping new) c false t d }
+    ensures unheard { (hello d : List ℕ) (h : AHandshake) (c : AnInner S) (k : Bool) (t : List Act) → Hears hello h c k t d → Converses hello h c k (t ++ HandedIn d ∷ []) }
+    ensures heard { (accepts : AcceptsTags S) (sealed : MakesTagsOf S) (hello tail d : List ℕ) (h : AHandshake) (c new : AnInner S) (k : Bool) (t : List Act)
+        → AreNamed (accepts c.session) → MakesTags (sealed c.session) → EndsWith tail d → IsShort tail → is_some h.peer ≡ true → IsMade accepts sealed c new (HandedIn tail ∷ [])
+        → Hears hello h c k t d → Converses hello h new k (t ++ HandedIn d ∷ []) }
+    ensures connects { (hello : List ℕ) (h : AHandshake) (c : AnInner S) (k : Bool) (t : List Act) → HasPacketOf (length c.local_id) (handed_in t) (other h.side) Data
+        → Converses hello h c k t → Converses hello (record (dropping h) { is_validated = true }) c true t }
+{
+    behaves::<S>();
+    behaves_on::<S>();
+    follows();
+    goes_on();
+    sends();
+}
