@@ -95,7 +95,8 @@ impl CidQueue {
     /// value is as it was.
     ///
     /// If the id in use is to be retired, the first that waits comes into use. If none waits it stays (own). So what is to be
-    /// retired is never in use then: a packet that says it has another destination (RFC 9000, section 19.16).
+    /// retired is never in use then: a packet that says it has another destination (RFC 9000, section 19.16). The id in use is as long as
+    /// the one before.
     pub fn insert(&mut self, cid: RemoteCid, retire_prior_to: u64) -> Result<Inserted, InsertError>
         requires token { IsSome cid.reset_token }
         requires prior { retire_prior_to ≤ cid.sequence }
@@ -108,6 +109,7 @@ impl CidQueue {
         ensures spares { IfOk result (λ i. All (λ sequence. sequence ≢ self.new.active.sequence) i.retired.items) }
         ensures fitting { IfOk result (λ i. All (λ sequence. sequence < 2 ^ 62) i.retired.items) }
         ensures has_token { IfOk result (λ i. IsTrue i.has_new_active → IsSome self.new.active.reset_token) }
+        ensures as_long { length self.new.active.id ≡ length self.old.active.id }
     {
         if self.is_late(&cid) {
             return Ok(Inserted::retires(cid.sequence));

@@ -23,8 +23,8 @@ use qh_streams::StreamFault;
 use std::alloc::Global;
 use std::net::SocketAddr;
 
-/// No more RETIRE_CONNECTION_ID frames may await their acknowledgement (RFC 9000, section 5.1.2; quinn-proto, ten times the ids that are
-/// kept).
+/// While so many RETIRE_CONNECTION_ID frames await their acknowledgement no further id is taken (RFC 9000, section 5.1.2; quinn-proto, ten
+/// times the ids that are kept).
 const MOST_RETIRES: usize = 80;
 
 /// What an end of a connection keeps of the frames beside those of streams and of acknowledgement.
@@ -179,7 +179,7 @@ impl ControlState {
 
     /// Takes a frame of a packet that was accepted. A fault says why it is refused, with its code and the type of the frame; nothing
     /// changed then. Memory is answered only for a frame that isn't at fault, of which something is to be kept; of an id's frame the ids
-    /// and the frames that wait may have changed then.
+    /// and the frames that wait may have changed then. The peer's id in use stays as long as it is.
     pub fn take_frame(
         &mut self,
         alloc: Global,
@@ -193,6 +193,7 @@ impl ControlState {
         ensures memory { IfErr result (λ e. e ≡ Wanting → keeps frame.now ≡ true) }
         ensures rest { IfErr result (λ e. self.new ≡ record self.old { ids = self.new.ids; own_ids = self.new.own_ids; queue = self.new.queue }) }
         ensures sendable { (side : ASide) → KeepsSendable side self.old self.new }
+        ensures as_long { length self.new.ids.active.id ≡ length self.old.ids.active.id }
     {
         match frame {
             Frame::NewConnectionId {
@@ -232,6 +233,7 @@ impl ControlState {
         ensures refused { IfErr result (λ e. (e ≡ Wanting → ⊥) → self.new ≡ self.old) }
         ensures rest { IfErr result (λ e. self.new ≡ record self.old { ids = self.new.ids; queue = self.new.queue }) }
         ensures sendable { (side : ASide) → KeepsSendable side self.old self.new }
+        ensures as_long { length self.new.ids.active.id ≡ length self.old.ids.active.id }
     {
         if sequence < retire_prior_to {
             return Err(new_id_fault(TransportErrorCode::FRAME_ENCODING_ERROR));

@@ -18,8 +18,8 @@ pub struct SentControl {
 }
 
 /// Frames of a connection's own that wait to be sent, and those that are out: sent, and neither acknowledged nor lost (RFC 9000, section
-/// 13.3). There are few: an end has at most eight ids at a time, and at most 80 retirements that aren't acknowledged; tokens are as many as
-/// the application queues.
+/// 13.3). There are few: an end has at most eight ids at a time, and takes no further one while 80 retirements aren't acknowledged; tokens are
+/// as many as the application queues.
 #[derive(Drop)]
 pub struct ControlQueue {
     waiting: Vec<ControlFrame>,
