@@ -1,6 +1,7 @@
 pub mod HandshakeDatagrams
 pub mod MadeOpens
 pub mod MadeQuietly
+pub mod MidDatagram
 pub mod OrderSteps
 pub mod ShakeLaws
 pub mod ShortDatagrams

@@ -22,9 +22,6 @@ ghost use Rattle.qh_spec.specs.Transcript.{Act, HandedIn, handed_in};
 ghost use Rattle.qh_spec.specs.declared.sides.Side.TheVariants.{Client};
 ghost use Rattle.qh_spec.specs.declared.sides.Space.TheVariants.{Data};
 
-use qh_conduct::{behaves, behaves_on};
-use qh_handshake::{follows, goes_on, sends};
-
 /// A datagram comes: the handshake takes its Initial packets (`hears`), by which the end may be greeted (`greets`), also as the connection
 /// ends by it (`ends`) or for want of memory (`lost`, `ends_lost`); of what is behind
 /// them the end of the 1-RTT packets hears nothing (`unheard`), or takes it (`heard`); and a server is connected by it (`connects`).
@@ -51,10 +48,4 @@ pub fn hears<S>()
         → Hears hello h c k t d → Converses hello h new k (t ++ HandedIn d ∷ []) }
     ensures connects { (hello : List ℕ) (h : AHandshake) (c : AnInner S) (k : Bool) (t : List Act) → HasPacketOf (length c.local_id) (handed_in t) (other h.side) Data
         → Converses hello h c k t → Converses hello (record (dropping h) { is_validated = true }) c true t }
-{
-    behaves::<S>();
-    behaves_on::<S>();
-    follows();
-    goes_on();
-    sends();
-}
+{}
