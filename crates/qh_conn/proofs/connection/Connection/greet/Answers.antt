@@ -1,0 +1,77 @@
+use Rattle.std.proofs.Common.{◌≡◌, ℕ, Bool, true, false, List, [], ◌∷◌, ◌++◌, Some, if◌then◌else◌, sym, ap, subst, ◌∙◌}
+use Rattle.qh_base.specs.declared.time.Moment.{Moment}
+use Rattle.qh_conn.specs.Greeting.{IsBegunBy, IsGreetedNow, connected, with_core}
+use Rattle.qh_conn.specs.declared.connection.Connection.{Connection}
+use Rattle.qh_core.specs.declared.inner.Inner.{Inner}
+use Rattle.qh_hello.specs.declared.transport_parameters.TransportParameters.{TransportParameters}
+use Rattle.qh_core.specs.Inner.{is_client}
+use Rattle.qh_spec.specs.declared.sides.Side.{Side}
+use Rattle.qh_spec.specs.declared.sides.Side.TheVariants.{Client, Server}
+use Rattle.qh_conn.proofs.InFed.{discarded_hears, failing, hears_fails, read_fails, read_unknown}
+use Rattle.qh_conn.specs.Hearing.{FailsTo}
+use Rattle.qh_converse.specs.Converses.{Hears}
+use Rattle.qh_handshake.specs.declared.handshake.Handshake.{Handshake}
+use Rattle.qh_spec.specs.Transcript.{Act, HandedIn}
+use Rattle.qh_conn.proofs.connection.Connection.greet.Goals as goal
+
+module _ {S : Type 0} where
+  abbrev behind : Moment → (old : Connection S) → Inner S → TransportParameters → Side → Connection S
+  behind now old core peer side = if is_client side then connected now (with_core old core peer) else with_core old core peer
+
+  greeted : (now : Moment) (old begun new : Connection S) (peer : TransportParameters) (side : Side) → old.handshake.peer ≡ Some peer → IsBegunBy peer old.handshake old.early old.core begun.core
+      → begun ≡ with_core old begun.core peer → begun.handshake.side ≡ side → new ≡ behind now old begun.core peer side → IsGreetedNow now old new
+  greeted now old begun new peer side is core rest side_is new_is = record {
+    peer = peer;
+    peer_is = is;
+    core = begun.core;
+    core_is = core;
+    new_is = new_is ∙ ap (behind now old begun.core peer) (sym side_is ∙ ap (λ (z : Connection S). z.handshake.side) rest);
+  }
+
+  begun_hears : (old begun : Connection S) (hello : List ℕ) (t : List Act) (d : List ℕ) (m : Bool) (peer : TransportParameters) → begun ≡ with_core old begun.core peer
+      → Hears hello old.handshake begun.core m t d → Hears hello begun.handshake begun.core m t d
+  begun_hears old begun hello t d m peer is p = subst (λ (z : Handshake). Hears hello z begun.core m t d) (sym (ap (λ (z : Connection S). z.handshake) is)) p
+
+  side_of : (old begun : Connection S) (peer : TransportParameters) → begun ≡ with_core old begun.core peer → old.handshake.side ≡ begun.handshake.side
+  side_of old begun peer is = sym (ap (λ (z : Connection S). z.handshake.side) is)
+
+pub returns-in_ok-connect-in-Client-clause-some : goal.returns-in_ok-connect-in-Client-clause-some
+returns-in_ok-connect-in-Client-clause-some g c = λ _.
+    let e = c.in_ok-begin.ensures in
+    greeted c.args.now c.args.self.now c.begin.new.self c.connect.new.self c.in-Some.peer Client c.in-Some.is e.core e.rest c.in-Client.is
+    (c.in_ok-connect-in-Client.ensures.ok ∙ ap (λ (z : Connection _). connected c.args.now z) e.rest)
+
+pub returns-in-Server-clause-some : goal.returns-in-Server-clause-some
+returns-in-Server-clause-some g c = λ _.
+    let e = c.in_ok-begin.ensures in
+    greeted c.args.now c.args.self.now c.begin.new.self c.begin.new.self c.in-Some.peer Server c.in-Some.is e.core e.rest c.in-Server.is e.rest
+
+pub returns-in_default-clause-hears : goal.returns-in_default-clause-hears
+returns-in_default-clause-hears g c = λ hello d before t r none. (read_unknown hello before t d c.args.self.now none c.in_default.is r, tt)
+
+pub returns-in_err-begin-clause-hears : goal.returns-in_err-begin-clause-hears
+returns-in_err-begin-clause-hears g c = λ hello d before t r none.
+    failing _ _ c.from_residual.result c.from_residual.ensures.0
+    (subst (λ (z : Connection _). FailsTo hello z (t ++ HandedIn d ∷ [])) (sym c.in_err-begin.ensures.err) (read_fails hello before t d c.args.self.now (λ _. c.requires.first.0) r))
+
+pub returns-in_err-connect-in-Client-clause-hears : goal.returns-in_err-connect-in-Client-clause-hears
+returns-in_err-connect-in-Client-clause-hears g c = λ hello d before t r none.
+    let new = c.connect.new.self in
+    let is = c.in_err-connect-in-Client.ensures.err in
+    let hears = begun_hears c.args.self.now c.begin.new.self hello t d true c.in-Some.peer c.in_ok-begin.ensures.rest (c.in_ok-begin.ensures.hears true (λ _. side_of c.args.self.now c.begin.new.self c.in-Some.peer c.in_ok-begin.ensures.rest ∙ c.in-Client.is) hello d before t r none) in
+    failing _ _ c.from_residual-in_err-connect-in-Client.result c.from_residual-in_err-connect-in-Client.ensures.0
+    (hears_fails hello new t d
+    (discarded_hears hello c.begin.new.self new t d (ap (λ (z : Connection _). z.handshake) is) (ap (λ (z : Connection _). z.core) is) (ap (λ (z : Connection _). z.is_connected) is) hears))
+
+pub returns-in_ok-connect-in-Client-clause-hears : goal.returns-in_ok-connect-in-Client-clause-hears
+returns-in_ok-connect-in-Client-clause-hears g c = λ hello d before t r none.
+    let new = c.connect.new.self in
+    let is = c.in_ok-connect-in-Client.ensures.ok in
+    let hears = begun_hears c.args.self.now c.begin.new.self hello t d true c.in-Some.peer c.in_ok-begin.ensures.rest (c.in_ok-begin.ensures.hears true (λ _. side_of c.args.self.now c.begin.new.self c.in-Some.peer c.in_ok-begin.ensures.rest ∙ c.in-Client.is) hello d before t r none) in
+    (discarded_hears hello c.begin.new.self new t d (ap (λ (z : Connection _). z.handshake) is) (ap (λ (z : Connection _). z.core) is) (ap (λ (z : Connection _). z.is_connected) is) hears, tt)
+
+pub returns-in-Server-clause-hears : goal.returns-in-Server-clause-hears
+returns-in-Server-clause-hears g c = λ hello d before t r none.
+    let e = c.in_ok-begin.ensures in
+    let hears = begun_hears c.args.self.now c.begin.new.self hello t d false c.in-Some.peer e.rest (e.hears false (λ k. let z : false ≡ true = k in cc) hello d before t r none) in
+    (subst (λ (z : Bool). Hears hello c.begin.new.self.handshake c.begin.new.self.core z t d) (sym (ap (λ (z : Connection _). z.is_connected) e.rest ∙ c.requires.first.0)) hears, tt)

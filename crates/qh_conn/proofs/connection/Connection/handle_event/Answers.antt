@@ -1,0 +1,25 @@
+use Rattle.std.proofs.Common.{◌++◌, sym, subst}
+use Rattle.qh_conn.proofs.InSound.{issued_long, on_ok, safe_of, sound_control, whole_control}
+use Rattle.qh_conn.proofs.OutCarries.{nothing_more}
+use Rattle.qh_conn.specs.Incoming.{acts_of}
+use Rattle.qh_conn.specs.declared.event.ConnectionEvent.{ConnectionEvent}
+use Rattle.qh_converse.specs.Converses.{Converses}
+use Rattle.qh_conn.proofs.connection.Connection.handle_event.Goals as goal
+
+pub settled-requires-clause-safe : goal.settled-requires-clause-safe
+settled-requires-clause-safe g c =
+    let issued = c.issue-issued in
+    safe_of _ (sound_control c.args.self.now issued.new.self c.requires.sound (issued.ensures.sendable c.args.self.now.core.side)
+    (issued_long issued.result c.args.self.now.control issued.new.self c.as_slice-in-NewIdentifiers.result.now issued.ensures.ok issued.ensures.err))
+
+pub settled-requires-clause-whole : goal.settled-requires-clause-whole
+settled-requires-clause-whole g c =
+    let issued = c.issue-issued in
+    on_ok _ _ (λ _. whole_control c.args.self.now issued.new.self c.requires (issued.ensures.sendable c.args.self.now.core.side)
+    (issued_long issued.result c.args.self.now.control issued.new.self c.as_slice-in-NewIdentifiers.result.now issued.ensures.ok issued.ensures.err)) issued.result issued.ensures.ok
+
+pub returns-else-is_closed-clause-carries : goal.returns-else-is_closed-clause-carries
+returns-else-is_closed-clause-carries g c = λ named hello t p.
+    let new = c.settled.new.self in
+    subst (λ (z : ConnectionEvent). Converses hello new.handshake new.core new.is_connected (t ++ acts_of z)) (sym c.in-NewIdentifiers.is)
+    (nothing_more hello new.handshake new.core new.is_connected t (c.settled.ensures.stands hello t p))

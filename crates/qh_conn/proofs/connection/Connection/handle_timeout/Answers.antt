@@ -1,0 +1,52 @@
+use Rattle.std.proofs.Common.{◌≡◌, Bool, true, false, ℕ, refl, ap, subst}
+use Rattle.std.specs.Prelude.{MatchBool, is_some}
+use Rattle.qh_conn.proofs.OutKeys.{closed_of, open_of}
+use Rattle.qh_conn.proofs.InSound.{sound_queue}
+use Rattle.qh_conn.specs.Telling.{IsHandshakeTimed, IsTimedOut}
+use Rattle.qh_conn.specs.Whole.{IsWhole}
+use Rattle.qh_conn.specs.declared.connection.Connection.{Connection}
+use Rattle.qh_control.specs.Queue.{AreLost, PlainQueue, StaySendable}
+use Rattle.qh_core.specs.Inner.{is_open}
+use Rattle.qh_core.specs.Timers.{IsTimedOut as IsCoreTimedOut}
+use Rattle.qh_recovery.specs.SentPackets.{packet_at}
+use Rattle.qh_conn.proofs.connection.Connection.handle_timeout.Goals as goal
+
+pick_shut : (A B : Type 0) (b : Bool) → b ≡ false → B → MatchBool b A B
+pick_shut A B false e x = x
+pick_shut A B true e x = let z : true ≡ false = e in cc
+
+pick_open : (A B : Type 0) (b : Bool) → b ≡ true → A → MatchBool b A B
+pick_open A B true e x = x
+pick_open A B false e x = let z : false ≡ true = e in cc
+
+timed : {S : Type 0} (now : ℕ) (old mid : Connection S) (q : PlainQueue) → IsHandshakeTimed now (is_open old.core.state) old.handshake mid.handshake → IsCoreTimedOut now old.core mid.core
+    → mid ≡ record old { handshake = mid.handshake; core = mid.core }
+    → MatchBool (is_open mid.core.state) (AreLost (λ (number : ℕ). is_some (packet_at mid.core.space.sent number)) mid.control.queue q) (q ≡ mid.control.queue)
+    → IsTimedOut now old (record mid { control = record mid.control { queue = q } })
+timed now old mid q handshake core rest lost = record {
+  handshake = handshake;
+  core = core;
+  lost = subst (λ (z : PlainQueue). MatchBool (is_open mid.core.state) (AreLost (λ (number : ℕ). is_some (packet_at mid.core.space.sent number)) z q) (q ≡ z))
+      (ap (λ (z : Connection _). z.control.queue) rest) lost;
+  rest_is = ap (λ (z : Connection _). record z { control = record z.control { queue = q } }) rest;
+}
+
+queue_whole : {S : Type 0} (c : Connection S) (q : PlainQueue) → IsWhole c → StaySendable c.control.queue q → IsWhole (record c { control = record c.control { queue = q } })
+queue_whole c q w keeps = record { sound = sound_queue c q w.sound keeps; client = w.client }
+
+pub returns-then-is_closed-clause-ok : goal.returns-then-is_closed-clause-ok
+returns-then-is_closed-clause-ok g c =
+    let e = c.time_ends.ensures in
+    let mid = c.time_ends.new.self in
+    timed c.args.now.0 c.args.self.now mid mid.control.queue e.handshake e.core e.rest
+    (pick_shut _ _ (is_open mid.core.state) (closed_of (is_open mid.core.state) c.is_closed.result c.is_closed.ensures c.if-is_closed.true) refl)
+
+pub returns-clause-ok : goal.returns-clause-ok
+returns-clause-ok g c =
+    let e = c.time_ends.ensures in
+    let mid = c.time_ends.new.self in
+    timed c.args.now.0 c.args.self.now mid c.on_lost.new.self e.handshake e.core e.rest
+    (pick_open _ _ (is_open mid.core.state) (open_of (is_open mid.core.state) c.is_closed.result c.is_closed.ensures c.if-is_closed.false) c.in-Ok.ensures.ok)
+
+pub returns-clause-whole : goal.returns-clause-whole
+returns-clause-whole g c = queue_whole c.time_ends.new.self c.on_lost.new.self c.time_ends.ensures.whole c.on_lost.ensures.sendable

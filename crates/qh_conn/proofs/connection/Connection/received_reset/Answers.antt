@@ -1,0 +1,16 @@
+use Rattle.std.proofs.Common.{sym, ◌∙◌}
+use Rattle.std.proofs.lemmas.Result.{on_err_weaker}
+use Rattle.qh_conn.proofs.OnStreams.{carried, whole_after}
+use Rattle.qh_conn.proofs.connection.Connection.received_reset.Goals as goal
+
+pub returns-clause-carries : goal.returns-clause-carries
+returns-clause-carries g c =
+    let e = c.received_reset.ensures in
+    carried c.sends.ensures.called c.args.self.now c.received_reset.new.self _ (sym c.is_greeted.ensures ∙ c.if-not-is_greeted.false)
+    (c.made.ensures.received_reset c.args.id.0 c.received_reset.result c.args.self.now.core c.received_reset.new.self e.ok (on_err_weaker c.received_reset.result (λ h. h.1) e.fault) e.follows)
+
+pub returns-clause-whole : goal.returns-clause-whole
+returns-clause-whole g c =
+    let e = c.received_reset.ensures in
+    whole_after c.args.self.now c.received_reset.new.self _ c.requires
+    (c.made.ensures.received_reset c.args.id.0 c.received_reset.result c.args.self.now.core c.received_reset.new.self e.ok (on_err_weaker c.received_reset.result (λ h. h.1) e.fault) e.follows)

@@ -1,0 +1,92 @@
+use Rattle.std.proofs.Common.{◌≡◌, ◌==◌, ℕ, List, [], None, false, length, true, is_some, ap, refl, rules, subst, sym, ◌∙◌}
+use Rattle.qh_base.specs.declared.connection_error.ConnectionError.TheVariants.{Memory}
+use Rattle.qh_conn.proofs.InClosed.{none_when}
+use Rattle.qh_conn.proofs.InFed.{ended_stands, failing, lost_fails, met_tags, rest_ends, restarted_read}
+use Rattle.qh_conn.proofs.InSound.{safe_of, shut_core, sound_idle, unready}
+use Rattle.qh_conn.proofs.InTake.{ended_by, still_unready, still_whole, taken_by}
+use Rattle.qh_conn.specs.Incoming.{IsRestTaken}
+use Rattle.qh_converse.proofs.MidDatagram.{unheard}
+use Rattle.qh_packet.proofs.Surveys.{is_empty}
+use Rattle.qh_conn.specs.Whole.{IsWhole}
+use Rattle.qh_conn.proofs.connection.Connection.take.Goals as goal
+use Rattle.qh_conn.proofs.connection.Connection.take.Goals.{else-is_greeted-via-then-is_greeted+else-not-is_empty, else-is_greeted-via-else-is_greeted}
+
+pub returns-in-Err : goal.returns-in-Err
+returns-in-Err g c =
+    let named : c.in-Err.error ≡ Memory → ⊥ = search rules in
+    let whole = subst (λ z. IsWhole z) (sym c.end_by.ensures.rest) (shut_core c.feed.new.self c.end_by.new.self.core (c.in-Err.ensures.ended named) c.end_by.ensures.same_end c.end_by.ensures.closed) in
+    record {
+      ok = ended_by _ c.args.now c.args.datagram.now c.args.self.now c.feed.new.self c.end_by.new.self c.in-Err.error c.in-Err.ensures.err named c.end_by.ensures.ends c.end_by.ensures.rest;
+      carries = λ from hello t p. (
+        ended_stands _ c.args.now c.args.datagram.now hello c.args.self.now c.feed.new.self c.end_by.new.self c.in-Err.error t from c.in-Err.ensures.err named c.end_by.ensures.rest c.end_by.ensures.made
+            c.end_by.ensures.closed (λ none. (unready c.args.self.now c.requires.whole.sound none).0) p,
+        tt,
+      );
+      safe = safe_of _ whole.sound;
+      whole = whole;
+    }
+
+pub meet-requires-clause-sound : goal.meet-requires-clause-sound
+meet-requires-clause-sound g c = sound_idle c.feed.new.self c.restart.new.self c.in-Ok.ensures.sound c.restart.ensures.rest
+
+pub meet-requires-clause-first : goal.meet-requires-clause-first
+meet-requires-clause-first g c = λ was.
+    still_unready c.args.self.now c.feed.new.self c.restart.new.self (unready c.args.self.now c.requires.whole.sound (none_when c.args.self.now.handshake.peer (sym c.is_greeted-was_greeted.ensures ∙ was))) c.feed.ensures.rest c.restart.ensures.rest
+
+pub meet-requires-clause-whole : goal.meet-requires-clause-whole
+meet-requires-clause-whole g c = λ was.
+    still_whole c.args.self.now c.feed.new.self c.restart.new.self c.requires.whole c.requires.open (sym c.is_greeted-was_greeted.ensures ∙ was) c.feed.ensures.side c.feed.ensures.rest c.restart.ensures.rest
+    (sound_idle c.feed.new.self c.restart.new.self c.in-Ok.ensures.sound c.restart.ensures.rest)
+
+pub returns-in_ok-take_data-clause-ok : goal.returns-in_ok-take_data-clause-ok
+returns-in_ok-take_data-clause-ok g c =
+    taken_by _ c.args.now c.args.datagram.now c.in-Ok.rest.now c.args.self.now c.feed.new.self c.restart.new.self c.meet.new.self c.take_data.new.self c.is_greeted-was_greeted.result c.in-Ok.ensures.ok
+    (c.restart.ensures.restarted c.args.self.now.handshake c.is_greeted-was_greeted.ensures c.is_some-was_retried.ensures) c.is_greeted-was_greeted.ensures c.in_ok-meet.ensures.ok c.in_ok-take_data.ensures.ok
+
+pub returns-else-is_greeted-clause-ok : goal.returns-else-is_greeted-clause-ok
+returns-else-is_greeted-clause-ok g c =
+    taken_by _ c.args.now c.args.datagram.now c.in-Ok.rest.now c.args.self.now c.feed.new.self c.restart.new.self c.meet.new.self c.meet.new.self c.is_greeted-was_greeted.result c.in-Ok.ensures.ok
+    (c.restart.ensures.restarted c.args.self.now.handshake c.is_greeted-was_greeted.ensures c.is_some-was_retried.ensures) c.is_greeted-was_greeted.ensures c.in_ok-meet.ensures.ok
+    (elim c.else-is_greeted.branch [
+      | else-is_greeted-via-then-is_greeted+else-not-is_empty w ↦ let none : true ≡ (length c.in-Ok.rest.now == 0) = search rules in IsRestTaken.nothing (is_empty c.in-Ok.rest.now none) refl
+      | else-is_greeted-via-else-is_greeted w ↦ let n : is_some c.meet.new.self.handshake.peer ≡ false = search rules in IsRestTaken.ungreeted (none_when c.meet.new.self.handshake.peer n) refl
+    ])
+
+some_bytes : (bytes : List ℕ) → false ≡ (length bytes == 0) → bytes ≡ [] → ⊥
+some_bytes bytes some none = let z : false ≡ true = some ∙ ap (λ (x : List ℕ). length x == 0) none in cc
+
+pub take_data-requires-clause-ends : goal.take_data-requires-clause-ends
+take_data-requires-clause-ends g c =
+    let fed = c.in-Ok.ensures.ok in
+    rest_ends _ c.args.now c.args.datagram.now c.in-Ok.rest.now c.args.self.now.handshake fed.handshake fed.retried fed.learned None (some_bytes c.in-Ok.rest.now c.if-not-is_empty.ensures) fed.taken
+
+pub returns-in-Err-Memory-clause-carries : goal.returns-in-Err-Memory-clause-carries
+returns-in-Err-Memory-clause-carries g c = λ from hello t p.
+    let l = c.in-Err-Memory.ensures.lost c.in-Err-Memory.field-0-is in
+    (tt, lost_fails _ c.args.now c.args.datagram.now hello c.args.self.now c.feed.new.self l.0 t from l.1 c.feed.ensures.rest (λ none. (unready c.args.self.now c.requires.whole.sound none).0) p)
+
+pub returns-in_err-meet-clause-carries : goal.returns-in_err-meet-clause-carries
+returns-in_err-meet-clause-carries g c = λ from hello t p.
+    let read = restarted_read _ c.args.now c.args.datagram.now c.in-Ok.rest.now hello c.args.self.now c.feed.new.self c.restart.new.self t from c.in-Ok.ensures.ok c.restart.ensures.rest c.restart.ensures.made p in
+    failing _ _ c.from_residual.result c.from_residual.ensures.0 (c.in_err-meet.ensures.hears hello c.args.datagram.now c.args.self.now.handshake t read c.is_greeted-was_greeted.ensures).1
+
+pub returns-in_err-take_data-clause-carries : goal.returns-in_err-take_data-clause-carries
+returns-in_err-take_data-clause-carries g c = λ from hello t p.
+    let read = restarted_read _ c.args.now c.args.datagram.now c.in-Ok.rest.now hello c.args.self.now c.feed.new.self c.restart.new.self t from c.in-Ok.ensures.ok c.restart.ensures.rest c.restart.ensures.made p in
+    let tags = met_tags _ c.args.now c.args.datagram.now c.in-Ok.rest.now c.args.self.now c.feed.new.self c.restart.new.self c.meet.new.self c.is_greeted-was_greeted.result
+    (some_bytes c.in-Ok.rest.now c.if-not-is_empty.ensures) from c.in-Ok.ensures.ok c.restart.ensures.rest c.in_ok-meet.ensures.ok in
+    failing _ _ c.from_residual-in_err-take_data.result c.from_residual-in_err-take_data.ensures.0
+    (c.in_err-take_data.ensures.carries tags hello t (c.in_ok-meet.ensures.hears hello c.args.datagram.now c.args.self.now.handshake t read c.is_greeted-was_greeted.ensures).0).1
+
+pub returns-in_ok-take_data-clause-carries : goal.returns-in_ok-take_data-clause-carries
+returns-in_ok-take_data-clause-carries g c = λ from hello t p.
+    let read = restarted_read _ c.args.now c.args.datagram.now c.in-Ok.rest.now hello c.args.self.now c.feed.new.self c.restart.new.self t from c.in-Ok.ensures.ok c.restart.ensures.rest c.restart.ensures.made p in
+    let tags = met_tags _ c.args.now c.args.datagram.now c.in-Ok.rest.now c.args.self.now c.feed.new.self c.restart.new.self c.meet.new.self c.is_greeted-was_greeted.result
+    (some_bytes c.in-Ok.rest.now c.if-not-is_empty.ensures) from c.in-Ok.ensures.ok c.restart.ensures.rest c.in_ok-meet.ensures.ok in
+    c.in_ok-take_data.ensures.carries tags hello t (c.in_ok-meet.ensures.hears hello c.args.datagram.now c.args.self.now.handshake t read c.is_greeted-was_greeted.ensures).0
+
+pub returns-else-is_greeted-clause-carries : goal.returns-else-is_greeted-clause-carries
+returns-else-is_greeted-clause-carries g c = λ from hello t p.
+    let read = restarted_read _ c.args.now c.args.datagram.now c.in-Ok.rest.now hello c.args.self.now c.feed.new.self c.restart.new.self t from c.in-Ok.ensures.ok c.restart.ensures.rest c.restart.ensures.made p in
+    let met = c.meet.new.self in
+    (unheard hello c.args.datagram.now met.handshake met.core met.is_connected t (c.in_ok-meet.ensures.hears hello c.args.datagram.now c.args.self.now.handshake t read c.is_greeted-was_greeted.ensures).0, tt)

@@ -1,0 +1,5 @@
+use Rattle.qh_conn.proofs.InSound.{sound_control}
+use Rattle.qh_conn.proofs.connection.Connection.take_control.Goals as goal
+
+pub returns-clause-sound : goal.returns-clause-sound
+returns-clause-sound g c = sound_control c.args.self.now c.take_frame.new.self c.requires (c.take_frame.ensures.sendable c.args.self.now.core.side) c.take_frame.ensures.as_long

@@ -1,0 +1,102 @@
+use Rattle.std.proofs.Common.{ap, ◌∙◌}
+use Rattle.qh_conn.proofs.InFrames.{rest_closed, rest_open}
+use Rattle.qh_conn.proofs.InRest.{rest_unaccepted}
+use Rattle.qh_conn.proofs.InSound.{on_ok, safe_of, sound_core, sound_queue, whole_core, whole_queue}
+use Rattle.qh_conn.proofs.OutKeys.{closed_of, open_of}
+use Rattle.qh_core.specs.Inner.{is_open}
+use Rattle.qh_conn.proofs.InHears.{brought_came, either_way, rest_heard}
+use Rattle.qh_conn.proofs.connection.Connection.take_data.Goals as goal
+
+pub returns-in_default-clause-ok : goal.returns-in_default-clause-ok
+returns-in_default-clause-ok g c =
+    rest_unaccepted _ c.args.now c.args.datagram.now c.args.rest.now c.args.self.now c.hear_reset.new.self c.handle_datagram.new.self c.requires.greeted c.in_ok-accepted.ensures.ok (c.in_ok-accepted.ensures.none c.in_default.is) c.hear_reset.ensures.heard
+
+pub returns-in_default-clause-safe : goal.returns-in_default-clause-safe
+returns-in_default-clause-safe g c =
+    safe_of _ (c.hear_reset.ensures.sound (sound_core c.args.self.now c.handle_datagram.new.self c.requires.whole.sound c.handle_datagram.ensures.same_end (λ _. c.requires.open)))
+
+pub returns-in_default-clause-whole : goal.returns-in_default-clause-whole
+returns-in_default-clause-whole g c = c.hear_reset.ensures.whole (whole_core c.args.self.now c.handle_datagram.new.self c.requires.whole c.handle_datagram.ensures.same_end c.requires.open)
+
+pub be_connected-requires-clause-sound : goal.be_connected-requires-clause-sound
+be_connected-requires-clause-sound g c = sound_core c.args.self.now c.handle_datagram.new.self c.requires.whole.sound c.handle_datagram.ensures.same_end (λ _. c.requires.open)
+
+pub returns-then-is_closed-clause-ok : goal.returns-then-is_closed-clause-ok
+returns-then-is_closed-clause-ok g c =
+    rest_closed _ c.args.now c.args.datagram.now c.args.rest.now c.in-Some.accepted.frames.now c.args.self.now c.be_connected.new.self c.take_frames.new.self c.handle_datagram.new.self c.in-Some.accepted.taken c.requires.greeted
+    (rw c.in-Some.is at c.in_ok-accepted.ensures.brings) c.in_ok-be_connected.ensures.ok c.take_frames.ensures.rest c.in_ok-take_frames.ensures.done
+    (closed_of (is_open c.take_frames.new.self.core.state) c.is_closed.result c.is_closed.ensures c.if-is_closed.true)
+
+pub returns-clause-ok : goal.returns-clause-ok
+returns-clause-ok g c =
+    on_ok _ _ (λ lost. rest_open _ c.args.now c.args.datagram.now c.args.rest.now c.in-Some.accepted.frames.now c.args.self.now c.be_connected.new.self c.take_frames.new.self c.follow_ids.new.self c.on_lost.new.self
+    c.handle_datagram.new.self c.in-Some.accepted.taken c.requires.greeted (rw c.in-Some.is at c.in_ok-accepted.ensures.brings) c.in_ok-be_connected.ensures.ok c.take_frames.ensures.rest
+    c.in_ok-take_frames.ensures.done (open_of (is_open c.take_frames.new.self.core.state) c.is_closed.result c.is_closed.ensures c.if-is_closed.false) c.follow_ids.ensures.value lost) c.on_lost.result c.on_lost.ensures.ok
+
+pub returns-clause-safe : goal.returns-clause-safe
+returns-clause-safe g c = safe_of _ (sound_queue c.follow_ids.new.self c.on_lost.new.self c.follow_ids.ensures.sound c.on_lost.ensures.sendable)
+
+pub returns-clause-whole : goal.returns-clause-whole
+returns-clause-whole g c =
+    on_ok _ _ (λ _. whole_queue c.follow_ids.new.self c.on_lost.new.self c.follow_ids.ensures.sound
+    (ap (λ x. x.is_connected) c.follow_ids.ensures.value ∙ (ap (λ x. x.is_connected) c.take_frames.ensures.rest ∙ c.be_connected.ensures.connected)) c.on_lost.ensures.sendable) c.on_lost.result c.on_lost.ensures.ok
+
+pub returns-in_err-accepted-clause-safe : goal.returns-in_err-accepted-clause-safe
+returns-in_err-accepted-clause-safe g c =
+    safe_of _ (sound_core c.args.self.now c.handle_datagram.new.self c.requires.whole.sound c.handle_datagram.ensures.same_end (λ _. c.requires.open))
+
+pub returns-in_err-accepted-clause-carries : goal.returns-in_err-accepted-clause-carries
+returns-in_err-accepted-clause-carries g c = λ named hello t p.
+    let e = c.handle_datagram.ensures in
+    let self = c.args.self.now in
+    let taken = rest_heard g.S.Session.accepts c.args.now hello c.args.rest.now c.args.datagram.now self.handshake self.core c.handle_datagram.new.self self.is_connected t named c.requires.ends c.requires.greeted p
+    c.handle_datagram.result e.ok e.undisturbed e.err e.wanting e.follows e.same_end in
+    either_way c.from_residual.result hello (record self { core = c.handle_datagram.new.self }) _ taken
+
+pub returns-in_default-clause-carries : goal.returns-in_default-clause-carries
+returns-in_default-clause-carries g c = λ named hello t p.
+    let e = c.handle_datagram.ensures in
+    let self = c.args.self.now in
+    let taken = rest_heard g.S.Session.accepts c.args.now hello c.args.rest.now c.args.datagram.now self.handshake self.core c.handle_datagram.new.self self.is_connected t named c.requires.ends c.requires.greeted p
+    c.handle_datagram.result e.ok e.undisturbed e.err e.wanting e.follows e.same_end in
+    (c.hear_reset.ensures.stands hello _ taken, tt)
+
+pub returns-in_err-be_connected-clause-carries : goal.returns-in_err-be_connected-clause-carries
+returns-in_err-be_connected-clause-carries g c = λ named hello t p.
+    let e = c.handle_datagram.ensures in
+    let self = c.args.self.now in
+    let taken = rest_heard g.S.Session.accepts c.args.now hello c.args.rest.now c.args.datagram.now self.handshake self.core c.handle_datagram.new.self self.is_connected t named c.requires.ends c.requires.greeted p
+    c.handle_datagram.result e.ok e.undisturbed e.err e.wanting e.follows e.same_end in
+    let came = brought_came (g.S.Session.accepts self.core.session) c.args.now c.args.rest.now c.args.datagram.now _ self.core c.handle_datagram.new.self self.handshake.side t named c.requires.ends e.same_end
+    c.requires.whole.sound.side_is (rw c.in-Some.is at c.in_ok-accepted.ensures.brings).0 in
+    either_way c.from_residual-in_err-be_connected.result hello c.be_connected.new.self _ (c.be_connected.ensures.carries hello _ came taken)
+
+pub returns-in_err-take_frames-clause-carries : goal.returns-in_err-take_frames-clause-carries
+returns-in_err-take_frames-clause-carries g c = λ named hello t p.
+    let e = c.handle_datagram.ensures in
+    let self = c.args.self.now in
+    let taken = rest_heard g.S.Session.accepts c.args.now hello c.args.rest.now c.args.datagram.now self.handshake self.core c.handle_datagram.new.self self.is_connected t named c.requires.ends c.requires.greeted p
+    c.handle_datagram.result e.ok e.undisturbed e.err e.wanting e.follows e.same_end in
+    let came = brought_came (g.S.Session.accepts self.core.session) c.args.now c.args.rest.now c.args.datagram.now _ self.core c.handle_datagram.new.self self.handshake.side t named c.requires.ends e.same_end
+    c.requires.whole.sound.side_is (rw c.in-Some.is at c.in_ok-accepted.ensures.brings).0 in
+    either_way c.from_residual-in_err-take_frames.result hello c.take_frames.new.self _ (c.take_frames.ensures.stands hello _ (c.be_connected.ensures.carries hello _ came taken))
+
+pub returns-then-is_closed-clause-carries : goal.returns-then-is_closed-clause-carries
+returns-then-is_closed-clause-carries g c = λ named hello t p.
+    let e = c.handle_datagram.ensures in
+    let self = c.args.self.now in
+    let taken = rest_heard g.S.Session.accepts c.args.now hello c.args.rest.now c.args.datagram.now self.handshake self.core c.handle_datagram.new.self self.is_connected t named c.requires.ends c.requires.greeted p
+    c.handle_datagram.result e.ok e.undisturbed e.err e.wanting e.follows e.same_end in
+    let came = brought_came (g.S.Session.accepts self.core.session) c.args.now c.args.rest.now c.args.datagram.now _ self.core c.handle_datagram.new.self self.handshake.side t named c.requires.ends e.same_end
+    c.requires.whole.sound.side_is (rw c.in-Some.is at c.in_ok-accepted.ensures.brings).0 in
+    (c.take_frames.ensures.stands hello _ (c.be_connected.ensures.carries hello _ came taken), tt)
+
+pub returns-clause-carries : goal.returns-clause-carries
+returns-clause-carries g c = λ named hello t p.
+    let e = c.handle_datagram.ensures in
+    let self = c.args.self.now in
+    let taken = rest_heard g.S.Session.accepts c.args.now hello c.args.rest.now c.args.datagram.now self.handshake self.core c.handle_datagram.new.self self.is_connected t named c.requires.ends c.requires.greeted p
+    c.handle_datagram.result e.ok e.undisturbed e.err e.wanting e.follows e.same_end in
+    let came = brought_came (g.S.Session.accepts self.core.session) c.args.now c.args.rest.now c.args.datagram.now _ self.core c.handle_datagram.new.self self.handshake.side t named c.requires.ends e.same_end
+    c.requires.whole.sound.side_is (rw c.in-Some.is at c.in_ok-accepted.ensures.brings).0 in
+    either_way c.on_lost.result hello (record c.follow_ids.new.self { control = record c.follow_ids.new.self.control { queue = c.on_lost.new.self } }) _ (c.follow_ids.ensures.stands hello _ (c.take_frames.ensures.stands hello _ (c.be_connected.ensures.carries hello _ came taken)))

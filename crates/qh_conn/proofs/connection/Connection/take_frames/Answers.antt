@@ -1,0 +1,55 @@
+use Rattle.std.proofs.Common.{◌≡◌, Option, inl, inr, sym, ap, subst, ◌∙◌, ◌-◌, arith}
+use Rattle.qh_base.specs.declared.transport_error.TransportError.{TransportError}
+use Rattle.qh_conn.proofs.InFrames.{all_read, faulted_done, faulted_sound, faulted_stands, no_frame, one_more, refused_read}
+use Rattle.qh_core.specs.Receiving.{IsFaulted}
+use Rattle.qh_streams.specs.Streams.{IsRefusal, IsRefusedBy, Refusal}
+use Rattle.qh_streams.specs.declared.fault.StreamFault.{StreamFault}
+use Rattle.qh_streams.specs.declared.fault.StreamFault.TheVariants.{Memory as Wanting, Transport}
+use Rattle.qh_conn.specs.Incoming.{AreFramesDone}
+use Rattle.qh_conn.specs.declared.connection.Connection.{Connection}
+use Rattle.qh_conn.proofs.connection.Connection.take_frames.Goals as goal
+
+pub returns-in_default-clause-done : goal.returns-in_default-clause-done
+returns-in_default-clause-done g c = λ taken are count.
+    absurd (no_frame c.args.now c.args.accepted.now.frames.now c.loop-left.rest.now c.loop-left.left c.args.accepted.now.taken _ _ c.loop-left.invariant.2 c.in_default.ensures.none (omega (arith, c.loop-left-test.true)) taken are count)
+
+pub returns-clause-done : goal.returns-clause-done
+returns-clause-done g c = λ taken are count.
+    let r = all_read c.args.now c.args.accepted.now.frames.now c.loop-left.rest.now c.loop-left.left c.args.accepted.now.taken _ _ c.loop-left.invariant.2 (omega (arith, c.loop-left-test.false)) taken are count in
+    (r.0, r.1, r.2, AreFramesDone.done r.3 (ap (λ (z : Connection _). z.core) c.loop-left.invariant.1))
+
+pub loop-left-preserved : goal.loop-left-preserved
+loop-left-preserved g c = (
+  c.take_control.ensures.sound,
+  c.take_control.ensures.rest ∙ ap (λ (z : Connection _). record z { control = c.take_control.new.self.control }) c.loop-left.invariant.1,
+  one_more c.args.now c.args.accepted.now.frames.now c.loop-left.rest.now c.in-Ok.behind.now c.in-Ok.frame c.loop-left.left _ c.args.accepted.now.taken _ c.loop-left.self.control c.take_control.new.self.control
+      c.in-Ok.ensures.found (omega (arith, c.loop-left-test.true)) c.in-Ok-take_control.ensures.unrefused c.in-Ok-take_control.ensures.taken c.loop-left.invariant.2,
+)
+
+refused_by : (f : StreamFault) (e : TransportError) (refusal : Option Refusal) → f ≡ Transport e → IsRefusedBy f refusal → IsRefusal (Transport e) refusal
+refused_by f e refusal is (inl wanting) = let z : Transport e ≡ Wanting = sym is ∙ wanting.0 in cc
+refused_by f e refusal is (inr r) = subst (λ (z : StreamFault). IsRefusal z refusal) is r
+
+not_wanting : (f : StreamFault) (e : TransportError) → f ≡ Transport e → f ≡ Wanting → ⊥
+not_wanting f e is wanting = let z : Transport e ≡ Wanting = sym is ∙ wanting in cc
+
+pub returns-in-Err-Transport-clause-done : goal.returns-in-Err-Transport-clause-done
+returns-in-Err-Transport-clause-done g c = λ taken are count.
+    let r = c.in-Err-Transport in
+    faulted_done c.args.now c.args.accepted.now.frames.now _ r.error c.args.self.now c.loop-left.self c.take_control.new.self c.close_by_fault.new.self
+    (r.ensures.refused (not_wanting r.field-0 r.error r.field-0-is)) c.loop-left.invariant.1
+    (refused_read c.args.now c.args.accepted.now.frames.now c.loop-left.rest.now c.in-Ok.behind.now c.in-Ok.frame c.loop-left.left (c.loop-left.left - 1) c.args.accepted.now.taken r.error _ c.loop-left.self.control
+    c.in-Ok.ensures.found (omega (arith, c.loop-left-test.true)) (refused_by r.field-0 r.error _ r.field-0-is r.ensures.fault) c.loop-left.invariant.2 taken are count) (subst (λ (z : TransportError). IsFaulted c.args.now z c.take_control.new.self.core c.close_by_fault.new.self) r.error-is c.close_by_fault.ensures.faulted)
+
+pub returns-in-Err-Transport-clause-sound : goal.returns-in-Err-Transport-clause-sound
+returns-in-Err-Transport-clause-sound g c =
+    let r = c.in-Err-Transport in
+    faulted_sound c.args.now r.error c.loop-left.self c.take_control.new.self c.close_by_fault.new.self (r.ensures.refused (not_wanting r.field-0 r.error r.field-0-is)) c.loop-left.invariant.0
+    c.close_by_fault.ensures.same_end (subst (λ (z : TransportError). IsFaulted c.args.now z c.take_control.new.self.core c.close_by_fault.new.self) r.error-is c.close_by_fault.ensures.faulted)
+
+pub returns-in-Err-Transport-clause-stands : goal.returns-in-Err-Transport-clause-stands
+returns-in-Err-Transport-clause-stands g c = λ hello t p.
+    let r = c.in-Err-Transport in
+    let e = c.close_by_fault.ensures in
+    faulted_stands c.args.now r.error hello c.args.self.now c.loop-left.self c.take_control.new.self c.close_by_fault.new.self t (r.ensures.refused (not_wanting r.field-0 r.error r.field-0-is))
+    c.loop-left.invariant.1 c.requires.lives (subst (λ (z : TransportError). IsFaulted c.args.now z c.take_control.new.self.core c.close_by_fault.new.self) r.error-is e.faulted) e.follows e.same_end p

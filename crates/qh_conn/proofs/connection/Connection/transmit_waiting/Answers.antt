@@ -1,0 +1,77 @@
+use Rattle.std.proofs.Common.{Ok, false, refl, sym, ap, ◌∙◌, arith}
+use Rattle.qh_conn.proofs.OutCarries.{err_carries, failed_carries, sent_carries}
+use Rattle.qh_conn.proofs.OutSent.{count_within, waiting_sent}
+use Rattle.qh_conn.proofs.OutWhole.{data_whole, queue_sendable, same_queue}
+use Rattle.qh_core.proofs.MadeEnds.{control_made}
+use Rattle.qh_core.specs.Inner.{is_open}
+use Rattle.qh_core.specs.declared.inner.Inner.{Inner}
+use Rattle.qh_spec.specs.declared.sides.Space.TheVariants.{Data}
+use Rattle.qh_conn.proofs.connection.Connection.transmit_waiting.Goals as goal
+
+pub returns-in_err-sent-clause-carries : goal.returns-in_err-sent-clause-carries
+returns-in_err-sent-clause-carries g c = λ named makes hello t p.
+    let old = c.args.self.now in
+    let before = c.args.buf.now.items in
+    let after = c.transmit_control.new.buf.items in
+    let new = c.transmit_control.new.self in
+    let e = c.transmit_control.ensures in
+    err_carries before after hello c.from_residual-in_err-sent.result old.handshake new old.is_connected t c.from_residual-in_err-sent.ensures.0
+    (failed_carries g.S.Session.accepts g.S.Session.sealed before after hello c.transmit_control.result c.in_err-sent.field-0.0 old.handshake old.core new old.is_connected t c.in_err-sent.was
+    (λ acts part made b. c.behaves_on.ensures g.S.Session.accepts g.S.Session.sealed old.core new acts part named (λ from number h. makes from Data number h) made b)
+    (control_made g.S.Session.accepts g.S.Session.sealed c.args.now before after c.waiting-frames.result.now c.transmit_control.result old.core new e.some e.undisturbed e.none e.err e.follows e.same_end) p)
+
+pub returns-clause-carries : goal.returns-clause-carries
+returns-clause-carries g c = λ named makes hello t p.
+    let old = c.args.self.now in
+    let before = c.args.buf.now.items in
+    let after = c.transmit_control.new.buf.items in
+    let new = c.transmit_control.new.self in
+    let e = c.transmit_control.ensures in
+    let sent = rw c.in-Some.is at c.in_ok-sent.ensures.some in
+    sent_carries g.S.Session.accepts g.S.Session.sealed before after hello c.transmit_control.result c.in-Some.sent old.handshake old.core new old.is_connected t (c.in_ok-sent.was ∙ ap Ok c.in-Some.is)
+    (λ d made short q. c.sends.ensures.sent g.S.Session.accepts g.S.Session.sealed hello d old.handshake old.core new old.is_connected t named (λ from number h. makes from Data number h) made short
+    (c.requires.whole.sound.connected c.requires.connected).0 (λ _. c.requires.connected) q)
+    (control_made g.S.Session.accepts g.S.Session.sealed c.args.now before after c.waiting-frames.result.now c.transmit_control.result old.core new e.some e.undisturbed e.none e.err e.follows e.same_end)
+    (c.sends.ensures.short (g.S.Session.sealed old.core.session) c.args.now old.core new before after c.in-Some.sent.transmit sent.made) p
+
+pub returns-in_err-sent-clause-whole : goal.returns-in_err-sent-clause-whole
+returns-in_err-sent-clause-whole g c =
+    let old = c.args.self.now in
+    let s = c.requires.whole.sound.sendable in
+    data_whole old c.transmit_control.new.self (record old.control { queue = c.reserve.new.self }) old.is_control_next c.requires.whole c.requires.connected (λ _. c.in_err-sent.ensures.wanting.0) c.in_err-sent.ensures.same_end
+    (queue_sendable old.core.side old.core.config.peer_datagram old.control c.reserve.new.self (same_queue _ _ old.control.queue c.reserve.new.self c.in_ok-reserve.ensures.rest s.frames) s) refl
+
+pub returns-in_default-clause-whole : goal.returns-in_default-clause-whole
+returns-in_default-clause-whole g c =
+    let old = c.args.self.now in
+    let s = c.requires.whole.sound.sendable in
+    data_whole old c.transmit_control.new.self (record old.control { queue = c.reserve.new.self }) old.is_control_next c.requires.whole c.requires.connected
+    (λ up. ap (λ (z : Inner _). is_open z.state) (sym (c.in_ok-sent.ensures.none c.in_default.is).1) ∙ up) c.in_ok-sent.ensures.same_end
+    (queue_sendable old.core.side old.core.config.peer_datagram old.control c.reserve.new.self (same_queue _ _ old.control.queue c.reserve.new.self c.in_ok-reserve.ensures.rest s.frames) s) refl
+
+pub on_sent-requires-clause-some : goal.on_sent-requires-clause-some
+on_sent-requires-clause-some g c =
+    let sent = rw c.in-Some.is at c.in_ok-sent.ensures.some in
+    count_within _ c.in-Some.sent.count c.waiting-frames.result.now _ sent.count_is c.waiting-frames.ensures
+
+pub on_sent-requires-clause-room : goal.on_sent-requires-clause-room
+on_sent-requires-clause-room g c =
+    let sent = rw c.in-Some.is at c.in_ok-sent.ensures.some in
+    let within = count_within _ c.in-Some.sent.count c.waiting-frames.result.now _ sent.count_is c.waiting-frames.ensures in
+    let most = c.in_ok-reserve.ensures.ok in
+    omega (arith, within, most)
+
+pub returns-clause-some : goal.returns-clause-some
+returns-clause-some g c =
+    let sent = rw c.in-Some.is at c.in_ok-sent.ensures.some in
+    waiting_sent (g.S.Session.sealed c.args.self.now.core.session) c.args.now c.args.self.now c.transmit_control.new.self c.reserve.new.self c.on_sent.new.self c.waiting-frames.result.now
+    c.args.buf.now.items c.transmit_control.new.buf.items c.in-Some.sent c.waiting-frames.ensures c.in_ok-reserve.ensures.rest sent c.on_sent.ensures.sent
+
+pub returns-clause-whole : goal.returns-clause-whole
+returns-clause-whole g c =
+    let old = c.args.self.now in
+    let sent = rw c.in-Some.is at c.in_ok-sent.ensures.some in
+    let s = c.requires.whole.sound.sendable in
+    data_whole old c.transmit_control.new.self (record old.control { queue = c.on_sent.new.self }) false c.requires.whole c.requires.connected (λ _. sent.opened) c.in_ok-sent.ensures.same_end
+    (queue_sendable old.core.side old.core.config.peer_datagram old.control c.on_sent.new.self
+    (c.on_sent.ensures.sendable old.core.side old.core.config.peer_datagram (same_queue _ _ old.control.queue c.reserve.new.self c.in_ok-reserve.ensures.rest s.frames)) s) refl
