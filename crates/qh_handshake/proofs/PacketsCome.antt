@@ -1,5 +1,5 @@
 -- What a packet does whose tag was accepted.
-use Rattle.std.proofs.Common.{◌≡◌, ◌⊎◌, ℕ, Bool, true, false, List, [], ◌∷◌, Some, None, refl, sym, subst, ◌∙◌, inl, inr}
+use Rattle.std.proofs.Common.{◌≡◌, ◌⊎◌, ◌+◌, ℕ, Bool, true, false, List, [], ◌∷◌, Some, None, refl, sym, subst, ◌∙◌, inl, inr}
 use Rattle.std.specs.Option.{option_map}
 use Rattle.std.specs.Prelude.{◌||◌, IfErr, OnErr, OnOk, Result, Ok, Err, is_err}
 use Rattle.qh_base.specs.TransportFault.{IsFault}
@@ -12,6 +12,7 @@ use Rattle.qh_frame.specs.Plain.{plain_of}
 use Rattle.qh_frame.specs.TypeOf.{named}
 use Rattle.qh_frame.specs.declared.frame.Frame.{Frame}
 use Rattle.qh_frame.specs.declared.frame.FrameFault.{FrameFault}
+use Rattle.qh_handshake.specs.Handshake.{counted}
 use Rattle.qh_handshake.specs.Incoming.{AreFramesTaken, IsAccepted, IsFirstRefused, IsNewTo, IsPacketHandled}
 use Rattle.qh_handshake.specs.Incoming.IsPacketHandled.{empty, faulty, taken, unnoted}
 use Rattle.qh_handshake.specs.Receiving.{frame_refusal}
@@ -28,7 +29,7 @@ use Rattle.qh_spec.specs.Codes as codes
 -- its number is noted where memory wasn't wanting for that
 pub noted_by : {E : Type 0} (now : Moment) (number : ℕ) (is_eliciting : Bool) (old mid : InitialSpace) (answer : Result Unit E) → false ≡ is_err answer
     → OnOk answer ((accepted : List ℕ) → Remembers accepted old.dedup → Remembers (number ∷ accepted) mid.dedup) → OnOk answer ((bound : ℕ) × IsJoined old.acks.ranges mid.acks.ranges number bound)
-    → OnOk answer (mid.acks.is_due ≡ (old.acks.is_due || is_eliciting)) → OnOk answer (mid ≡ record old { dedup = mid.dedup; acks = mid.acks; last_active = now; last_accepted = Some now }) → IsAccepted now number is_eliciting old mid
+    → OnOk answer (mid.acks.is_due ≡ (old.acks.is_due || is_eliciting)) → OnOk answer (mid ≡ record old { dedup = mid.dedup; acks = mid.acks; last_active = now; packets_accepted = counted (old.packets_accepted + 1) }) → IsAccepted now number is_eliciting old mid
 noted_by now number is_eliciting old mid (Ok done) fine remembers acks due rest = record { remembers = remembers; bound = acks.0; acks = acks.1; due = due; rest_is = rest }
 noted_by now number is_eliciting old mid (Err e) fine remembers acks due rest = absurd (cc)
 

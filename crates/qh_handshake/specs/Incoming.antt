@@ -75,7 +75,7 @@ pub record IsAccepted (now : Moment) (number : ℕ) (is_eliciting : Bool) (old n
   pub bound : ℕ
   pub acks : IsJoined old.acks.ranges new.acks.ranges number bound
   pub due : new.acks.is_due ≡ (old.acks.is_due || is_eliciting)
-  pub rest_is : new ≡ record old { dedup = new.dedup; acks = new.acks; last_active = now; last_accepted = Some now }
+  pub rest_is : new ≡ record old { dedup = new.dedup; acks = new.acks; last_active = now; packets_accepted = counted (old.packets_accepted + 1) }
 
 -- The frames that the bytes are are taken one after another. If one closes, or is refused, those behind it aren't taken: the error says
 -- which. One that is refused is named by the type with which its bytes begin.

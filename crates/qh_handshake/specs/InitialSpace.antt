@@ -35,7 +35,7 @@ pub record IsUnused (hello : List ℕ) (state : HelloState) (initial_rtt : ℕ) 
   pub acks : s.acks ≡ record { ranges = []; is_due = false }
   pub rtt : s.rtt ≡ new_estimator initial_rtt
   pub probes : (s.pto_count ≡ 0) × (s.is_probe_due ≡ false) × (s.is_ping_due ≡ false)
-  pub last : (s.last_active ≡ now) × (s.last_accepted ≡ None)
+  pub last : (s.last_active ≡ now) × (s.packets_accepted ≡ 0)
   pub counts : (s.packets_lost ≡ 0) × (s.probes_sent ≡ 0)
 
 -- what was counted and measured in it

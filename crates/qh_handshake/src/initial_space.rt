@@ -85,8 +85,8 @@ pub struct InitialSpace {
     pub is_probe_due: bool,
     /// When a packet was last sent or accepted; before the first, when the space began.
     pub last_active: Moment,
-    /// When a packet was accepted last, None if none was.
-    pub last_accepted: Option<Moment>,
+    /// How many packets were accepted so far.
+    pub packets_accepted: u64,
     /// How many packets were lost so far.
     pub packets_lost: u64,
     /// How many probe packets were sent so far.
@@ -109,7 +109,7 @@ impl InitialSpace {
         ensures received { Remembers [] result.dedup }
         ensures crypto { result.crypto ≡ record { waiting = empty_assembler; bytes = []; end = 0 } }
         ensures parts { (result.sent ≡ []) × (result.next_number ≡ 0) × (result.largest_acked ≡ None) × (result.acks ≡ record { ranges = []; is_due = false }) }
-        ensures recovery { (result.rtt ≡ new_estimator initial_rtt.0) × (result.pto_count ≡ 0) × (result.is_probe_due ≡ false) × (result.is_ping_due ≡ false) × (result.last_active ≡ now) × (result.last_accepted ≡ None) }
+        ensures recovery { (result.rtt ≡ new_estimator initial_rtt.0) × (result.pto_count ≡ 0) × (result.is_probe_due ≡ false) × (result.is_ping_due ≡ false) × (result.last_active ≡ now) × (result.packets_accepted ≡ 0) }
         ensures counts { (result.packets_lost ≡ 0) × (result.probes_sent ≡ 0) }
     {
         InitialSpace {
@@ -126,7 +126,7 @@ impl InitialSpace {
             pto_count: 0,
             is_probe_due: false,
             last_active: now,
-            last_accepted: None,
+            packets_accepted: 0,
             packets_lost: 0,
             probes_sent: 0,
         }

@@ -1,5 +1,6 @@
 ghost use Rattle.std.specs.Prelude.{◌≡◌, ◌∷◌, ◌+◌, ◌<◌, ◌≤◌, ◌^◌, length, ◌||◌, if◌then◌else◌, ℕ, List, None, Some, nat_lt, OnOk, OnErr, IfOk, IfErr};
 ghost use Rattle.qh_frame.specs.Plain.{ack_of};
+ghost use Rattle.qh_handshake.specs.Handshake.{counted};
 ghost use Rattle.qh_handshake.specs.InitialSpace.{IsInitialSpace};
 ghost use Rattle.qh_handshake.specs.Receiving.{IsAckReceived, IsCryptoFault, IsFrameTaken, IsLossTaken, IsPieceTaken, IsRefusal, IsRefusedBy, KeepsAfter, KeepsPieceAfter, Says, again, frame_refusal, greatest_of, measured, refused, some_type};
 ghost use Rattle.qh_handshake.specs.Settled.{AreTaken, Packets as APackets, any_bears};
@@ -39,13 +40,13 @@ impl InitialSpace {
         ensures remembers { OnOk result ((accepted : List ℕ) → Remembers accepted self.old.dedup → Remembers (number ∷ accepted) self.new.dedup) }
         ensures acks { OnOk result ((bound : ℕ) × IsJoined self.old.acks.ranges self.new.acks.ranges number bound) }
         ensures due { OnOk result (self.new.acks.is_due ≡ (self.old.acks.is_due || is_ack_eliciting)) }
-        ensures rest { OnOk result (self.new ≡ record self.old { dedup = self.new.dedup; acks = self.new.acks; last_active = now; last_accepted = Some now }) }
+        ensures rest { OnOk result (self.new ≡ record self.old { dedup = self.new.dedup; acks = self.new.acks; last_active = now; packets_accepted = counted (self.old.packets_accepted + 1) }) }
         ensures err { OnErr result (self.new ≡ self.old) }
         ensures space { IsInitialSpace self.new }
     {
         insert_received(&mut self.dedup, &mut self.acks, number, is_ack_eliciting)?;
         self.last_active = now;
-        self.last_accepted = Some(now);
+        self.packets_accepted = self.packets_accepted.saturating_add(1);
         Ok(())
     }
 
