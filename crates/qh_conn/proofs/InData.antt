@@ -47,9 +47,6 @@ invalid bytes e (Err (fault.Frame g)) empty faulty valid is =
     let f = faulty g refl in
     none_faulty bytes f.rest valid.frames f.behind f.none f.some valid.are valid.in_range
 
-pub at_moment : (m n : Moment) → m.0 ≡ n.0 → Some m ≡ Some n
-at_moment m n same = ap (λ (k : ℕ). let z : Moment = record { 0 = k } in Some z) same
-
 -- what is opened for an end is opened for what is known of it
 pub opened_as : {S : Type 0} (accepts : S → AcceptsTag) (s t : S) (k l : ℕ) (side from : Side) (bytes : List ℕ) (number : ℕ) (frames : List ℕ) → t ≡ s → l ≡ k → from ≡ side
     → IsOpened (accepts s) k side 0 bytes number frames → IsOpened (accepts t) l from 0 bytes number frames

@@ -8,7 +8,7 @@ use Rattle.qh_conn.proofs.InSound.{sound_core}
 use Rattle.qh_conn.specs.Incoming.{AreControlsTaken, AreFramesDone, AreFramesHandled, BeginsWithFrames, IsRestTaken, connected_if}
 use Rattle.qh_conn.specs.Whole.{IsSound, Stands}
 use Rattle.qh_conn.specs.declared.connection.Connection.{Connection}
-use Rattle.qh_control.specs.Control.{IsControlTaken, control_refusal}
+use Rattle.qh_control.specs.Control.{IsControlTaken, control_refusal, keeps}
 use Rattle.qh_control.specs.Queue.{AreLost, PlainQueue}
 use Rattle.qh_control.specs.declared.control.ControlState.{ControlState}
 use Rattle.qh_converse.specs.Converses.{Converses}
@@ -28,7 +28,8 @@ use Rattle.qh_recovery.specs.SentPackets.{packet_at}
 use Rattle.qh_space.specs.declared.data_space.DataSpace.{DataSpace}
 use Rattle.qh_spec.specs.Transcript.{Act}
 use Rattle.qh_streams.specs.Streams.{IsRefusal}
-use Rattle.qh_streams.specs.declared.fault.StreamFault.TheVariants.{Transport}
+use Rattle.qh_streams.specs.declared.fault.StreamFault.{StreamFault}
+use Rattle.qh_streams.specs.declared.fault.StreamFault.TheVariants.{Memory as Wanting, Transport}
 
 pub of_taken : (now : ℕ) (bytes : List ℕ) (old new : DataSpace) (taken : List Frame) (end : Option ConnectionError) → AreFramesTaken now bytes old new taken end → BeginsWithFrames bytes taken
 of_taken now _ _ _ _ _ (AreFramesTaken.none s) = BeginsWithFrames.none []
@@ -38,12 +39,12 @@ of_taken now _ _ _ _ _ (AreFramesTaken.closed bytes rest frame old new e begins 
 of_taken now _ _ _ _ _ (AreFramesTaken.refused bytes rest frame s e begins kind is) = BeginsWithFrames.none bytes
 
 -- frames with which the bytes begin, as many as the end of the 1-RTT packets took
-abbrev pub IsRead : Moment → (bytes : List ℕ) → (count : ℕ) → (old new : ControlState) → Option TransportError → Type 0
+abbrev pub IsRead : Moment → (bytes : List ℕ) → (count : ℕ) → (old new : ControlState) → Option StreamFault → Type 0
 IsRead now bytes count old new end = (read : List Frame) × BeginsWithFrames bytes read × (length read ≡ count) × AreControlsTaken now read old new end
 
 -- so many are left, and what is done with them comes behind what was done
 abbrev pub IsReadUpTo : Moment → (bytes rest : List ℕ) → (count left : ℕ) → (old mid : ControlState) → Type 0
-IsReadUpTo now bytes rest count left old mid = (mine : List Frame) (new : ControlState) (end : Option TransportError) → BeginsWithFrames rest mine → length mine ≡ left
+IsReadUpTo now bytes rest count left old mid = (mine : List Frame) (new : ControlState) (end : Option StreamFault) → BeginsWithFrames rest mine → length mine ≡ left
     → AreControlsTaken now mine mid new end → IsRead now bytes count old new end
 
 abbrev pub AreReadUpTo : Moment → (bytes rest : List ℕ) → (left all : ℕ) → (old mid : ControlState) → Type 0
@@ -84,21 +85,30 @@ all_read now bytes rest left all old mid so is taken are count = (so taken are c
 -- one that is refused is the last of those that are looked at
 pub refused_read : (now : Moment) (bytes rest behind : List ℕ) (f : Frame) (left next all : ℕ) (e : TransportError) (old mid : ControlState) → Begins rest (plain_of f) behind → left ≡ suc next
     → IsRefusal (Transport e) (control_refusal mid f) → AreReadUpTo now bytes rest left all old mid
-    → (taken : List Frame) → BeginsWithFrames bytes taken → all ≡ length taken → IsRead now bytes (length taken) old mid (Some e)
+    → (taken : List Frame) → BeginsWithFrames bytes taken → all ≡ length taken → IsRead now bytes (length taken) old mid (Some (Transport e))
 refused_read now bytes rest behind f left next all e old mid begins is refusal so taken are count =
     let p = so taken are count in
     let o = later_frames rest behind f left next p.0.0 begins is p.0.1 p.0.2 in
-    p.1 (f ∷ o.0) mid (Some e) (BeginsWithFrames.more rest behind f o.0 begins o.1) (ap suc o.2 ∙ sym is) (AreControlsTaken.refused f o.0 mid e refusal)
+    p.1 (f ∷ o.0) mid (Some (Transport e)) (BeginsWithFrames.more rest behind f o.0 begins o.1) (ap suc o.2 ∙ sym is) (AreControlsTaken.refused f o.0 mid e refusal)
+
+-- one for which memory is wanting is the last of those that are looked at
+pub cut_read : (now : Moment) (bytes rest behind : List ℕ) (f : Frame) (left next all : ℕ) (old mid new : ControlState) → Begins rest (plain_of f) behind → left ≡ suc next → control_refusal mid f ≡ None
+    → keeps f ≡ true → new ≡ record mid { ids = new.ids; own_ids = new.own_ids; queue = new.queue } → AreReadUpTo now bytes rest left all old mid
+    → (taken : List Frame) → BeginsWithFrames bytes taken → all ≡ length taken → IsRead now bytes (length taken) old new (Some Wanting)
+cut_read now bytes rest behind f left next all old mid new begins is unrefused kept e so taken are count =
+    let p = so taken are count in
+    let o = later_frames rest behind f left next p.0.0 begins is p.0.1 p.0.2 in
+    p.1 (f ∷ o.0) new (Some Wanting) (BeginsWithFrames.more rest behind f o.0 begins o.1) (ap suc o.2 ∙ sym is) (AreControlsTaken.cut f o.0 mid new unrefused kept e)
 
 module _ {S : Type 0} where
   pub faulted_done : (now : Moment) (bytes : List ℕ) (count : ℕ) (e : TransportError) (old at tc : Connection S) (closed : Inner S) → tc ≡ at → at ≡ record old { control = at.control }
-      → IsRead now bytes count old.control at.control (Some e) → IsFaulted now e tc.core closed
+      → IsRead now bytes count old.control at.control (Some (Transport e)) → IsFaulted now e tc.core closed
       → (read : List Frame) × BeginsWithFrames bytes read × (length read ≡ count) × AreFramesDone now read old (record tc { core = closed })
   faulted_done now bytes count e old at tc closed same is r f = (
     r.0,
     r.1,
     r.2,
-    AreFramesDone.refused e (subst (λ (z : Connection S). AreControlsTaken now r.0 old.control z.control (Some e)) (sym same) r.3)
+    AreFramesDone.refused e (subst (λ (z : Connection S). AreControlsTaken now r.0 old.control z.control (Some (Transport e))) (sym same) r.3)
         (subst (λ (z : Inner S). IsFaulted now e z closed) (ap (λ (z : Connection S). z.core) (same ∙ is)) f),
   )
 
@@ -122,7 +132,7 @@ module _ {S : Type 0} where
   closed_handled now read be tf (AreFramesDone.done took same) rest shut =
       AreFramesHandled.ended took (sym (ap (λ (z : Inner S). is_open z.state) same) ∙ shut) (rest ∙ ap (λ (z : Inner S). record be { core = z; control = tf.control }) same)
   closed_handled now read be tf (AreFramesDone.refused e took f) rest shut = AreFramesHandled.refused e took f rest
-  closed_handled now read be tf (AreFramesDone.cut down same) rest shut = AreFramesHandled.cut down (rest ∙ ap (λ (z : Inner S). record be { core = z; control = tf.control }) same)
+  closed_handled now read be tf (AreFramesDone.cut took down same) rest shut = AreFramesHandled.cut took down (rest ∙ ap (λ (z : Inner S). record be { core = z; control = tf.control }) same)
 
   open_handled : (now : Moment) (read : List Frame) (be tf fi : Connection S) (q : PlainQueue) → AreFramesDone now read be tf → tf ≡ record be { core = tf.core; control = tf.control } → is_open tf.core.state ≡ true
       → fi ≡ record tf { core = record tf.core { remote_id = tf.control.ids.active.id } } → AreLost (λ (number : ℕ). is_some (packet_at fi.core.space.sent number)) fi.control.queue q
@@ -136,7 +146,7 @@ module _ {S : Type 0} where
       ∙ ap (λ (z : Inner S). record be { core = record z { remote_id = tf.control.ids.active.id }; control = record tf.control { queue = q } }) same))
   open_handled now read be tf fi q (AreFramesDone.refused e took f) rest up follows lost =
       let z : true ≡ false = sym up ∙ ap (λ (z : Inner S). is_open z.state) f.closed.rest_is in cc
-  open_handled now read be tf fi q (AreFramesDone.cut down same) rest up follows lost =
+  open_handled now read be tf fi q (AreFramesDone.cut took down same) rest up follows lost =
       let z : true ≡ false = sym up ∙ (ap (λ (z : Inner S). is_open z.state) same ∙ down) in cc
 
   pub rest_closed : (accepts : AcceptsTag) (now : Moment) (d rest frames : List ℕ) (old be tf : Connection S) (core : Inner S) (count : ℕ) → is_some old.handshake.peer ≡ true

@@ -9,7 +9,8 @@ use Rattle.qh_conn.specs.Greeting.{IsGreetedNow, connected}
 use Rattle.qh_conn.specs.declared.connection.Connection.{Connection}
 use Rattle.qh_conn.specs.declared.event.ConnectionEvent.{ConnectionEvent}
 use Rattle.qh_conn.specs.declared.event.ConnectionEvent.TheVariants as event
-use Rattle.qh_control.specs.Control.{IsControlTaken, control_refusal, with_all_issued}
+use Rattle.qh_conn.specs.declared.incoming.Known.{Known}
+use Rattle.qh_control.specs.Control.{IsControlTaken, control_refusal, keeps, with_all_issued}
 use Rattle.qh_control.specs.Queue.{AreLost}
 use Rattle.qh_control.specs.declared.control.ControlState.{ControlState}
 use Rattle.qh_control.specs.declared.event.IssuedCid.{IssuedCid}
@@ -35,7 +36,8 @@ use Rattle.qh_spec.specs.Link.{other}
 use Rattle.qh_spec.specs.Parted.{EndsWith}
 use Rattle.qh_spec.specs.Transcript.{Act, HandedIn}
 use Rattle.qh_streams.specs.Streams.{IsRefusal}
-use Rattle.qh_streams.specs.declared.fault.StreamFault.TheVariants.{Transport}
+use Rattle.qh_streams.specs.declared.fault.StreamFault.{StreamFault}
+use Rattle.qh_streams.specs.declared.fault.StreamFault.TheVariants.{Memory as Wanting, Transport}
 
 -- ---- the frames of a packet beside those of streams and acknowledgement
 
@@ -44,25 +46,39 @@ pub data BeginsWithFrames : List ℕ → List Frame → Type 0 where
   none : (bytes : List ℕ) → BeginsWithFrames bytes []
   more : (bytes rest : List ℕ) (frame : Frame) (frames : List Frame) → Begins bytes (plain_of frame) rest → BeginsWithFrames rest frames → BeginsWithFrames bytes (frame ∷ frames)
 
--- The frames that the end of the 1-RTT packets took are taken one after another, up to one that is refused: the error says which.
-pub data AreControlsTaken (now : Moment) : List Frame → (old new : ControlState) → Option TransportError → Type 0 where
+-- The frames that the end of the 1-RTT packets took are taken one after another, up to one that is refused, or for which memory is wanting:
+-- the fault says which. Of one of these last ids and frames that wait may have changed.
+pub data AreControlsTaken (now : Moment) : List Frame → (old new : ControlState) → Option StreamFault → Type 0 where
   none : (s : ControlState) → AreControlsTaken now [] s s None
-  more : (frame : Frame) (frames : List Frame) (old mid new : ControlState) (end : Option TransportError) → control_refusal old frame ≡ None → IsControlTaken now old mid frame
+  more : (frame : Frame) (frames : List Frame) (old mid new : ControlState) (end : Option StreamFault) → control_refusal old frame ≡ None → IsControlTaken now old mid frame
       → AreControlsTaken now frames mid new end → AreControlsTaken now (frame ∷ frames) old new end
   refused : (frame : Frame) (frames : List Frame) (s : ControlState) (e : TransportError) → IsRefusal (Transport e) (control_refusal s frame)
-      → AreControlsTaken now (frame ∷ frames) s s (Some e)
+      → AreControlsTaken now (frame ∷ frames) s s (Some (Transport e))
+  cut : (frame : Frame) (frames : List Frame) (s new : ControlState) → control_refusal s frame ≡ None → keeps frame ≡ true
+      → new ≡ record s { ids = new.ids; own_ids = new.own_ids; queue = new.queue } → AreControlsTaken now (frame ∷ frames) s new (Some Wanting)
 
 -- the datagram ends with the token, and is long enough for a stateless reset (section 10.3.1)
 abbrev pub is_reset_by : Option ResetToken → (datagram : List ℕ) → Type 0
 is_reset_by None datagram = ⊥
 is_reset_by (Some token) datagram = (21 ≤ length datagram) × ((front : List ℕ) × (datagram ≡ front ++ token.0))
 
--- An Initial packet was accepted just now, one by which a client was greeted, or another; or a Retry packet was taken: the idle time runs
--- from now on (section 10.1). `before` is the handshake before the datagram.
-pub data HasHeard (now : Moment) (before after : Handshake) : Type 0 where
-  accepted : (s : InitialSpace) → after.space ≡ Some s → s.last_accepted ≡ Some now → HasHeard now before after
-  greeted : after.space ≡ None → before.peer ≡ None → is_some after.peer ≡ true → HasHeard now before after
-  retried : before.retry_id ≡ None → is_some after.retry_id ≡ true → HasHeard now before after
+-- how many Initial packets were accepted in the space
+abbrev pub accepted_in : Option InitialSpace → ℕ
+accepted_in None = 0
+accepted_in (Some s) = s.packets_accepted
+
+-- so much is known of a handshake
+pub record IsKnownOf (h : Handshake) (k : Known) : Type 0 where
+  pub is_greeted : k.is_greeted ≡ is_some h.peer
+  pub is_retried : k.is_retried ≡ is_some h.retry_id
+  pub packets_accepted : k.packets_accepted ≡ accepted_in h.space
+
+-- An Initial packet of a datagram was accepted, one by which a client was greeted, or another; or it was a Retry packet that was taken: the idle
+-- time runs anew (section 10.1). `before` is the handshake before the datagram.
+pub data HasHeard (before after : Handshake) : Type 0 where
+  accepted : (s : InitialSpace) → after.space ≡ Some s → (s.packets_accepted ≡ accepted_in before.space → ⊥) → HasHeard before after
+  greeted : after.space ≡ None → before.peer ≡ None → is_some after.peer ≡ true → HasHeard before after
+  retried : before.retry_id ≡ None → is_some after.retry_id ≡ true → HasHeard before after
 
 module _ {S : Type 0} where
   -- ---- the Initial packets
@@ -84,8 +100,8 @@ module _ {S : Type 0} where
   EndsBy now e old new = IsDrainingFrom now e old new
 
   pub data IsRestarted (now : Moment) (before : Handshake) (old new : Connection S) : Type 0 where
-    heard : HasHeard now before old.handshake → new ≡ record old { core = record old.core { idle = restarted now old.core.idle } } → IsRestarted now before old new
-    quiet : (HasHeard now before old.handshake → ⊥) → new ≡ old → IsRestarted now before old new
+    heard : HasHeard before old.handshake → new ≡ record old { core = record old.core { idle = restarted now old.core.idle } } → IsRestarted now before old new
+    quiet : (HasHeard before old.handshake → ⊥) → new ≡ old → IsRestarted now before old new
 
   -- an end that wasn't greeted yet is, if the peer's hello was read
   pub data IsMet (now : Moment) (was_greeted : Bool) (old new : Connection S) : Type 0 where
@@ -102,22 +118,22 @@ module _ {S : Type 0} where
   -- A packet was accepted: the end of the 1-RTT packets took its frames, `mid` is the connection then. The frames of the connection's own are
   -- taken up to one that is refused, by which the end closes, though one behind it closed it, or was the peer's close. If the end is open
   -- then, packets go to the id that is in use, and frames that were lost wait again. If it was closed already, and memory is wanting for one
-  -- of its own, nothing more is taken.
+  -- of its own, none behind that is taken.
   pub data AreFramesHandled (now : Moment) (frames : List Frame) (mid new : Connection S) : Type 0 where
     taken : (control : ControlState) → AreControlsTaken now frames mid.control control None → is_open mid.core.state ≡ true
         → AreLost (λ (number : ℕ). is_some (packet_at mid.core.space.sent number)) control.queue new.control.queue
         → new ≡ record mid { core = record mid.core { remote_id = control.ids.active.id }; control = record control { queue = new.control.queue } } → AreFramesHandled now frames mid new
     ended : AreControlsTaken now frames mid.control new.control None → is_open mid.core.state ≡ false → new ≡ record mid { control = new.control } → AreFramesHandled now frames mid new
-    refused : (e : TransportError) → AreControlsTaken now frames mid.control new.control (Some e) → IsFaulted now e mid.core new.core → new ≡ record mid { core = new.core; control = new.control }
+    refused : (e : TransportError) → AreControlsTaken now frames mid.control new.control (Some (Transport e)) → IsFaulted now e mid.core new.core → new ≡ record mid { core = new.core; control = new.control }
         → AreFramesHandled now frames mid new
-    cut : is_open mid.core.state ≡ false → new ≡ record mid { control = new.control } → AreFramesHandled now frames mid new
+    cut : AreControlsTaken now frames mid.control new.control (Some Wanting) → is_open mid.core.state ≡ false → new ≡ record mid { control = new.control } → AreFramesHandled now frames mid new
 
   -- So many of the frames with which the bytes begin are taken: each; or those before one that is refused; or, of an end that closed,
   -- those before one for which memory is wanting.
   pub data AreFramesDone (now : Moment) (frames : List Frame) (old new : Connection S) : Type 0 where
     done : AreControlsTaken now frames old.control new.control None → new.core ≡ old.core → AreFramesDone now frames old new
-    refused : (e : TransportError) → AreControlsTaken now frames old.control new.control (Some e) → IsFaulted now e old.core new.core → AreFramesDone now frames old new
-    cut : is_open old.core.state ≡ false → new.core ≡ old.core → AreFramesDone now frames old new
+    refused : (e : TransportError) → AreControlsTaken now frames old.control new.control (Some (Transport e)) → IsFaulted now e old.core new.core → AreFramesDone now frames old new
+    cut : AreControlsTaken now frames old.control new.control (Some Wanting) → is_open old.core.state ≡ false → new.core ≡ old.core → AreFramesDone now frames old new
 
   -- the rest of a datagram comes to an end that was greeted
   pub data IsRestTaken (accepts : AcceptsTag) (now : Moment) (datagram rest : List ℕ) (old new : Connection S) : Type 0 where
@@ -205,3 +221,9 @@ module _ {S : Type 0} where
 abbrev pub acts_of : ConnectionEvent → List Act
 acts_of (event.Datagram now remote payload) = HandedIn payload ∷ []
 acts_of other = []
+
+-- a close and a new socket take no memory
+abbrev pub takes_memory : ConnectionEvent → Bool
+takes_memory (event.Close now code reason) = false
+takes_memory event.Rebind = false
+takes_memory other = true

@@ -32,7 +32,7 @@ pub struct ConnConfig {
     pub datagram_receive: Option<u64>,
     /// How many bytes of payloads of DATAGRAM frames may wait to be sent.
     pub datagram_send: u64,
-    /// The version of its packets.
+    /// The version of its packets; there is one (RFC 9000, section 15).
     pub version: Version,
 }
 
@@ -43,7 +43,7 @@ const DATAGRAM_SIZE: u64 = 1_200;
 const STREAMS: u64 = 1 << 60;
 
 impl ConnConfig {
-    /// What an end with this id says of itself. A server adds where the client's first packet went.
+    /// What an end with this id says of itself.
     pub(crate) fn parameters(&self, side: Side, local_id: ConnectionId) -> TransportParameters
         ensures said { (token : AToken) × (token.0 ≡ reset_token_of local_id) × (result ≡ parameters_of self.now side local_id token) }
         ensures client { side ≡ Client → (name : List ℕ) → length name ≤ 255 → IsSayable (greeting Client name result) }
@@ -119,8 +119,8 @@ pub(crate) fn idle_in_force(own: VarInt, peer: VarInt) -> Option<Span>
     Some(Span::from_millis(millis))
 }
 
-/// The longest payload of a DATAGRAM frame that a peer takes that takes frames of so many bytes, with the three bytes of their type and
-/// length, and that has room in each packet (own). None if it takes not even an empty one, with two bytes of type and length, as none with
+/// The longest payload of a DATAGRAM frame that a peer takes whose hello gives this max_datagram_frame_size, which counts the three bytes of
+/// type and length, and that has room in each packet (own). None if it takes not even an empty one, with two bytes of type and length, as none with
 /// 0 does (RFC 9221, section 3).
 pub(crate) fn datagram_payload(size: VarInt) -> Option<u64>
     ensures value { result ≡ datagram_of (Some size) }

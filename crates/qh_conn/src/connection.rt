@@ -1,7 +1,7 @@
 ghost use Rattle.std.specs.Prelude.{◌≡◌, ◌≤◌, ◌+◌, ◌-◌, ◌^◌, ◌++◌, ◌∷◌, ℕ, [], List, min, length, not, true, false, is_some, None, IfOk, OnOk, OnErr};
 ghost use Rattle.qh_base.specs.declared.connection_error.ConnectionError.TheVariants.{LocallyClosed};
 ghost use Rattle.qh_conn.specs.Greeting.{no_early};
-ghost use Rattle.qh_conn.specs.Parameters.{IsFirstCore, IsSaid};
+ghost use Rattle.qh_conn.specs.Parameters.{IsFirstCore, IsFirstHandshake, IsSaid, first_control};
 ghost use Rattle.qh_conn.specs.Telling.{IsEndpointTold};
 ghost use Rattle.qh_conn.specs.Whole.{IsWhole, Stands, StandsStill};
 ghost use Rattle.qh_control.specs.declared.control.ControlState.{ControlState as AControlState};
@@ -86,10 +86,11 @@ impl<S: Session> Connection<S> {
         ensures whole { IfOk result (λ c. IsWhole c) }
         ensures stands { IfOk result (λ c. (hello : List ℕ) × IsFresh hello c.handshake × Stands hello c []) }
         ensures handshake { IfOk result (λ c. (c.handshake.side ≡ side) × (c.handshake.local_id ≡ local_id) × (c.handshake.original_id ≡ key_id) × (c.handshake.retry_id ≡ None) × (c.handshake.token ≡ []) × (c.handshake.peer ≡ None)) }
+        ensures begins { IfOk result (λ c. IsFirstHandshake config (S.name session) key_id remote_id now c.handshake side) }
         ensures said { IfOk result (λ c. IsSaid config side local_id key_id c.handshake.parameters) }
         ensures core { IfOk result (λ c. IsFirstCore config side session local_id remote_id addresses now c.core) }
-        ensures parts { IfOk result (λ c. (c.config ≡ config) × (c.is_connected ≡ false) × (c.is_data_due ≡ false) × (c.is_connected_due ≡ false) × (c.early ≡ no_early) × (c.udp_tx ≡ fresh_stats) × (c.udp_rx ≡ fresh_stats)) }
-        ensures nothing { IfOk result (λ c. (c.control.endpoint_events ≡ []) × (c.control.queue.waiting ≡ []) × (c.control.token ≡ None) × (c.control.datagrams.incoming ≡ []) × (c.control.datagrams.outgoing ≡ [])) }
+        ensures parts { IfOk result (λ c. (c.config ≡ config) × (c.is_connected ≡ false) × (c.is_data_due ≡ false) × (c.is_connected_due ≡ false) × (c.is_control_next ≡ false) × (c.early ≡ no_early) × (c.udp_tx ≡ fresh_stats) × (c.udp_rx ≡ fresh_stats)) }
+        ensures control { IfOk result (λ c. c.control ≡ first_control config local_id remote_id addresses.remote c.control.queue.room) }
     {
         hears::<S>();
         let handshake = first_handshake(
@@ -141,6 +142,7 @@ impl<S: Session> Connection<S> {
         requires server { self.old.handshake.side ≡ Server }
         requires first { (self.old.handshake.peer ≡ None) × (self.old.handshake.bytes_received ≡ 0) × (self.old.handshake.bytes_sent ≡ 0) }
         ensures origin { self.new ≡ record self.old { handshake = with_origin self.old.handshake original_id retry_id validated } }
+        ensures stands { (hello : List ℕ) → IsFresh hello self.old.handshake → Stands hello self.old [] → (own : List ℕ) × IsFresh own self.new.handshake × Stands own self.new [] }
         ensures whole { IsWhole self.new }
     {
         self.handshake.set_origin(original_id, retry_id, validated);
@@ -153,6 +155,7 @@ impl<S: Session> Connection<S> {
         requires first { (self.old.handshake.retry_id ≡ None) × (self.old.handshake.bytes_received ≡ 0) × (self.old.handshake.bytes_sent ≡ 0) }
         requires short { length token ≤ 512 }
         ensures token { self.new ≡ record self.old { handshake = record self.old.handshake { token = token } } }
+        ensures stands { (hello : List ℕ) → IsFresh hello self.old.handshake → Stands hello self.old [] → IsFresh hello self.new.handshake × Stands hello self.new [] }
         ensures whole { IsWhole self.new }
     {
         self.handshake.bear(token);
@@ -221,6 +224,7 @@ impl<S> Connection<S> {
         requires short { length token ≤ 512 }
         ensures ok { OnOk result (self.new ≡ record self.old { control = record self.old.control { queue = record self.old.control.queue { waiting = self.old.control.queue.waiting ++ sending.NewToken token ∷ [] } } }) }
         ensures err { OnErr result (self.new ≡ self.old) }
+        ensures stands { StandsStill self.old self.new }
         ensures whole { IsWhole self.new }
     {
         self.control.queue_token(token)
@@ -231,6 +235,7 @@ impl<S> Connection<S> {
         requires { IsWhole self.old }
         ensures value { result ≡ self.old.control.token }
         ensures rest { self.new ≡ record self.old { control = record self.old.control { token = None } } }
+        ensures stands { StandsStill self.old self.new }
         ensures whole { IsWhole self.new }
     {
         self.control.take_token()
@@ -276,7 +281,7 @@ impl<S> Connection<S> {
         self.core.congestion_state()
     }
 
-    /// Why the connection is lost, where it is (quinn, `Connection::close_reason`).
+    /// Why the connection is lost, if it is (quinn, `Connection::close_reason`).
     pub fn close_reason(&self) -> Option<ConnectionError>
         ensures { result ≡ self.now.core.error }
     {
@@ -311,7 +316,7 @@ impl<S> Connection<S> {
         self.core.remote_address()
     }
 
-    /// The address of this end, where it is known.
+    /// The address of this end, if it is known.
     pub fn local_ip(&self) -> Option<IpAddr>
         ensures { result ≡ self.now.core.addresses.local_ip }
     {
@@ -342,6 +347,7 @@ fn first_handshake<S: Session>(
     ensures fresh { IfOk result (λ h. (hello : List ℕ) × IsFresh hello h) }
     ensures ids { IfOk result (λ h. (h.side ≡ side) × (h.local_id ≡ local_id) × (h.original_id ≡ key_id) × (h.retry_id ≡ None) × (h.token ≡ []) × (h.peer ≡ None)) }
     ensures said { IfOk result (λ h. IsSaid config.now side local_id key_id h.parameters) }
+    ensures begins { IfOk result (λ h. IsFirstHandshake config.now (S.name session.now) key_id remote_id now h side) }
 {
     // Its length is read for the bound alone.
     let _ = session.server_name().len();

@@ -17,6 +17,7 @@ impl<S> Connection<S> {
         ensures refused { IfErr result (λ e. IsSendFault self.old.control.datagram_receive self.old.control.peer_datagram self.old.control.datagram_send drop_old self.old.control.datagrams payload e) }
         ensures kept { drop_old ≡ false → OnOk result ((bytes_of self.old.control.datagrams.outgoing + length payload ≤ self.old.control.datagram_send) × (self.new.control.datagrams.outgoing ≡ self.old.control.datagrams.outgoing ++ payload ∷ [])) }
         ensures dropped { drop_old ≡ true → OnOk result (self.new.control.datagrams.outgoing ≡ with_room (length payload) self.old.control.datagram_send self.old.control.datagrams.outgoing ++ payload ∷ []) }
+        ensures taken { OnOk result ((self.old.control.datagram_receive ≡ None → ⊥) × ((most : ℕ) × (self.old.control.peer_datagram ≡ Some most) × (length payload ≤ most))) }
         ensures stayed { OnOk result (self.new ≡ record self.old { control = record self.old.control { datagrams = record self.old.control.datagrams { outgoing = self.new.control.datagrams.outgoing } } }) }
         ensures blocked { IfErr result (λ e. (back : List ℕ) → e ≡ faults.Blocked back → self.new ≡ record self.old { control = record self.old.control { datagrams = record self.old.control.datagrams { is_send_blocked = true } } }) }
         ensures unchanged { IfErr result (λ e. ((back : List ℕ) → e ≡ faults.Blocked back → ⊥) → self.new ≡ self.old) }

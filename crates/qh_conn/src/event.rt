@@ -11,14 +11,14 @@ pub enum Event {
     HandshakeDataReady,
     /// The handshake is complete.
     Connected,
-    /// The connection was lost, or this end closed it. It comes once, after all that happened before.
+    /// The connection was lost, or this end closed it. It comes once.
     ConnectionLost {
         /// Why.
         reason: ConnectionError,
     },
     /// Something happened to streams.
     Stream(StreamEvent),
-    /// A datagram can be read, where none could before.
+    /// A datagram can be read, if none could before.
     DatagramReceived,
     /// There is room for datagrams again, of which one was refused for want of it.
     DatagramsUnblocked,

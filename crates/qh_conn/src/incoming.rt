@@ -1,9 +1,9 @@
-ghost use Rattle.std.specs.Prelude.{◌≡◌, ◌⊎◌, ◌∷◌, ◌++◌, [], ℕ, List, Option, true, false, None, Some, is_some, length, OnOk, OnErr, IfOk, IfErr};
+ghost use Rattle.std.specs.Prelude.{◌≡◌, ◌⊎◌, ◌∷◌, ◌++◌, [], ℕ, List, Option, true, false, None, Some, is_some, length, IsOk, OnOk, OnErr, IfOk, IfErr};
 ghost use Rattle.qh_base.specs.declared.connection_error.ConnectionError.TheVariants.{Memory as OutOfMemory, Reset};
 ghost use Rattle.qh_conn.specs.Hearing.{FailsTo, HasRead, HearsIt, StandsOrFails};
-ghost use Rattle.qh_conn.specs.Incoming.{AreFramesDone, BeginsWithFrames, BringsData, EndsBy, HasHeard, IsClosingHeard, IsDatagramHandled, IsEventHandled, IsFed, IsMet, IsOpenHandled, IsOver, IsRestTaken, IsRestarted, IsShutConnected, acts_of, connected_if, is_reset_by};
+ghost use Rattle.qh_conn.specs.Incoming.{AreFramesDone, BeginsWithFrames, BringsData, EndsBy, HasHeard, IsClosingHeard, IsDatagramHandled, IsEventHandled, IsFed, IsKnownOf, IsMet, IsOpenHandled, IsOver, IsRestTaken, IsRestarted, IsShutConnected, acts_of, connected_if, is_reset_by, takes_memory};
 ghost use Rattle.qh_conn.specs.Whole.{CarriesOn, IsSafe, IsSound, IsWhole, Stands, StandsStill};
-ghost use Rattle.qh_control.specs.Control.{IsControlTaken, IsSendable, control_refusal};
+ghost use Rattle.qh_control.specs.Control.{IsControlTaken, IsSendable, control_refusal, keeps};
 ghost use Rattle.qh_core.specs.Inner.{IsFailedBy, IsSameEnd, is_open};
 ghost use Rattle.qh_core.specs.Event.{is_drained};
 ghost use Rattle.qh_core.specs.Made.{IsMadeLocally};
@@ -43,6 +43,7 @@ impl<S: Session> Connection<S> {
         ensures ok { OnOk result (IsEventHandled (record { name = S.name; knows = S.knows; key = S.key; sealed = S.sealed; accepts = S.accepts }) event self.old self.new) }
         ensures err { OnErr result (IsOver self.new) }
         ensures wanting { OnErr result (is_open self.old.core.state ≡ true) }
+        ensures calm { takes_memory event ≡ false → IsOk result }
         ensures carries { NamesTags (S.accepts self.old.core.session) → CarriesOn self.old self.new (acts_of event) }
         ensures whole { IsWhole self.new }
     {
@@ -113,8 +114,7 @@ impl<S: Session> Connection<S> {
         ensures safe { IsSafe self.new }
         ensures whole { OnOk result (IsWhole self.new) }
     {
-        let was_greeted = self.is_greeted();
-        let was_retried = self.handshake.retry_id.is_some();
+        let known = self.known();
         let rest = match self.feed(now, datagram) {
             Ok(rest) => rest,
             Err(ConnectionError::Memory) => return Err(Memory),
@@ -123,8 +123,8 @@ impl<S: Session> Connection<S> {
                 return Ok(());
             }
         };
-        self.restart(now, was_greeted, was_retried);
-        self.meet(now, was_greeted)?;
+        self.restart(now, known);
+        self.meet(now, known.is_greeted)?;
         if self.is_greeted() && !rest.is_empty() {
             self.take_data(now, datagram, rest)?;
         }
@@ -218,6 +218,7 @@ impl<S: Session> Connection<S> {
         ensures stands { StandsStill self.old self.new }
         ensures open { is_open self.new.core.state ≡ true → self.new.core ≡ self.old.core }
         ensures rest { self.new ≡ record self.old { core = self.new.core; control = self.new.control } }
+        ensures wanting { OnErr result (is_open self.new.core.state ≡ true) }
         ensures done { OnOk result ((taken : List AFrame) → BeginsWithFrames accepted.now.frames.now taken → accepted.now.taken ≡ length taken → (read : List AFrame) × BeginsWithFrames accepted.now.frames.now read × (length read ≡ length taken) × AreFramesDone now read self.old self.new) }
     {
         let mut rest = accepted.frames;
@@ -246,6 +247,8 @@ impl<S: Session> Connection<S> {
         requires { IsSound self.old }
         ensures taken { OnOk result (IsControlTaken now self.old.control self.new.control frame.now) }
         ensures unrefused { OnOk result (control_refusal self.old.control frame.now ≡ None) }
+        ensures wanting { IfErr result (λ e. e ≡ Wanting → keeps frame.now ≡ true) }
+        ensures left { IfErr result (λ e. self.new.control ≡ record self.old.control { ids = self.new.control.ids; own_ids = self.new.control.own_ids; queue = self.new.control.queue }) }
         ensures fault { IfErr result (λ e. IsRefusedBy e (control_refusal self.old.control frame.now)) }
         ensures refused { IfErr result (λ e. (e ≡ Wanting → ⊥) → self.new ≡ self.old) }
         ensures rest { self.new ≡ record self.old { control = self.new.control } }
@@ -308,32 +311,52 @@ impl<S: Session> Connection<S> {
     }
 }
 
+// What of a handshake tells, before a datagram, whether that is heard.
+#[derive(Clone, Copy)]
+struct Known {
+    is_greeted: bool,
+    is_retried: bool,
+    packets_accepted: u64,
+}
+
 impl<S> Connection<S> {
-    // The idle time runs from now on, if an Initial packet or a Retry packet was taken just now.
-    fn restart(&mut self, now: Moment, was_greeted: bool, was_retried: bool)
-        ensures restarted { (before : AHandshake) → was_greeted ≡ is_some before.peer → was_retried ≡ is_some before.retry_id → IsRestarted now before self.old self.new }
+    // What is known before a datagram.
+    fn known(&self) -> Known
+        ensures { IsKnownOf self.now.handshake result }
+    {
+        let packets_accepted = match &self.handshake.space {
+            Some(space) => space.packets_accepted,
+            None => 0,
+        };
+        Known {
+            is_greeted: self.is_greeted(),
+            is_retried: self.handshake.retry_id.is_some(),
+            packets_accepted,
+        }
+    }
+
+    // The idle time runs from now on, if an Initial packet or a Retry packet was taken since that was known.
+    fn restart(&mut self, now: Moment, known: Known)
+        ensures restarted { (before : AHandshake) → IsKnownOf before known → IsRestarted now before self.old self.new }
         ensures rest { self.new ≡ record self.old { core = record self.old.core { idle = self.new.core.idle } } }
         ensures made { IsMadeLocally self.old.core self.new.core [] }
     {
-        if self.has_heard(now, was_greeted, was_retried) {
+        if self.has_heard(known) {
             self.core.on_packet_accepted(now);
         }
     }
 
-    // Whether an Initial packet was accepted just now, one by which the end was greeted, or another; or a Retry packet was taken.
-    fn has_heard(&self, now: Moment, was_greeted: bool, was_retried: bool) -> bool
-        ensures yes { (before : AHandshake) → was_greeted ≡ is_some before.peer → was_retried ≡ is_some before.retry_id → result ≡ true → HasHeard now before self.now.handshake }
-        ensures no { (before : AHandshake) → was_greeted ≡ is_some before.peer → was_retried ≡ is_some before.retry_id → result ≡ false → HasHeard now before self.now.handshake → ⊥ }
+    // Whether an Initial packet was accepted since that was known, one by which the end was greeted, or another; or a Retry packet was taken.
+    fn has_heard(&self, known: Known) -> bool
+        ensures yes { (before : AHandshake) → IsKnownOf before known → result ≡ true → HasHeard before self.now.handshake }
+        ensures no { (before : AHandshake) → IsKnownOf before known → result ≡ false → HasHeard before self.now.handshake → ⊥ }
     {
-        if self.handshake.retry_id.is_some() && !was_retried {
+        if self.handshake.retry_id.is_some() && !known.is_retried {
             return true;
         }
         match &self.handshake.space {
-            Some(space) => match space.last_accepted {
-                Some(accepted) => accepted.0 == now.0,
-                None => false,
-            },
-            None => self.is_greeted() && !was_greeted,
+            Some(space) => space.packets_accepted != known.packets_accepted,
+            None => self.is_greeted() && !known.is_greeted,
         }
     }
 

@@ -138,7 +138,7 @@ impl<S: Session> Connection<S> {
         self.transmit_in_turn(now, buf)
     }
 
-    // The same where frames of its own come behind what the streams and acknowledgements have to send.
+    // The same, with frames of its own after what the streams and acknowledgements have to send.
     fn transmit_in_turn(
         &mut self,
         now: Moment,

@@ -5,7 +5,7 @@ ghost use Rattle.qh_conn.specs.Telling.{IsDueAt, IsFirstDue, IsHandshakeTimed, I
 ghost use Rattle.qh_conn.specs.Whole.{IsWhole, StandsStill};
 ghost use Rattle.qh_core.specs.Event.{IsPolledEvent};
 ghost use Rattle.qh_core.specs.Inner.{is_open};
-ghost use Rattle.qh_core.specs.Timers.{IsTimedOut as IsCoreTimedOut};
+ghost use Rattle.qh_core.specs.Timers.{IsIdleDue, IsTimedOut as IsCoreTimedOut};
 ghost use Rattle.qh_core.specs.declared.event.Event.{Event as ACoreEvent};
 
 use crate::{Connection, Event};
@@ -20,7 +20,7 @@ impl<S: Session> Connection<S> {
         requires { IsWhole self.old }
         ensures ok { OnOk result (IsTimedOut now.0 self.old self.new) }
         ensures err { OnErr result (IsOver self.new) }
-        ensures wanting { OnErr result (is_open self.old.core.state ≡ true) }
+        ensures wanting { OnErr result ((is_open self.old.core.state ≡ true) × (IsIdleDue now.0 self.old.core → ⊥)) }
         ensures stands { StandsStill self.old self.new }
         ensures whole { IsWhole self.new }
     {
@@ -93,7 +93,7 @@ impl<S> Connection<S> {
         requires { IsWhole self.old }
         ensures handshake { IsHandshakeTimed now.0 (is_open self.old.core.state) self.old.handshake self.new.handshake }
         ensures core { IsCoreTimedOut now.0 self.old.core self.new.core }
-        ensures opens { is_open self.new.core.state ≡ true → is_open self.old.core.state ≡ true }
+        ensures opens { is_open self.new.core.state ≡ true → (is_open self.old.core.state ≡ true) × (IsIdleDue now.0 self.old.core → ⊥) }
         ensures rest { self.new ≡ record self.old { handshake = self.new.handshake; core = self.new.core } }
         ensures stands { StandsStill self.old self.new }
         ensures whole { IsWhole self.new }

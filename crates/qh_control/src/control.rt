@@ -23,7 +23,7 @@ use qh_streams::StreamFault;
 use std::alloc::Global;
 use std::net::SocketAddr;
 
-/// While so many RETIRE_CONNECTION_ID frames await their acknowledgement no further id is taken (RFC 9000, section 5.1.2; quinn-proto, ten
+/// While 80 RETIRE_CONNECTION_ID frames await their acknowledgement no further id is taken (RFC 9000, section 5.1.2; quinn-proto, ten
 /// times the ids that are kept).
 const MOST_RETIRES: usize = 80;
 
@@ -50,7 +50,7 @@ pub struct ControlState {
     pub datagram_send: u64,
     /// The longest payload that the peer takes, at most 1,140. None if it takes none, or its hello wasn't read.
     pub peer_datagram: Option<u64>,
-    /// Whether the application is to be told that a datagram came, where none waited.
+    /// Whether the application is to be told that a datagram came, if none waited.
     pub is_datagram_due: bool,
     /// Whether it is to be told that there is room for datagrams again.
     pub is_unblocked_due: bool,

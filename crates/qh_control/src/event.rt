@@ -9,7 +9,7 @@ use std::net::SocketAddr;
 /// What a connection tells the endpoint that it belongs to (quinn-proto, `EndpointEvent`).
 #[derive(Clone, Copy)]
 pub enum EndpointEvent {
-    /// It wants so many further connection ids.
+    /// It wants this many further connection ids.
     NeedIdentifiers(Moment, u64),
     /// A datagram that comes from this address and ends with this token resets it (RFC 9000, section 10.3). It takes the place of its
     /// earlier one.

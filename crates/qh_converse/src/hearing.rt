@@ -22,9 +22,9 @@ ghost use Rattle.qh_spec.specs.Transcript.{Act, HandedIn, handed_in};
 ghost use Rattle.qh_spec.specs.declared.sides.Side.TheVariants.{Client};
 ghost use Rattle.qh_spec.specs.declared.sides.Space.TheVariants.{Data};
 
-/// A datagram comes: the handshake takes its Initial packets (`hears`), by which the end may be greeted (`greets`), also as the connection
-/// ends by it (`ends`) or for want of memory (`lost`, `ends_lost`); of what is behind
-/// them the end of the 1-RTT packets hears nothing (`unheard`), or takes it (`heard`); and a server is connected by it (`connects`).
+/// A datagram comes. The handshake takes its Initial packets (`hears`). The end may be greeted by them (`greets`), also if the connection ends
+/// by them (`ends`) or memory is wanting (`lost`, `ends_lost`). Of what is behind them the end of the 1-RTT packets hears nothing
+/// (`unheard`), or takes it (`heard`), and a server is connected by that (`connects`).
 pub fn hears<S>()
     ensures fresh { (hello : List ℕ) (h : AHandshake) (c : AnInner S) → IsFresh hello h → c.side ≡ h.side → c.local_id ≡ h.local_id → IsNewSpace c.config c.side c.space → CoreFollows c []
         → Converses hello h c false [] }

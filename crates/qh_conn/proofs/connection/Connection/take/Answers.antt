@@ -31,22 +31,22 @@ meet-requires-clause-sound g c = sound_idle c.feed.new.self c.restart.new.self c
 
 pub meet-requires-clause-first : goal.meet-requires-clause-first
 meet-requires-clause-first g c = λ was.
-    still_unready c.args.self.now c.feed.new.self c.restart.new.self (unready c.args.self.now c.requires.whole.sound (none_when c.args.self.now.handshake.peer (sym c.is_greeted-was_greeted.ensures ∙ was))) c.feed.ensures.rest c.restart.ensures.rest
+    still_unready c.args.self.now c.feed.new.self c.restart.new.self (unready c.args.self.now c.requires.whole.sound (none_when c.args.self.now.handshake.peer (sym c.known-known.ensures.is_greeted ∙ was))) c.feed.ensures.rest c.restart.ensures.rest
 
 pub meet-requires-clause-whole : goal.meet-requires-clause-whole
 meet-requires-clause-whole g c = λ was.
-    still_whole c.args.self.now c.feed.new.self c.restart.new.self c.requires.whole c.requires.open (sym c.is_greeted-was_greeted.ensures ∙ was) c.feed.ensures.side c.feed.ensures.rest c.restart.ensures.rest
+    still_whole c.args.self.now c.feed.new.self c.restart.new.self c.requires.whole c.requires.open (sym c.known-known.ensures.is_greeted ∙ was) c.feed.ensures.side c.feed.ensures.rest c.restart.ensures.rest
     (sound_idle c.feed.new.self c.restart.new.self c.in-Ok.ensures.sound c.restart.ensures.rest)
 
 pub returns-in_ok-take_data-clause-ok : goal.returns-in_ok-take_data-clause-ok
 returns-in_ok-take_data-clause-ok g c =
-    taken_by _ c.args.now c.args.datagram.now c.in-Ok.rest.now c.args.self.now c.feed.new.self c.restart.new.self c.meet.new.self c.take_data.new.self c.is_greeted-was_greeted.result c.in-Ok.ensures.ok
-    (c.restart.ensures.restarted c.args.self.now.handshake c.is_greeted-was_greeted.ensures c.is_some-was_retried.ensures) c.is_greeted-was_greeted.ensures c.in_ok-meet.ensures.ok c.in_ok-take_data.ensures.ok
+    taken_by _ c.args.now c.args.datagram.now c.in-Ok.rest.now c.args.self.now c.feed.new.self c.restart.new.self c.meet.new.self c.take_data.new.self c.known-known.result.is_greeted c.in-Ok.ensures.ok
+    (c.restart.ensures.restarted c.args.self.now.handshake c.known-known.ensures) c.known-known.ensures.is_greeted c.in_ok-meet.ensures.ok c.in_ok-take_data.ensures.ok
 
 pub returns-else-is_greeted-clause-ok : goal.returns-else-is_greeted-clause-ok
 returns-else-is_greeted-clause-ok g c =
-    taken_by _ c.args.now c.args.datagram.now c.in-Ok.rest.now c.args.self.now c.feed.new.self c.restart.new.self c.meet.new.self c.meet.new.self c.is_greeted-was_greeted.result c.in-Ok.ensures.ok
-    (c.restart.ensures.restarted c.args.self.now.handshake c.is_greeted-was_greeted.ensures c.is_some-was_retried.ensures) c.is_greeted-was_greeted.ensures c.in_ok-meet.ensures.ok
+    taken_by _ c.args.now c.args.datagram.now c.in-Ok.rest.now c.args.self.now c.feed.new.self c.restart.new.self c.meet.new.self c.meet.new.self c.known-known.result.is_greeted c.in-Ok.ensures.ok
+    (c.restart.ensures.restarted c.args.self.now.handshake c.known-known.ensures) c.known-known.ensures.is_greeted c.in_ok-meet.ensures.ok
     (elim c.else-is_greeted.branch [
       | else-is_greeted-via-then-is_greeted+else-not-is_empty w ↦ let none : true ≡ (length c.in-Ok.rest.now == 0) = search rules in IsRestTaken.nothing (is_empty c.in-Ok.rest.now none) refl
       | else-is_greeted-via-else-is_greeted w ↦ let n : is_some c.meet.new.self.handshake.peer ≡ false = search rules in IsRestTaken.ungreeted (none_when c.meet.new.self.handshake.peer n) refl
@@ -68,25 +68,25 @@ returns-in-Err-Memory-clause-carries g c = λ from hello t p.
 pub returns-in_err-meet-clause-carries : goal.returns-in_err-meet-clause-carries
 returns-in_err-meet-clause-carries g c = λ from hello t p.
     let read = restarted_read _ c.args.now c.args.datagram.now c.in-Ok.rest.now hello c.args.self.now c.feed.new.self c.restart.new.self t from c.in-Ok.ensures.ok c.restart.ensures.rest c.restart.ensures.made p in
-    failing _ _ c.from_residual.result c.from_residual.ensures.0 (c.in_err-meet.ensures.hears hello c.args.datagram.now c.args.self.now.handshake t read c.is_greeted-was_greeted.ensures).1
+    failing _ _ c.from_residual.result c.from_residual.ensures.0 (c.in_err-meet.ensures.hears hello c.args.datagram.now c.args.self.now.handshake t read c.known-known.ensures.is_greeted).1
 
 pub returns-in_err-take_data-clause-carries : goal.returns-in_err-take_data-clause-carries
 returns-in_err-take_data-clause-carries g c = λ from hello t p.
     let read = restarted_read _ c.args.now c.args.datagram.now c.in-Ok.rest.now hello c.args.self.now c.feed.new.self c.restart.new.self t from c.in-Ok.ensures.ok c.restart.ensures.rest c.restart.ensures.made p in
-    let tags = met_tags _ c.args.now c.args.datagram.now c.in-Ok.rest.now c.args.self.now c.feed.new.self c.restart.new.self c.meet.new.self c.is_greeted-was_greeted.result
+    let tags = met_tags _ c.args.now c.args.datagram.now c.in-Ok.rest.now c.args.self.now c.feed.new.self c.restart.new.self c.meet.new.self c.known-known.result.is_greeted
     (some_bytes c.in-Ok.rest.now c.if-not-is_empty.ensures) from c.in-Ok.ensures.ok c.restart.ensures.rest c.in_ok-meet.ensures.ok in
     failing _ _ c.from_residual-in_err-take_data.result c.from_residual-in_err-take_data.ensures.0
-    (c.in_err-take_data.ensures.carries tags hello t (c.in_ok-meet.ensures.hears hello c.args.datagram.now c.args.self.now.handshake t read c.is_greeted-was_greeted.ensures).0).1
+    (c.in_err-take_data.ensures.carries tags hello t (c.in_ok-meet.ensures.hears hello c.args.datagram.now c.args.self.now.handshake t read c.known-known.ensures.is_greeted).0).1
 
 pub returns-in_ok-take_data-clause-carries : goal.returns-in_ok-take_data-clause-carries
 returns-in_ok-take_data-clause-carries g c = λ from hello t p.
     let read = restarted_read _ c.args.now c.args.datagram.now c.in-Ok.rest.now hello c.args.self.now c.feed.new.self c.restart.new.self t from c.in-Ok.ensures.ok c.restart.ensures.rest c.restart.ensures.made p in
-    let tags = met_tags _ c.args.now c.args.datagram.now c.in-Ok.rest.now c.args.self.now c.feed.new.self c.restart.new.self c.meet.new.self c.is_greeted-was_greeted.result
+    let tags = met_tags _ c.args.now c.args.datagram.now c.in-Ok.rest.now c.args.self.now c.feed.new.self c.restart.new.self c.meet.new.self c.known-known.result.is_greeted
     (some_bytes c.in-Ok.rest.now c.if-not-is_empty.ensures) from c.in-Ok.ensures.ok c.restart.ensures.rest c.in_ok-meet.ensures.ok in
-    c.in_ok-take_data.ensures.carries tags hello t (c.in_ok-meet.ensures.hears hello c.args.datagram.now c.args.self.now.handshake t read c.is_greeted-was_greeted.ensures).0
+    c.in_ok-take_data.ensures.carries tags hello t (c.in_ok-meet.ensures.hears hello c.args.datagram.now c.args.self.now.handshake t read c.known-known.ensures.is_greeted).0
 
 pub returns-else-is_greeted-clause-carries : goal.returns-else-is_greeted-clause-carries
 returns-else-is_greeted-clause-carries g c = λ from hello t p.
     let read = restarted_read _ c.args.now c.args.datagram.now c.in-Ok.rest.now hello c.args.self.now c.feed.new.self c.restart.new.self t from c.in-Ok.ensures.ok c.restart.ensures.rest c.restart.ensures.made p in
     let met = c.meet.new.self in
-    (unheard hello c.args.datagram.now met.handshake met.core met.is_connected t (c.in_ok-meet.ensures.hears hello c.args.datagram.now c.args.self.now.handshake t read c.is_greeted-was_greeted.ensures).0, tt)
+    (unheard hello c.args.datagram.now met.handshake met.core met.is_connected t (c.in_ok-meet.ensures.hears hello c.args.datagram.now c.args.self.now.handshake t read c.known-known.ensures.is_greeted).0, tt)

@@ -1,7 +1,10 @@
-use Rattle.std.proofs.Common.{◌≡◌, Option, inl, inr, sym, ap, subst, ◌∙◌, ◌-◌, arith}
+use Rattle.std.proofs.Common.{◌≡◌, Option, None, Some, refl, inl, inr, sym, ap, subst, ◌∙◌, ◌-◌, arith}
 use Rattle.qh_base.specs.declared.transport_error.TransportError.{TransportError}
-use Rattle.qh_conn.proofs.InFrames.{all_read, faulted_done, faulted_sound, faulted_stands, no_frame, one_more, refused_read}
+use Rattle.qh_conn.proofs.InFrames.{all_read, cut_read, faulted_done, faulted_sound, faulted_stands, no_frame, one_more, refused_read}
+use Rattle.qh_conn.proofs.OutKeys.{closed_of}
+use Rattle.qh_core.specs.Inner.{is_open}
 use Rattle.qh_core.specs.Receiving.{IsFaulted}
+use Rattle.qh_core.specs.declared.inner.Inner.{Inner}
 use Rattle.qh_streams.specs.Streams.{IsRefusal, IsRefusedBy, Refusal}
 use Rattle.qh_streams.specs.declared.fault.StreamFault.{StreamFault}
 use Rattle.qh_streams.specs.declared.fault.StreamFault.TheVariants.{Memory as Wanting, Transport}
@@ -53,3 +56,23 @@ returns-in-Err-Transport-clause-stands g c = λ hello t p.
     let e = c.close_by_fault.ensures in
     faulted_stands c.args.now r.error hello c.args.self.now c.loop-left.self c.take_control.new.self c.close_by_fault.new.self t (r.ensures.refused (not_wanting r.field-0 r.error r.field-0-is))
     c.loop-left.invariant.1 c.requires.lives (subst (λ (z : TransportError). IsFaulted c.args.now z c.take_control.new.self.core c.close_by_fault.new.self) r.error-is e.faulted) e.follows e.same_end p
+
+unrefused_by : (f : StreamFault) (refusal : Option Refusal) → f ≡ Wanting → IsRefusedBy f refusal → refusal ≡ None
+unrefused_by f None is by = refl
+unrefused_by f (Some r) is (inl wanting) = wanting.1
+unrefused_by f (Some r) is (inr refuses) = absurd (subst (λ (z : StreamFault). IsRefusal z (Some r)) is refuses)
+
+pub returns-in-Err-Memory-clause-done : goal.returns-in-Err-Memory-clause-done
+returns-in-Err-Memory-clause-done g c = λ taken are count.
+    let at = c.loop-left.self in
+    let tc = c.take_control.new.self in
+    let m = c.in-Err-Memory in
+    let only = c.take_control.ensures.rest in
+    let r = cut_read c.args.now c.args.accepted.now.frames.now c.loop-left.rest.now c.in-Ok.behind.now c.in-Ok.frame c.loop-left.left (c.loop-left.left - 1) c.args.accepted.now.taken _ at.control tc.control
+    c.in-Ok.ensures.found (omega (arith, c.loop-left-test.true)) (unrefused_by m.field-0 _ m.field-0-is m.ensures.fault) (m.ensures.wanting m.field-0-is) m.ensures.left c.loop-left.invariant.2 taken are count in
+    let core = ap (λ (z : Connection _). z.core) only ∙ ap (λ (z : Connection _). z.core) c.loop-left.invariant.1 in (
+      r.0,
+      r.1,
+      r.2,
+      AreFramesDone.cut r.3 (sym (ap (λ (z : Inner _). is_open z.state) core) ∙ closed_of (is_open tc.core.state) c.is_closed.result c.is_closed.ensures c.if-is_closed.true) core,
+    )
