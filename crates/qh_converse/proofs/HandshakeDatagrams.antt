@@ -104,6 +104,7 @@ dropped_follows hello h t f = record {
   kept = λ s e. let z : None ≡ Some s = e in cc;
   came = λ s k byte id_length e. let z : None ≡ Some s = e in cc;
   greeted = f.greeted;
+  sourced = f.sourced;
   says = f.says;
   answers = f.answers;
   once = f.once;

@@ -38,7 +38,7 @@ or_closes_not (Some s) f h = stream_form_closes_not (s.offset == 0) s.fin s.id s
 abbrev closes : ℕ → Bool
 closes kind = kind == 28
 
-form_closes : (f : QuicFrame) → is_close (written_form f) ≡ is_close f
+pub form_closes : (f : QuicFrame) → is_close (written_form f) ≡ is_close f
 form_closes f =
     elim (cases_Bool (f.kind / 8 == 1)) [
       | inl t ↦

@@ -15,8 +15,9 @@ use Rattle.qh_frame.specs.Plain.{plain_of}
 use Rattle.qh_frame.specs.WrittenForm.{ack_values, or_frame, written_form}
 use Rattle.qh_frame.specs.declared.frame.Frame.{Frame}
 use Rattle.qh_handshake.proofs.FollowsOn.{SpaceFollows, without_counts, loss_same, others_follow, same_both, same_by, same_follows, space_of}
+use Rattle.qh_handshake.proofs.GoingOn.{unread_source}
 use Rattle.qh_handshake.specs.Follows.{Follows, HasInitial, IsGreetedWith, IsItsHello, bytes_of}
-use Rattle.qh_handshake.specs.Handshake.{dropping}
+use Rattle.qh_handshake.specs.Handshake.{dropping, ids_at, ids_used}
 use Rattle.qh_handshake.specs.Incoming.{AreFramesTaken, ArePacketsTaken, Form, IsAccepted, IsDatagramTaken, IsHelloRead, IsHelloThere, IsInitialTaken, IsOpenedBy, IsPacketHandled, knowing, received}
 use Rattle.qh_handshake.specs.Incoming.AreFramesTaken.{none as none_taken, more as more_taken, closed as closed_taken, refused as refused_taken}
 use Rattle.qh_handshake.specs.Incoming.ArePacketsTaken.{done, more as one_more, ended as ended_by}
@@ -46,6 +47,7 @@ use Rattle.qh_spec.proofs.TranscriptLaws.{handed_in-append, handed_out-append}
 use Rattle.qh_spec.specs.Datagram.{Packet, HasPacket, IsInitialForm, IsInitialPacket, initial, later}
 use Rattle.qh_spec.specs.Greeted.{CarriesHello, HasCrypto, HasFrameOf, crypto_frame}
 use Rattle.qh_spec.specs.Hello.{hello_bytes, hello_of}
+use Rattle.qh_spec.specs.HelloFaults.{OtherId}
 use Rattle.qh_spec.specs.Link.{other}
 use Rattle.qh_spec.specs.Lists.{In}
 use Rattle.qh_spec.specs.QuicFrame.{StreamFrame as Run, has_bit}
@@ -53,7 +55,7 @@ use Rattle.qh_spec.specs.FrameViews.{stream_values}
 use Rattle.qh_spec.specs.QuicFrames.{QuicFrame, AreQuicFrames}
 use Rattle.qh_spec.specs.Transcript.{Act, HandedIn, HandedOut, handed_in, handed_out}
 use Rattle.qh_spec.specs.declared.sides.Side.{Side}
-use Rattle.qh_spec.specs.declared.sides.Side.TheVariants.{Server}
+use Rattle.qh_spec.specs.declared.sides.Side.TheVariants.{Client, Server}
 use Rattle.qh_spec.specs.declared.sides.Space.TheVariants.{Initial}
 
 -- ---- a datagram came
@@ -64,7 +66,7 @@ one_in t d = handed_in-append t (HandedIn d ∷ [])
 none_out : (t : List Act) (d : List ℕ) → handed_out (t ++ HandedIn d ∷ []) ≡ handed_out t
 none_out t d = handed_out-append t (HandedIn d ∷ []) ∙ append-nil (handed_out t)
 
-in_last_act : (t : List Act) (d : List ℕ) → In d (handed_in (t ++ HandedIn d ∷ []))
+pub in_last_act : (t : List Act) (d : List ℕ) → In d (handed_in (t ++ HandedIn d ∷ []))
 in_last_act t d = subst (λ (z : List (List ℕ)). In d z) (sym (one_in t d)) (in_last d (handed_in t))
 
 in_before : (t : List Act) (d x : List ℕ) → In x (handed_in t) → In x (handed_in (t ++ HandedIn d ∷ []))
@@ -90,6 +92,7 @@ heard_follows hello h t d p =
       greeted = λ q id_length is.
           let g = p.greeted q id_length is in
           record { hello = g.hello; name = g.name; carried = whole_more id_length before now (other h.side) g.hello among g.carried; says = g.says };
+      sourced = p.sourced;
       says = λ id_length from payload has. p.says id_length from payload (subst (λ (z : List (List ℕ)). HasCrypto id_length z h.side from payload) out has);
       answers = λ front back datagram e. elim (last_or_before t front back (HandedIn d) (HandedOut datagram) e) [
         | inl last ↦ absurd (not_out d datagram last.1)
@@ -147,6 +150,14 @@ some_of : (b : Bool) (o : Option ℕ) (byte : ℕ) → cond b None o ≡ Some by
 some_of true o byte e = absurd (none-some byte e)
 some_of false o byte e = (refl, e)
 
+-- what a frame begins is the first of the frames
+pub first_is : (bytes rest : List ℕ) (form : QuicFrame) (fs : List QuicFrame) → Begins bytes form rest → AreQuicFrames bytes fs
+    → (q : QuicFrame) × (more : List QuicFrame) × (fs ≡ q ∷ more) × (written_form q ≡ form) × AreQuicFrames rest more
+first_is bytes rest form [] b are = absurd (omega (arith, frame_takes bytes rest form b, ap length are))
+first_is bytes rest form (q ∷ more) b are =
+    let one = quic_frame_agrees bytes b.frame q rest are.0 b.is are.1 in
+    (q, more, refl, ap written_form (sym one.0) ∙ b.form_is, subst (λ (z : List ℕ). AreQuicFrames z more) (sym one.1) are.2)
+
 module _ (hello : List ℕ) (side : Side) (peer : Option TransportParameters) (u : List Act) where
   abbrev FollowsOf : InitialSpace → Type 0
   FollowsOf s = SpaceFollows hello side peer s u
@@ -184,14 +195,6 @@ module _ (hello : List ℕ) (side : Side) (peer : Option TransportParameters) (u
       let it = form_same q (crypto_frame piece.offset piece.bytes) (form ∙ is) refl refl refl in
       piece_in old new piece t (subst Came it has) p
   frame_in now old new f closed q (close _ code kind reason said is says e) form has p = same old new e p
-
-  -- what a frame begins is the first of the frames
-  first_is : (bytes rest : List ℕ) (form : QuicFrame) (fs : List QuicFrame) → Begins bytes form rest → AreQuicFrames bytes fs
-      → (q : QuicFrame) × (more : List QuicFrame) × (fs ≡ q ∷ more) × (written_form q ≡ form) × AreQuicFrames rest more
-  first_is bytes rest form [] b are = absurd (omega (arith, frame_takes bytes rest form b, ap length are))
-  first_is bytes rest form (q ∷ more) b are =
-      let one = quic_frame_agrees bytes b.frame q rest are.0 b.is are.1 in
-      (q, more, refl, ap written_form (sym one.0) ∙ b.form_is, subst (λ (z : List ℕ). AreQuicFrames z more) (sym one.1) are.2)
 
   frames_in : (now : ℕ) (bytes : List ℕ) (old new : InitialSpace) (end : Option ConnectionError) (fs : List QuicFrame) → AreFramesTaken now bytes old new end → AreQuicFrames bytes fs
       → ((q : QuicFrame) → In q fs → Came q) → FollowsOf old → FollowsOf new
@@ -271,16 +274,31 @@ server_hello : (hello : List ℕ) (side : Side) (p : TransportParameters) → Is
 server_hello hello side p own server =
     own.is ∙ ap (λ (name : List ℕ). hello_bytes (hello_of (greeting side name p))) (own.unnamed server) ∙ ap (λ (z : Side). hello_bytes (hello_of (greeting z [] p))) server
 
-hello_in : (hello : List ℕ) (old new : Handshake) (learned : Option (List ℕ)) (end : Option ConnectionError) (u : List Act) → IsHelloRead old new learned end → Follows hello old u → Follows hello new u
-hello_in hello old new learned end u (gone_before none e) p = subst (λ (z : Handshake). Follows hello z u) (sym e) p
-hello_in hello old new learned end u (known _ is e) p = subst (λ (z : Handshake). Follows hello z u) (sym e) p
-hello_in hello old new learned end u (cut s is none e) p = subst (λ (z : Handshake). Follows hello z u) (sym e) p
-hello_in hello old new learned end u (refused s front rest fault error is unread whole form has code e) p = subst (λ (z : Handshake). Follows hello z u) (sym e) p
-hello_in hello old new learned end u (at_client name q there client e) p = subst (λ (z : Handshake). Follows hello z u) (sym e) (record {
+-- a hello that is read says the id that its packets came from
+used_source : (side : Side) (original peer : List ℕ) (retry_id : Option (List ℕ)) → (ids_at side original peer retry_id).source ≡ peer
+used_source Client original peer retry_id = refl
+used_source Server original peer retry_id = refl
+
+source_read : (h : Handshake) (name : List ℕ) (p : TransportParameters) → IsHelloThere h name p → p.initial_source_connection_id ≡ h.remote_id
+source_read h name p there =
+    let ids = there.read.is.keeps OtherId in
+    same_Some p.initial_source_connection_id (ids_used h).source (sym there.read.says.source_id ∙ ids.source) ∙ used_source h.side h.original_id h.remote_id h.retry_id
+
+sourced_by : (h : Handshake) (name : List ℕ) (p r : TransportParameters) → IsHelloThere h name p → h.knows_peer ≡ true → Some p ≡ Some r → (r.initial_source_connection_id ≡ h.remote_id) × (h.knows_peer ≡ true)
+sourced_by h name p r there knows e = (subst (λ (z : TransportParameters). z.initial_source_connection_id ≡ h.remote_id) (same_Some p r e) (source_read h name p there), knows)
+
+hello_in : (hello : List ℕ) (old new : Handshake) (learned : Option (List ℕ)) (end : Option ConnectionError) (u : List Act) → old.knows_peer ≡ true → IsHelloRead old new learned end → Follows hello old u
+    → Follows hello new u
+hello_in hello old new learned end u knows (gone_before none e) p = subst (λ (z : Handshake). Follows hello z u) (sym e) p
+hello_in hello old new learned end u knows (known _ is e) p = subst (λ (z : Handshake). Follows hello z u) (sym e) p
+hello_in hello old new learned end u knows (cut s is none e) p = subst (λ (z : Handshake). Follows hello z u) (sym e) p
+hello_in hello old new learned end u knows (refused s front rest fault error is unread whole form has code e) p = subst (λ (z : Handshake). Follows hello z u) (sym e) p
+hello_in hello old new learned end u knows (at_client name q there client e) p = subst (λ (z : Handshake). Follows hello z u) (sym e) (record {
   own = p.own;
   kept = λ s is. absurd (none-some s is);
   came = λ s k byte id_length is at. absurd (none-some s is);
   greeted = λ r id_length is. subst (λ (z : TransportParameters). IsGreetedWith id_length (handed_in u) (other old.side) z) (same_Some q r is) (greeted_with hello name old q u id_length there p);
+  sourced = λ r is. sourced_by old name q r there knows is;
   says = p.says;
   answers = p.answers;
   once = p.once;
@@ -290,13 +308,14 @@ hello_in hello old new learned end u (at_client name q there client e) p = subst
   sent = p.sent;
   limit = p.limit;
 })
-hello_in hello old new learned end u (at_server s name q there server is e) p =
+hello_in hello old new learned end u knows (at_server s name q there server is e) p =
     let one = λ (next x : InitialSpace) (there : Some next ≡ Some x). same_Some next x there in
     subst (λ (z : Handshake). Follows hello z u) (sym e) (record {
       own = p.own;
       kept = λ x at. inr (ap (λ (z : InitialSpace). z.hello) (sym (one _ x at)) ∙ sym (server_hello hello old.side old.parameters p.own server));
       came = λ x k byte id_length at stands. p.came s k byte id_length is (ap (λ (z : InitialSpace). came_at z.crypto k) (one _ x at) ∙ stands);
       greeted = λ r id_length at. subst (λ (z : TransportParameters). IsGreetedWith id_length (handed_in u) (other old.side) z) (same_Some q r at) (greeted_with hello name old q u id_length there p);
+      sourced = λ r is. sourced_by old name q r there knows is;
       says = p.says;
       answers = p.answers;
       once = p.once;
@@ -309,7 +328,7 @@ hello_in hello old new learned end u (at_server s name q there server is e) p =
 
 -- ---- an Initial packet
 
-opened_is : (accepts : AcceptsTag) (h : Handshake) (s : InitialSpace) (f : Form) (number : ℕ) (front frames : List ℕ) (fs : List QuicFrame) → NamesTags accepts → IsOpenedBy accepts h s f number frames
+pub opened_is : (accepts : AcceptsTag) (h : Handshake) (s : InitialSpace) (f : Form) (number : ℕ) (front frames : List ℕ) (fs : List QuicFrame) → NamesTags accepts → IsOpenedBy accepts h s f number frames
     → IsInitialForm front f.first f.body → AreQuicFrames frames fs → IsInitialPacket front (record { space = Initial; sender = other h.side; number = number; frames = fs })
 opened_is accepts h s f number front frames fs names by form are =
     let o = by.opened in
@@ -328,22 +347,23 @@ module _ (hello : List ℕ) (accepts : AcceptsTag) (names : NamesTags accepts) (
   abbrev IsRest : List ℕ → Type 0
   IsRest bytes = (id_length : ℕ) (p : Packet) → HasPacket id_length p bytes → HasPacket id_length p datagram
 
-  known_in : (f : Form) (old : Handshake) (s mid : InitialSpace) (number : ℕ) (frames bytes destination behind : List ℕ) (end : Option ConnectionError)
+  pub known_in : (f : Form) (old : Handshake) (s mid : InitialSpace) (number : ℕ) (frames bytes destination behind : List ℕ) (end : Option ConnectionError)
       → BeginsWithInitial bytes f.first destination f.source f.token f.body behind → IsRest bytes → old.space ≡ Some s → IsOpenedBy accepts old s f number frames
       → IsPacketHandled now number frames s mid end → Follows hello old u → Follows hello (knowing old f.source mid) u
   known_in f old s mid number frames bytes destination behind end b rest is opened h p =
       let of = packet_in hello old.side old.peer u now number frames datagram s mid end h
       (λ fs are id_length. rest id_length _ (initial b.front behind bytes b.whole (opened_is accepts old s f number b.front frames fs names opened b.form are))) among (space_of hello old u s is p) in
-      others_follow hello old u f.source old.retry_id old.token true (Some mid) (λ x there. subst (λ (z : InitialSpace). SpaceFollows hello old.side old.peer z u) (same_Some mid x there) of) p
+      others_follow hello old u f.source old.retry_id old.token true (Some mid) (λ q is. let before = p.sourced q is in (before.0 ∙ sym (opened.source_is before.1), refl))
+      (λ x there. subst (λ (z : InitialSpace). SpaceFollows hello old.side old.peer z u) (same_Some mid x there) of) p
 
-  initial_in : (f : Form) (old new : Handshake) (bytes destination behind : List ℕ) (learned : Option (List ℕ)) (end : Option ConnectionError)
+  pub initial_in : (f : Form) (old new : Handshake) (bytes destination behind : List ℕ) (learned : Option (List ℕ)) (end : Option ConnectionError)
       → BeginsWithInitial bytes f.first destination f.source f.token f.body behind → IsRest bytes → IsInitialTaken accepts now f old new learned end → Follows hello old u → Follows hello new u
   initial_in f old new bytes destination behind learned end b rest (gone none e) p = subst (λ (z : Handshake). Follows hello z u) (sym e) p
   initial_in f old new bytes destination behind learned end b rest (dropped s is none e) p = subst (λ (z : Handshake). Follows hello z u) (sym e) p
   initial_in f old new bytes destination behind learned end b rest (ended s mid number frames error is opened h e) p =
       subst (λ (z : Handshake). Follows hello z u) (sym e) (known_in f old s mid number frames bytes destination behind (Some error) b rest is opened h p)
   initial_in f old new bytes destination behind learned end b rest (handled s mid number frames _ _ is opened h read) p =
-      hello_in hello (knowing old f.source mid) new learned end u read (known_in f old s mid number frames bytes destination behind None b rest is opened h p)
+      hello_in hello (knowing old f.source mid) new learned end u refl read (known_in f old s mid number frames bytes destination behind None b rest is opened h p)
 
   packets_in : (bytes left : List ℕ) (old new : Handshake) (learned : Option (List ℕ)) (end : Option ConnectionError) → IsRest bytes → ArePacketsTaken accepts now bytes left old new learned end
       → Follows hello old u → Follows hello new u
@@ -369,7 +389,8 @@ taken_follows accepts now datagram rest hello old new retried learned end t name
     let heard = heard_follows hello old t datagram p in
     let of = same_follows hello old.side old.peer s _ u (record { hello = refl; crypto = refl; number = refl; dedup = refl }) (space_of hello h u s may.space heard) in
     subst (λ (z : Handshake). Follows hello z u) (sym e)
-    (others_follow hello h u source (Some source) token old.knows_peer _ (λ x there. subst (λ (z : InitialSpace). SpaceFollows hello old.side old.peer z u) (same_Some _ x there) of) heard)
+    (others_follow hello h u source (Some source) token old.knows_peer _ (λ q is. absurd (both_ways old.knows_peer may.unknown (heard.sourced q is).1))
+    (λ x there. subst (λ (z : InitialSpace). SpaceFollows hello old.side old.peer z u) (same_Some _ x there) of) heard)
 taken_follows accepts now datagram rest hello old new retried learned end t names (mismatch is e) p = subst (λ (z : Handshake). Follows hello z (t ++ HandedIn datagram ∷ [])) (sym e) (heard_follows hello old t datagram p)
 taken_follows accepts now datagram rest hello old new retried learned end t names (packets _ _ _ no_retry no_mismatch taken_all) p =
     packets_in hello accepts names now datagram (t ++ HandedIn datagram ∷ []) (in_last_act t datagram) datagram rest (received (length datagram) old) new learned end (λ id_length q has. has) taken_all
@@ -381,12 +402,15 @@ pub lost_follows : (accepts : AcceptsTag) (now : Moment) (datagram hello : List 
 lost_follows accepts now datagram hello old new learned t names (retry_lost s source token may is e) p =
     let u = t ++ HandedIn datagram ∷ [] in
     let h = received (length datagram) old in
+    let heard = heard_follows hello old t datagram p in
     subst (λ (z : Handshake). Follows hello (dropping z) u) (sym e)
-    (without_counts hello h u (others_follow hello h u h.remote_id h.retry_id h.token h.knows_peer None (λ s is. absurd (none-some s is)) (heard_follows hello old t datagram p)))
+    (without_counts hello h u (others_follow hello h u h.remote_id h.retry_id h.token h.knows_peer None heard.sourced (λ s is. absurd (none-some s is)) heard))
 lost_follows accepts now datagram hello old new learned t names (initials_lost _ no_retry no_mismatch lost) p =
     let u = t ++ HandedIn datagram ∷ [] in
     let mid = lost.mid in
     let before = begun_in hello accepts names now datagram u (in_last_act t datagram) datagram lost.rest (received (length datagram) old) mid learned (λ id_length q has. has) lost.begun
     (heard_follows hello old t datagram p) in
     subst (λ (z : Handshake). Follows hello (dropping z) u) (sym lost.left.rest_is)
-    (without_counts hello (knowing mid lost.form.source lost.left.space) u (others_follow hello mid u lost.form.source mid.retry_id mid.token true None (λ s is. absurd (none-some s is)) before))
+    (without_counts hello (knowing mid lost.form.source lost.left.space) u
+    (others_follow hello mid u lost.form.source mid.retry_id mid.token true None
+    (λ q is. let known = before.sourced q is in (known.0 ∙ sym (unread_source accepts now lost.form mid lost.unread known.1), refl)) (λ s is. absurd (none-some s is)) before))

@@ -53,12 +53,14 @@ abbrev pub with_others : Handshake → (remote_id : List ℕ) → (retry_id : Op
 with_others h remote_id retry_id token knows_peer space = record h { remote_id = remote_id; retry_id = retry_id; token = token; knows_peer = knows_peer; space = space }
 
 pub others_follow : (hello : List ℕ) (h : Handshake) (t : List Act) (remote_id : List ℕ) (retry_id : Option (List ℕ)) (token : List ℕ) (knows_peer : Bool) (space : Option InitialSpace)
+    → ((p : TransportParameters) → h.peer ≡ Some p → (p.initial_source_connection_id ≡ remote_id) × (knows_peer ≡ true))
     → ((s : InitialSpace) → space ≡ Some s → SpaceFollows hello h.side h.peer s t) → Follows hello h t → Follows hello (with_others h remote_id retry_id token knows_peer space) t
-others_follow hello h t remote_id retry_id token knows_peer space of p = record {
+others_follow hello h t remote_id retry_id token knows_peer space sourced of p = record {
   own = p.own;
   kept = λ s is. (of s is).kept;
   came = λ s k byte id_length is there. (of s is).came k byte id_length there;
   greeted = p.greeted;
+  sourced = sourced;
   says = p.says;
   answers = p.answers;
   once = p.once;
@@ -106,6 +108,7 @@ fresh_follows hello h f =
       came = λ s k byte id_length is there.
           absurd (none-some byte (ap (λ (c : PlainCrypto). came_at c k) (sym f.unused.crypto ∙ ap (λ (s : InitialSpace). s.crypto) (one s is)) ∙ there));
       greeted = λ p id_length is. absurd (none-some p (sym f.ungreeted ∙ is));
+      sourced = λ p is. absurd (none-some p (sym f.ungreeted ∙ is));
       says = λ id_length from payload has. absurd has.of.among;
       answers = λ before after datagram e. absurd (not_empty before after datagram e);
       once = λ before after datagram e. absurd (not_empty before after datagram e);
@@ -161,6 +164,7 @@ without_counts hello h t p = record {
   kept = p.kept;
   came = p.came;
   greeted = p.greeted;
+  sourced = p.sourced;
   says = p.says;
   answers = p.answers;
   once = p.once;
@@ -172,7 +176,7 @@ without_counts hello h t p = record {
 }
 
 pub dropped_follows : (hello : List ℕ) (h : Handshake) (t : List Act) → Follows hello h t → Follows hello (dropping h) t
-dropped_follows hello h t p = without_counts hello h t (others_follow hello h t h.remote_id h.retry_id h.token h.knows_peer None (λ s is. absurd (none-some s is)) p)
+dropped_follows hello h t p = without_counts hello h t (others_follow hello h t h.remote_id h.retry_id h.token h.knows_peer None p.sourced (λ s is. absurd (none-some s is)) p)
 
 pub discarded_follows : (hello : List ℕ) (h : Handshake) (t : List Act) → Follows hello h t → Follows hello (record (dropping h) { is_validated = true }) t
 discarded_follows hello h t p = record {
@@ -180,6 +184,7 @@ discarded_follows hello h t p = record {
   kept = λ s is. absurd (none-some s is);
   came = λ s k byte id_length is there. absurd (none-some s is);
   greeted = p.greeted;
+  sourced = p.sourced;
   says = p.says;
   answers = p.answers;
   once = p.once;
@@ -218,7 +223,7 @@ next_follows hello side peer old new t next p = record {
 used_follows : (hello : List ℕ) (old : Handshake) (s next : InitialSpace) (t : List Act) → old.space ≡ Some s → IsNextSpace s next → Follows hello old t → Follows hello (record old { space = Some next }) t
 used_follows hello old s next t is used p =
     let of = next_follows hello old.side old.peer s next t used (space_of hello old t s is p) in
-    others_follow hello old t old.remote_id old.retry_id old.token old.knows_peer (Some next)
+    others_follow hello old t old.remote_id old.retry_id old.token old.knows_peer (Some next) p.sourced
     (λ x there. subst (λ (z : InitialSpace). SpaceFollows hello old.side old.peer z t) (same_Some next x there) of) p
 
 pub unsent_follows : (now : Moment) (hello : List ℕ) (old new : Handshake) (t : List Act) → IsUnsent now old new → Follows hello old t → Follows hello new t
@@ -257,5 +262,5 @@ timed_out_follows now hello old new t (gone none e) p = subst (λ (z : Handshake
 timed_out_follows now hello old new t (recovery s mid next is lost probed e) p =
     let of = same_follows hello old.side old.peer s next t (same_both s mid next (lost_same now s mid lost) (probed_same now old mid next probed)) (space_of hello old t s is p) in
     subst (λ (z : Handshake). Follows hello z t) (sym e)
-    (others_follow hello old t old.remote_id old.retry_id old.token old.knows_peer (Some next)
+    (others_follow hello old t old.remote_id old.retry_id old.token old.knows_peer (Some next) p.sourced
     (λ x there. subst (λ (z : InitialSpace). SpaceFollows hello old.side old.peer z t) (same_Some next x there) of) p)

@@ -59,7 +59,7 @@ pub record IsOneMade (sealed : Side → Space → ℕ → List ℕ) (old : Hands
   pub tag_length : length (sealed old.side Initial s.next_number) ≡ 32
   pub frames_are : AreFramesOf s (filled old.remote_id old.local_id old.token frames least)
 
-all_in : (P : QuicFrame → Type 0) (fs : List QuicFrame) (f : QuicFrame) → AllByRecursion P fs → In f fs → P f
+pub all_in : (P : QuicFrame → Type 0) (fs : List QuicFrame) (f : QuicFrame) → AllByRecursion P fs → In f fs → P f
 all_in P [] f all there = absurd there
 all_in P (g ∷ fs) f all (inl e) = subst P e all.0
 all_in P (g ∷ fs) f all (inr there) = all_in P fs f all.1 there
@@ -97,7 +97,7 @@ one_out t d = handed_out-append t (HandedOut d ∷ [])
 none_in : (t : List Act) (d : List ℕ) → handed_in (t ++ HandedOut d ∷ []) ≡ handed_in t
 none_in t d = handed_in-append t (HandedOut d ∷ []) ∙ append-nil (handed_in t)
 
-out_or_last : (t : List Act) (d x : List ℕ) → In x (handed_out (t ++ HandedOut d ∷ [])) → In x (handed_out t) ⊎ In x (d ∷ [])
+pub out_or_last : (t : List Act) (d x : List ℕ) → In x (handed_out (t ++ HandedOut d ∷ [])) → In x (handed_out t) ⊎ In x (d ∷ [])
 out_or_last t d x among = in_split x (handed_out t) (d ∷ []) (subst (λ (z : List (List ℕ)). In x z) (one_out t d) among)
 
 module _ (sealed : Side → Space → ℕ → List ℕ) (old : Handshake) (s : InitialSpace) (frames : List ℕ) (least size : ℕ) (makes : MakesTags sealed) (whole : IsHandshake old)
@@ -127,7 +127,7 @@ module _ (sealed : Side → Space → ℕ → List ℕ) (old : Handshake) (s : I
     whole_tag = one.tag_length;
   }
 
-  only : (id_length : ℕ) (p : Packet) (x : List ℕ) → In x (datagram ∷ []) → HasPacket id_length p x → IsThat all_frames old.side s.next_number p
+  pub only : (id_length : ℕ) (p : Packet) (x : List ℕ) → In x (datagram ∷ []) → HasPacket id_length p x → IsThat all_frames old.side s.next_number p
   only id_length p x (inl e) = is_only old.remote_id old.local_id old.token frames tag s.next_number least can old.side (makes old.side Initial s.next_number one.number) id_length p x (sym e)
   only id_length p x (inr none) = λ has. absurd none
 
@@ -219,6 +219,7 @@ module _ (sealed : Side → Space → ℕ → List ℕ) (old : Handshake) (s : I
               subst (λ (z : List (List ℕ)). CarriesHello id_length z (other old.side) k byte) (sym came)
               (p.came s k byte id_length one.space_is (ap (λ (c : PlainCrypto). came_at c k) (sym crypto_is ∙ ap (λ (z : InitialSpace). z.crypto) (is x there)) ∙ at));
           greeted = λ q id_length there. subst (λ (z : List (List ℕ)). IsGreetedWith id_length z (other old.side) q) (sym came) (p.greeted q id_length there);
+          sourced = p.sourced;
           says = says_it;
           answers = answers_it;
           once = once_it;
@@ -270,24 +271,34 @@ close_follows sealed close before after hello old new size t makes whole m p =
     (subst (λ (z : Handshake). Follows hello z (t ++ HandedOut d ∷ [])) (sym m.new_is)
     (one_follows sealed old m.space frames least size makes whole one hello t p (record m.space { next_number = m.space.next_number + 1 }) refl refl refl refl))
 
+-- the datagram of what a space makes for a packet
+pub one_made : (sealed : Side → Space → ℕ → List ℕ) (now : Moment) (before after : List ℕ) (old new : Handshake) (size : ℕ) → (m : IsDatagramMade sealed now old new before after size)
+    → IsOneMade sealed old m.space m.frames (least_size old m.is_eliciting) size
+one_made sealed now before after old new size m = record {
+  space_is = m.space_is;
+  allowed = m.allowed;
+  number = m.number;
+  size_is = m.size_is;
+  fits = m.fits;
+  ids = m.ids;
+  tag_length = m.tag_length;
+  frames_are = frames_made now (room old) m.space m.next m.frames m.is_eliciting m.made (least_size old m.is_eliciting - (bare_size old.remote_id old.local_id old.token m.frames + 2));
+}
+
+pub behind_made : (sealed : Side → Space → ℕ → List ℕ) (now : Moment) (before after : List ℕ) (old new : Handshake) (size : ℕ) → (m : IsDatagramMade sealed now old new before after size)
+    → drop (length before) after ≡ datagram_of sealed old m.space.next_number m.frames (least_size old m.is_eliciting)
+behind_made sealed now before after old new size m =
+    ap (λ (z : List ℕ). drop (length before) z) m.after_is ∙ drop-append_seam before (datagram_of sealed old m.space.next_number m.frames (least_size old m.is_eliciting))
+
 pub made_follows : (sealed : Side → Space → ℕ → List ℕ) (now : Moment) (before after hello : List ℕ) (old new : Handshake) (size : ℕ) (t : List Act)
     → MakesTags sealed → IsHandshake old → IsDatagramMade sealed now old new before after size → Follows hello old t
     → Follows hello new (t ++ HandedOut (drop (length before) after) ∷ [])
 made_follows sealed now before after hello old new size t makes whole m p =
     let least = least_size old m.is_eliciting in
     let d = datagram_of sealed old m.space.next_number m.frames least in
-    let one : IsOneMade sealed old m.space m.frames least size = record {
-      space_is = m.space_is;
-      allowed = m.allowed;
-      number = m.number;
-      size_is = m.size_is;
-      fits = m.fits;
-      ids = m.ids;
-      tag_length = m.tag_length;
-      frames_are = frames_made now (room old) m.space m.next m.frames m.is_eliciting m.made (least - (bare_size old.remote_id old.local_id old.token m.frames + 2));
-    } in
+    let one = one_made sealed now before after old new size m in
     let next : IsNextSpace m.space m.next = subst (λ (z : InitialSpace). IsNextSpace m.space z) (sym m.made.new_is) (next_space m.space m.made.packet m.is_eliciting _ _ now) in
-    let behind : drop (length before) after ≡ d = ap (λ (z : List ℕ). drop (length before) z) m.after_is ∙ drop-append_seam before d in
+    let behind = behind_made sealed now before after old new size m in
     subst (λ (z : List ℕ). Follows hello new (t ++ HandedOut z ∷ [])) (sym behind)
     (subst (λ (z : Handshake). Follows hello z (t ++ HandedOut d ∷ [])) (sym m.new_is)
     (one_follows sealed old m.space m.frames least size makes whole one hello t p m.next next.hello next.crypto next.dedup next.number))

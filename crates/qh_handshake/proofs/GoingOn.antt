@@ -105,7 +105,7 @@ read_goes old new learned end (at_server s name p is server space_is e) =
     subst (λ (z : Handshake). GoesOn old z) (sym e) (greeted old p is.unread (there s old.space space_is))
 
 module _ (accepts : AcceptsTag) (now : Moment) where
-  initial_goes : (f : Form) (old new : Handshake) (learned : Option (List ℕ)) (end : Option ConnectionError) → IsInitialTaken accepts now f old new learned end → GoesOn old new
+  pub initial_goes : (f : Form) (old new : Handshake) (learned : Option (List ℕ)) (end : Option ConnectionError) → IsInitialTaken accepts now f old new learned end → GoesOn old new
   initial_goes f old new learned end (gone none e) = by_same old new e
   initial_goes f old new learned end (dropped s is none e) = by_same old new e
   initial_goes f old new learned end (ended s mid number frames error is opened h e) =
@@ -133,14 +133,14 @@ module _ (accepts : AcceptsTag) (now : Moment) where
   taken_goes datagram rest old new retried learned end (packets _ _ _ no_retry no_mismatch all) =
       both_go old (received (length datagram) old) new (heard old (length datagram)) (packets_go datagram rest (received (length datagram) old) new learned end all)
 
-  -- memory is wanting for it: the packet was opened, and the space isn't used any more
+  -- memory is wanting for it: the packet was opened
+  pub unread_source : (f : Form) (h : Handshake) → IsInitialUnread accepts now f h → h.knows_peer ≡ true → f.source ≡ h.remote_id
+  unread_source f h (packet_unread s number frames is opened none) = opened.source_is
+  unread_source f h (hello_unread s mid number frames is opened earlier none) = opened.source_is
+
+  -- ... and the space isn't used any more
   left_goes : (f : Form) (old new : Handshake) → IsInitialUnread accepts now f old → IsLeft f.source old new → GoesOn old (dropping new)
-  left_goes f old new unread left =
-      let source_is : old.knows_peer ≡ true → f.source ≡ old.remote_id = elim unread [
-        | packet_unread s number frames is opened none ↦ opened.source_is
-        | hello_unread s mid number frames is opened h none ↦ opened.source_is
-      ] in
-      subst (λ (z : Handshake). GoesOn old (dropping z)) (sym left.rest_is) (met old source_is (λ none. refl))
+  left_goes f old new unread left = subst (λ (z : Handshake). GoesOn old (dropping z)) (sym left.rest_is) (met old (unread_source f old unread) (λ none. refl))
 
   pub lost_goes : (datagram : List ℕ) (old new : Handshake) (learned : Option (List ℕ)) → IsLost accepts now datagram old new learned → GoesOn old (dropping new)
   lost_goes datagram old new learned (retry_lost s source token may is e) =

@@ -8,9 +8,11 @@ use Rattle.qh_base.specs.declared.time.Moment.{Moment}
 use Rattle.qh_base.specs.declared.transport_error.TransportError.{TransportError}
 use Rattle.qh_buffers.specs.Assembler.{or_byte, to_give}
 use Rattle.qh_handshake.proofs.FollowsIn.{taken_follows}
+use Rattle.qh_handshake.proofs.PeerCloses.{closes_never}
 use Rattle.qh_handshake.proofs.PeerFrames.{packet_fine}
 use Rattle.qh_handshake.proofs.PeerHellos.{behind_none, front_is, its_form, its_size, never_faulty, same_byte}
-use Rattle.qh_handshake.proofs.PeerVersions.{no_negotiation, tells_versions}
+use Rattle.qh_handshake.proofs.PeerVersions.{Ends, datagram_ends, no_negotiation, tells_versions}
+use Rattle.qh_handshake.proofs.PeerVersions.Ends.{by_fault, by_close}
 use Rattle.qh_handshake.specs.Follows.{Follows, HasInitial}
 use Rattle.qh_handshake.specs.Handshake.{ids_at}
 use Rattle.qh_handshake.specs.Incoming.{ArePacketsTaken, Form, IsBehind, IsDatagramTaken, IsHelloRead, IsInitialTaken, IsOpenedBy, IsPacketHandled, knowing, received}
@@ -19,9 +21,10 @@ use Rattle.qh_handshake.specs.Incoming.IsDatagramTaken.{retry, mismatch, packets
 use Rattle.qh_handshake.specs.Incoming.IsHelloRead.{gone as gone_before, known, cut, refused, at_client, at_server}
 use Rattle.qh_handshake.specs.Incoming.IsInitialTaken.{gone, dropped, ended, handled}
 use Rattle.qh_handshake.specs.Peers.{IsPeer}
-use Rattle.qh_handshake.specs.Sends.{IsHonestDatagram}
+use Rattle.qh_handshake.specs.Sends.{IsHonestDatagram, NeverCloses}
 use Rattle.qh_handshake.specs.declared.handshake.Handshake.{Handshake}
 use Rattle.qh_handshake.specs.declared.initial_space.InitialSpace.{InitialSpace}
+use Rattle.qh_hello.specs.Parts.{IsHelloForm}
 use Rattle.qh_packet.specs.Initial.{BeginsWithInitial}
 use Rattle.qh_packet.specs.Session.{AcceptsTag, NamesTags}
 use Rattle.qh_spec.proofs.Members.{in_left, in_more}
@@ -140,6 +143,16 @@ module _ (accepts : AcceptsTag) (now : Moment) (datagram own_hello peer_hello : 
     | inr same ↦ inl (subst (λ (z : List ℕ). In z (handed_out u)) same among)
   ]
 
+  -- the hello that came is the peer's
+  pub front_same : (h : Handshake) (s : InitialSpace) (front rest : List ℕ) → h.side ≡ own.side → h.space ≡ Some s → s.crypto.bytes ≡ front ++ rest → IsHelloForm front
+      → Follows own_hello h (t ++ HandedIn datagram ∷ []) → front ≡ peer_hello
+  front_same h s front rest side is whole form follows =
+      let bytes : (k byte : ℕ) → slice_get s.crypto.bytes k ≡ Some byte → slice_get peer_hello k ≡ Some byte = λ k byte at.
+      same_byte peer_hello peer u (handed_in (t ++ HandedIn datagram ∷ [])) k byte p.peer_follows came_out
+      (subst (λ (z : Side). CarriesHello 0 (handed_in (t ++ HandedIn datagram ∷ [])) z k byte) (ap other side ∙ sym p.side_is)
+      (follows.came s k byte 0 is (ap (λ (o : Option ℕ). or_byte o (to_give s.crypto.waiting k)) at))) in
+      front_is peer_hello s.crypto.bytes front rest (its_form peer_hello peer.side peer.parameters p.peer_follows.own) whole form bytes
+
   hello_fine : (old new : Handshake) (learned : Option (List ℕ)) (end : Option ConnectionError) (e : TransportError) → IsHelloRead old new learned end → end ≡ Some (Fault e)
       → (old.side ≡ own.side) × (old.original_id ≡ own.original_id) × (old.retry_id ≡ own.retry_id) × (old.remote_id ≡ peer.parameters.initial_source_connection_id)
       → Follows own_hello new (t ++ HandedIn datagram ∷ []) → ⊥
@@ -150,13 +163,7 @@ module _ (accepts : AcceptsTag) (now : Moment) (datagram own_hello peer_hello : 
   hello_fine old new learned end e (at_server s name q there server is same) fault ids follows = none-some (Fault e) fault
   hello_fine old new learned end e (refused s front rest kind _ is unread whole form has code same) fault ids follows =
       let so : Follows own_hello old (t ++ HandedIn datagram ∷ []) = subst (λ (z : Handshake). Follows own_hello z (t ++ HandedIn datagram ∷ [])) same follows in
-      let sender : other old.side ≡ peer.side = ap other ids.0 ∙ sym p.side_is in
-      let bytes : (k byte : ℕ) → slice_get s.crypto.bytes k ≡ Some byte → slice_get peer_hello k ≡ Some byte = λ k byte at.
-      same_byte peer_hello peer u (handed_in (t ++ HandedIn datagram ∷ [])) k byte p.peer_follows came_out
-      (subst (λ (z : Side). CarriesHello 0 (handed_in (t ++ HandedIn datagram ∷ [])) z k byte) sender
-      (so.came s k byte 0 is (ap (λ (o : Option ℕ). or_byte o (to_give s.crypto.waiting k)) at))) in
-      let hello : front ≡ peer_hello = front_is peer_hello s.crypto.bytes front rest (its_form peer_hello peer.side peer.parameters p.peer_follows.own) whole form bytes in
-      hello_none old.side old.original_id old.remote_id old.retry_id front kind ids.0 ids.1 ids.2 ids.3 hello has
+      hello_none old.side old.original_id old.remote_id old.retry_id front kind ids.0 ids.1 ids.2 ids.3 (front_same old s front rest ids.0 is whole form so) has
 
   -- ---- the whole datagram
 
@@ -199,5 +206,24 @@ pub versions_agree : (accepts : AcceptsTag) (now : Moment) (datagram rest own_he
     → IsPeer own_hello peer_hello own peer t u → In datagram (handed_out u) → IsDatagramTaken accepts now datagram own new rest retried learned (Some VersionMismatch) → ⊥
 versions_agree accepts now datagram rest own_hello peer_hello own new peer retried learned t u p among taken =
     let out = out_at u datagram among in
-    let is = tells_versions accepts now datagram rest own new retried learned (Some VersionMismatch) taken refl in
+    let is = tells_versions accepts now datagram rest own new retried learned taken in
     no_negotiation peer_hello (handed_in out.before) peer datagram is.destination is.source is.listed (p.peer_sends.each out.before out.after datagram out.whole) is.is
+
+-- ---- whatever the error is
+
+ends_never : (accepts : AcceptsTag) (now : Moment) (datagram rest own_hello peer_hello : List ℕ) (own new peer : Handshake) (retried learned : Option (List ℕ)) (e : ConnectionError) (t u : List Act)
+    → NamesTags accepts → IsPeer own_hello peer_hello own peer t u → NeverCloses peer.side u → In datagram (handed_out u) → IsDatagramTaken accepts now datagram own new rest retried learned (Some e)
+    → Ends e → ⊥
+ends_never accepts now datagram rest own_hello peer_hello own new peer retried learned e t u names p never among taken (by_fault error) =
+    peers_agree accepts now datagram rest own_hello peer_hello own new peer retried learned error t u names p among taken
+ends_never accepts now datagram rest own_hello peer_hello own new peer retried learned e t u names p never among taken (by_close close) =
+    closes_never accepts now datagram rest own_hello peer_hello own new peer retried learned close t u names p never among taken
+
+pub never_ended : (accepts : AcceptsTag) (now : Moment) (datagram rest own_hello peer_hello : List ℕ) (own new peer : Handshake) (retried learned : Option (List ℕ)) (e : ConnectionError) (t u : List Act)
+    → NamesTags accepts → IsPeer own_hello peer_hello own peer t u → NeverCloses peer.side u → In datagram (handed_out u) → IsDatagramTaken accepts now datagram own new rest retried learned (Some e) → ⊥
+never_ended accepts now datagram rest own_hello peer_hello own new peer retried learned e t u names p never among taken =
+    elim (datagram_ends accepts now datagram rest own new retried learned (Some e) e taken refl) [
+      | inl ends ↦ ends_never accepts now datagram rest own_hello peer_hello own new peer retried learned e t u names p never among taken ends
+      | inr told ↦ versions_agree accepts now datagram rest own_hello peer_hello own new peer retried learned t u p among
+          (subst (λ (z : ConnectionError). IsDatagramTaken accepts now datagram own new rest retried learned (Some z)) told.0 taken)
+    ]

@@ -1,6 +1,6 @@
 -- How a handshake stands to all that was done with it: what it knows came in datagrams, and what it handed out of its hello is its hello,
 -- said in the order of a handshake (RFC 9000, sections 7, 8.1, 12.3 and 19.6).
-use Rattle.std.specs.Prelude.{◌≡◌, ◌⊎◌, ℕ, ◌*◌, ◌<◌, ◌≤◌, false, List, [], ◌∷◌, ◌++◌, length, Some, None}
+use Rattle.std.specs.Prelude.{◌≡◌, ◌⊎◌, ℕ, ◌*◌, ◌<◌, ◌≤◌, true, false, List, [], ◌∷◌, ◌++◌, length, Some, None}
 use Rattle.std.specs.List.{sum_by}
 use Rattle.qh_base.specs.declared.time.Moment.{Moment}
 use Rattle.qh_handshake.specs.Handshake.{counted}
@@ -60,6 +60,8 @@ pub record Follows (hello : List ℕ) (h : Handshake) (t : List Act) : Type 0 wh
   pub came : (s : InitialSpace) (k byte id_length : ℕ) → h.space ≡ Some s → came_at s.crypto k ≡ Some byte → CarriesHello id_length (handed_in t) (other h.side) k byte
   -- what it knows of its peer was carried to it, in a whole hello
   pub greeted : (p : TransportParameters) (id_length : ℕ) → h.peer ≡ Some p → IsGreetedWith id_length (handed_in t) (other h.side) p
+  -- its peer said the id that the peer's packets come from (section 7.3)
+  pub sourced : (p : TransportParameters) → h.peer ≡ Some p → (p.initial_source_connection_id ≡ h.remote_id) × (h.knows_peer ≡ true)
   -- what it sends in CRYPTO frames is its hello, whole
   pub says : (id_length from : ℕ) (payload : List ℕ) → HasCrypto id_length (handed_out t) h.side from payload → (from ≡ 0) × (payload ≡ hello)
   -- a server does so only after it was greeted

@@ -1,5 +1,5 @@
 -- What an honest end hands out in its Initial packets, by all that was done with it (RFC 9000, sections 12.4, 13.1, 17.2.2 and 19).
-use Rattle.std.specs.Prelude.{◌≡◌, ℕ, ◌+◌, true, List, [], ◌∷◌, ◌++◌, length, Some}
+use Rattle.std.specs.Prelude.{◌≡◌, ◌⊎◌, ℕ, ◌+◌, true, List, [], ◌∷◌, ◌++◌, length, Some}
 use Rattle.std.specs.List.{AllByRecursion}
 use Rattle.qh_base.specs.declared.connection_error.ConnectionClose.{ConnectionClose}
 use Rattle.qh_buffers.specs.Ranges.{has}
@@ -13,10 +13,10 @@ use Rattle.qh_packet.specs.Initial.{BeginsWithInitial}
 use Rattle.qh_spec.specs.Acknowledged.{Covers}
 use Rattle.qh_spec.specs.Datagram.{Packet, HasPacket}
 use Rattle.qh_spec.specs.FrameTypes as frame_types
-use Rattle.qh_spec.specs.Greeted.{crypto_frame}
+use Rattle.qh_spec.specs.Greeted.{HasFrameOf, crypto_frame}
 use Rattle.qh_spec.specs.Link.{other}
 use Rattle.qh_spec.specs.QuicFrames.{QuicFrame, AreQuicFrames}
-use Rattle.qh_spec.specs.Transcript.{Act, HandedOut, handed_in}
+use Rattle.qh_spec.specs.Transcript.{Act, HandedOut, handed_in, handed_out}
 use Rattle.qh_spec.specs.declared.sides.Side.{Side}
 use Rattle.qh_spec.specs.declared.sides.Space.TheVariants.{Initial}
 
@@ -50,3 +50,11 @@ pub record IsHonestDatagram (hello : List ℕ) (came : List (List ℕ)) (h : Han
 pub record Sends (hello : List ℕ) (h : Handshake) (t : List Act) : Type 0 where
   pub each : (before after : List Act) (datagram : List ℕ) → t ≡ before ++ HandedOut datagram ∷ after → IsHonestDatagram hello (handed_in before) h datagram
   pub acked : (s : InitialSpace) (number id_length : ℕ) → h.space ≡ Some s → has s.acks.ranges number ≡ true → HasInitial id_length (handed_in t) (other h.side) number
+
+-- a CONNECTION_CLOSE, of the transport or of the application (section 19.19)
+abbrev pub IsClose : QuicFrame → Type 0
+IsClose f = (f.kind ≡ frame_types.connection_close) ⊎ (f.kind ≡ frame_types.application_close)
+
+-- No Initial packet of this side's in a datagram that was handed out has one, whatever the length of connection ids is with which it is read.
+abbrev pub NeverCloses : Side → List Act → Type 0
+NeverCloses side t = (id_length : ℕ) (f : QuicFrame) → HasFrameOf id_length (handed_out t) side Initial f → IsClose f → ⊥

@@ -22,6 +22,7 @@ mod receiving;
 mod retry;
 mod sending;
 mod settled;
+mod silence;
 mod timers;
 
 pub use agreeing::peers;
@@ -34,3 +35,4 @@ pub use laws::{made_frames, written_datagram};
 pub use outgoing::InitialSent;
 pub use receiving::SpaceFault;
 pub use sending::MadePacket;
+pub use silence::silent;
