@@ -3,6 +3,7 @@
 #![tactic(auto)]
 
 mod application;
+mod bulk;
 mod calls;
 mod datagrams;
 mod end;

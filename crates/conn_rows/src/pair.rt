@@ -1,4 +1,5 @@
 //! Both ends, and the rows about them.
+use crate::bulk::put_bulk;
 use crate::datagrams::put_retry_packet;
 use crate::end::{End, Ids};
 use crate::exchange::{Course, run};
@@ -37,9 +38,10 @@ enum BothCall {
     Run,
     Exchange,
     Try,
+    Bulk,
 }
 
-const BOTH_CALLS: [(&str, BothCall); 7] = [
+const BOTH_CALLS: [(&str, BothCall); 8] = [
     ("begin", BothCall::Begin),
     ("origin", BothCall::Origin),
     ("time", BothCall::Time),
@@ -47,6 +49,7 @@ const BOTH_CALLS: [(&str, BothCall); 7] = [
     ("run", BothCall::Run),
     ("exchange", BothCall::Exchange),
     ("try", BothCall::Try),
+    ("bulk", BothCall::Bulk),
 ];
 
 // The word of a row of one end.
@@ -134,6 +137,7 @@ impl Pair {
             Some(BothCall::Run) => self.run(alloc, false, words, out),
             Some(BothCall::Exchange) => self.run(alloc, true, words, out),
             Some(BothCall::Try) => self.try_frames(alloc, words, out),
+            Some(BothCall::Bulk) => put_bulk(alloc, words, out),
             None => Err(RowFault::Form),
         }
     }

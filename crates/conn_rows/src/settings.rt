@@ -60,6 +60,23 @@ const USUAL: EndSettings = EndSettings {
     id: 8,
 };
 
+// Of each stream, of the connection, of what is held to send, and of what may be in flight at first.
+const WINDOW: u64 = 1_048_576;
+
+const WIDE: EndSettings = EndSettings {
+    idle: 0,
+    receive: WINDOW,
+    stream: WINDOW,
+    send: WINDOW,
+    bidi: 0,
+    uni: 0,
+    datagrams: None,
+    datagram_send: 0,
+    rtt: 1,
+    window: WINDOW,
+    id: 8,
+};
+
 // Of which end the next settings are.
 #[derive(Clone, Copy)]
 enum Whose {
@@ -115,6 +132,16 @@ impl Settings {
         Settings {
             client: USUAL,
             server: USUAL,
+        }
+    }
+
+    /// Wide windows, that many two-way streams, no datagrams and no idle time.
+    pub(crate) fn wide(streams: u64) -> Settings {
+        let mut end = WIDE;
+        end.bidi = streams;
+        Settings {
+            client: end,
+            server: end,
         }
     }
 

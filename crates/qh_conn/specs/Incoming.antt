@@ -154,7 +154,7 @@ module _ {S : Type 0} where
   abbrev pub heard_at : (size : ℕ) → Connection S → Inner S → Connection S
   heard_at size c core = record c { handshake = record c.handshake { bytes_received = counted_bytes (c.handshake.bytes_received + size) }; core = core }
 
-  -- a server that closed before it was connected is connected by a 1-RTT packet of the client's, all of whose frames can be read
+  -- an end that closed before it was connected is connected by a 1-RTT packet of its peer's, all of whose frames can be read
   pub record BringsData (accepts : AcceptsTag) (c : Connection S) (rest : List ℕ) : Type 0 where
     pub unconnected : c.is_connected ≡ false
     pub number : ℕ

@@ -281,7 +281,7 @@ impl<S: Session> Connection<S> {
         }
     }
 
-    // A server that closed before it was connected is connected by a 1-RTT packet of the client's.
+    // An end that closed before it was connected is connected by a 1-RTT packet of its peer's.
     fn shut_connected(&mut self, rest: &[u8])
         requires whole { IsWhole self.old }
         requires closed { is_open self.old.core.state ≡ false }
@@ -296,7 +296,7 @@ impl<S: Session> Connection<S> {
         }
     }
 
-    // Whether the bytes are a 1-RTT packet of the peer's, of whose packets none was accepted: so the peer takes 1-RTT packets, and a server
+    // Whether the bytes are a 1-RTT packet of the peer's, of whose packets none was accepted: so the peer takes 1-RTT packets, and an end
     // that closed says it in one of these from now on (RFC 9000, section 10.2.3).
     fn is_data(&self, bytes: &[u8]) -> bool
         ensures yes { result ≡ true → self.now.is_connected ≡ false → BringsData (S.accepts self.now.core.session) self.now bytes.now }

@@ -17,7 +17,7 @@ mod streams;
 mod timeouts;
 
 pub use config::ConnConfig;
-pub use connection::Connection;
+pub use connection::{Connection, EarlyLimits};
 pub use event::{ConnectionEvent, Event};
 pub use qh_buffers::Chunk;
 pub use qh_control::{DatagramFault, EndpointEvent, IssuedCid};
