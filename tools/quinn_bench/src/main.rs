@@ -1,5 +1,6 @@
-//! Sends so many bytes on the first of so many open streams from one quinn-proto connection to the other, in memory, to be
-//! timed: `quinn_bench STREAMS BYTES`. It does what the program connection_bench of this repository does.
+//! Work of two quinn-proto connections in memory, to be timed. `quinn_bench STREAMS BYTES` sends so many bytes on the first of so
+//! many open streams, and `quinn_bench handshake N` connects N pairs of fresh ends in turn. It does what the words `bulk
+//! connection STREAMS BYTES` and `bulk handshake N` of the program `conn_rows` of this repository do.
 mod plain;
 
 use bytes::BytesMut;
@@ -10,6 +11,7 @@ use quinn_proto::{
     ServerConfig, StreamId, Transmit, TransportConfig, VarInt,
 };
 use std::net::{Ipv4Addr, SocketAddr};
+use std::str::FromStr;
 use std::sync::Arc;
 use std::time::{Duration, Instant};
 
@@ -22,11 +24,44 @@ const ROUND: Duration = Duration::from_millis(1);
 /// What the writer gives in one call.
 const PIECE: [u8; 4_096] = [0x51; 4_096];
 
+/// How many two-way streams the ends of a handshake permit.
+const STREAMS: u32 = 10;
+
 fn main() {
-    let mut words = std::env::args().skip(1);
-    let streams = words.next().and_then(|word| word.parse().ok()).unwrap_or(1);
-    let total = words.next().and_then(|word| word.parse().ok()).unwrap_or(0);
-    let mut pair = Pair::new(streams);
+    let words: Vec<String> = std::env::args().skip(1).collect();
+    match words.first() {
+        Some(word) if word == "handshake" => connect_many(number(&words, 1, 0)),
+        _ => send_over(number(&words, 0, 1), number(&words, 1, 0)),
+    }
+}
+
+/// The word in this place as a number.
+fn number<T: FromStr>(words: &[String], place: usize, otherwise: T) -> T {
+    words
+        .get(place)
+        .and_then(|word| word.parse().ok())
+        .unwrap_or(otherwise)
+}
+
+/// Connects that many pairs of fresh ends in turn.
+fn connect_many(count: u32) {
+    let configs = Configs::new(STREAMS);
+    let (mut client, mut server) = (0, 0);
+    let start = Instant::now();
+    for _ in 0..count {
+        let mut pair = Pair::new(&configs);
+        pair.connect();
+        client += pair.client.datagrams();
+        server += pair.server.datagrams();
+    }
+    let seconds = start.elapsed().as_secs_f64();
+    println!("{count} connected, datagrams: {client} from clients, {server} from servers");
+    println!("{seconds:.3} seconds, {:.0} handshakes a second", f64::from(count) / seconds);
+}
+
+/// Sends that many bytes on the first of that many streams.
+fn send_over(streams: u32, total: u64) {
+    let mut pair = Pair::new(&Configs::new(streams));
     pair.connect();
     let id = pair.open_all(streams);
     let (client, server) = (pair.client.datagrams(), pair.server.datagrams());
@@ -114,36 +149,54 @@ impl End {
     }
 }
 
+/// What ends begin with.
+struct Configs {
+    endpoint: Arc<EndpointConfig>,
+    client: ClientConfig,
+    server: Arc<ServerConfig>,
+}
+
+impl Configs {
+    fn new(streams: u32) -> Self {
+        let transport = Arc::new(transport(streams));
+        let mut client = ClientConfig::new(Arc::new(Plain));
+        client.transport_config(transport.clone());
+        let mut server = ServerConfig::new(Arc::new(Plain), Arc::new(Plain));
+        server.transport_config(transport);
+        Self {
+            endpoint: Arc::new(EndpointConfig::new(Arc::new(Plain))),
+            client,
+            server: Arc::new(server),
+        }
+    }
+}
+
 /// Two ends, and the moment.
 struct Pair {
     client: End,
     server: End,
-    transport: Arc<TransportConfig>,
+    config: ClientConfig,
     now: Instant,
 }
 
 impl Pair {
-    fn new(streams: u32) -> Self {
-        let transport = Arc::new(transport(streams));
-        let endpoint = Arc::new(EndpointConfig::new(Arc::new(Plain)));
-        let mut server = ServerConfig::new(Arc::new(Plain), Arc::new(Plain));
-        server.transport_config(transport.clone());
+    fn new(configs: &Configs) -> Self {
+        let endpoint = &configs.endpoint;
+        let server = Some(configs.server.clone());
         Self {
             client: End::new(Endpoint::new(endpoint.clone(), None), 1),
-            server: End::new(Endpoint::new(endpoint, Some(Arc::new(server))), 2),
-            transport,
+            server: End::new(Endpoint::new(endpoint.clone(), server), 2),
+            config: configs.client.clone(),
             now: Instant::now(),
         }
     }
 
     /// Connects, as both ends have to know of.
     fn connect(&mut self) {
-        let mut config = ClientConfig::new(Arc::new(Plain));
-        config.transport_config(self.transport.clone());
         self.client.connection = Some(
             self.client
                 .endpoint
-                .connect(config, self.server.address, "a.test")
+                .connect(self.config.clone(), self.server.address, "a.test")
                 .expect("a connection"),
         );
         for _ in 0..100 {
