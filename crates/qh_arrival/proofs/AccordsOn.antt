@@ -1,5 +1,5 @@
 -- An end accords with all that was done with it, whatever calls are made.
-use Rattle.std.proofs.Common.{◌≡◌, ℕ, true, List, [], ◌++◌, None, refl, sym, subst}
+use Rattle.std.proofs.Common.{◌≡◌, ℕ, true, List, [], ◌++◌, refl, sym, subst}
 use Rattle.qh_arrival.proofs.AskedCalls.{fresh_asked, made_asked}
 use Rattle.qh_arrival.proofs.HeardCalls.{fresh_heard, made_heard, packets_heard}
 use Rattle.qh_arrival.proofs.SaidCalls.{fresh_said, made_said}
@@ -57,10 +57,10 @@ module _ {S : Type 0} where
 
   -- ---- the one relation
 
-  pub fresh_accords : (accepts : AcceptsTag) (sealed : Side → Space → ℕ → List ℕ) (c : Inner S) → IsNewSpace c.config c.side c.space → c.error ≡ None → Follows c [] → Accords accepts sealed c []
-  fresh_accords accepts sealed c new unlost follows = record {
+  pub fresh_accords : (accepts : AcceptsTag) (sealed : Side → Space → ℕ → List ℕ) (c : Inner S) → IsNewSpace c.config c.side c.space → Follows c [] → Accords accepts sealed c []
+  fresh_accords accepts sealed c new follows = record {
     behaves = fresh_behaves c new follows;
-    owes = fresh accepts c new unlost follows;
+    owes = fresh accepts c new;
     ledger = ledger_fresh accepts sealed c new;
     asked = fresh_asked c new;
     said = fresh_said c new;

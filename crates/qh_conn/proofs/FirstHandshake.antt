@@ -5,6 +5,7 @@ use Rattle.qh_base.specs.declared.time.Moment.{Moment}
 use Rattle.qh_converse.proofs.StateKept.{same_begun, same_order}
 use Rattle.qh_converse.specs.Converses.{Converses}
 use Rattle.qh_converse.specs.Parts.IsShakeOf.{none as no_shake}
+use Rattle.qh_core.specs.Made.{AcceptsTags, MakesTagsOf}
 use Rattle.qh_core.specs.declared.inner.Inner.{Inner}
 use Rattle.qh_handshake.proofs.FollowsOn.{fresh_follows}
 use Rattle.qh_handshake.proofs.SendsOn.{fresh_sends}
@@ -68,15 +69,15 @@ server_fresh h rtt now side sayable space peer received sent =
     }
 
 -- a handshake that is made another before its first datagram
-pub refreshed : {S : Type 0} (hello own : List ℕ) (h new : Handshake) (c : Inner S) (k : Bool) → IsFresh own new → new.side ≡ h.side → new.local_id ≡ h.local_id → new.peer ≡ h.peer → Converses hello h c k []
-    → Converses own new c k []
-refreshed hello own h new c k fresh side id peer p = record {
+pub refreshed : {S : Type 0} (accepts : AcceptsTags S) (sealed : MakesTagsOf S) (hello own : List ℕ) (h new : Handshake) (c : Inner S) (k : Bool) → IsFresh own new → new.side ≡ h.side → new.local_id ≡ h.local_id → new.peer ≡ h.peer → Converses accepts sealed hello h c k []
+    → Converses accepts sealed own new c k []
+refreshed accepts sealed hello own h new c k fresh side id peer p = record {
   shake = [];
   is_shake = no_shake;
   follows = fresh_follows own new fresh;
   sends = fresh_sends own new fresh;
   part = p.part;
   is_part = p.is_part;
-  begun = same_begun h new c p.part side id peer p.begun;
+  begun = same_begun accepts sealed h new c p.part side id peer p.begun;
   orders = same_order h new c c k [] side peer refl refl p.orders;
 }

@@ -1,5 +1,5 @@
 -- Whether bytes are a 1-RTT packet whose frames can be read is one question, whatever way they are read.
-use Rattle.std.proofs.Common.{◌≡◌, ℕ, List, [], ◌∷◌, false, Bool, Result, Ok, Err, IfErr, Some, refl, sym, ap, ◌∙◌, subst, arith, length}
+use Rattle.std.proofs.Common.{◌≡◌, ℕ, List, [], ◌∷◌, false, Bool, Result, Ok, Err, IfErr, refl, sym, ap, ◌∙◌, subst, arith, length}
 use Rattle.std.specs.Prelude.{is_ok}
 use Rattle.std.specs.List.{AllByRecursion}
 use Rattle.qh_frame.specs.declared.frame.FrameFault.{FrameFault}
@@ -8,7 +8,6 @@ use Rattle.qh_spec.proofs.FrameLaws.{quic_frame_agrees}
 use Rattle.qh_frame.specs.FrameAt.{HasNoFrame}
 use Rattle.qh_frame.specs.Range.{IsInRange}
 use Rattle.qh_frame.specs.WrittenForm.{written_form}
-use Rattle.qh_base.specs.declared.time.Moment.{Moment}
 use Rattle.qh_packet.proofs.Packets.{parts_of}
 use Rattle.qh_packet.specs.Frames.{AreValidFrames, BeginWithFrames, IsFaultyFrame}
 use Rattle.qh_packet.specs.Packet.{IsOpened}

@@ -3,7 +3,6 @@ use Rattle.std.proofs.Common.{◌≡◌, ℕ, suc, zero, true, false, List, [], 
 use Rattle.qh_base.specs.declared.connection_error.ConnectionError.{ConnectionError}
 use Rattle.qh_base.specs.declared.time.Moment.{Moment}
 use Rattle.qh_base.specs.declared.transport_error.TransportError.{TransportError}
-use Rattle.qh_conn.proofs.InHears.{stands_still}
 use Rattle.qh_conn.proofs.InSound.{sound_core}
 use Rattle.qh_conn.specs.Incoming.{AreControlsTaken, AreFramesDone, AreFramesHandled, BeginsWithFrames, IsRestTaken, connected_if}
 use Rattle.qh_conn.specs.Whole.{IsSound, Stands}
@@ -11,11 +10,13 @@ use Rattle.qh_conn.specs.declared.connection.Connection.{Connection}
 use Rattle.qh_control.specs.Control.{IsControlTaken, control_refusal, keeps}
 use Rattle.qh_control.specs.Queue.{AreLost, PlainQueue}
 use Rattle.qh_control.specs.declared.control.ControlState.{ControlState}
+use Rattle.qh_converse.proofs.MidDatagram.{stays}
 use Rattle.qh_converse.specs.Converses.{Converses}
 use Rattle.qh_core.proofs.MadeEnds.{turned_made}
 use Rattle.qh_core.specs.Event.{is_drained}
 use Rattle.qh_core.specs.Follows.{Follows}
 use Rattle.qh_core.specs.Inner.{IsSameEnd, is_open}
+use Rattle.qh_core.specs.Made.{AcceptsTags, MakesTagsOf}
 use Rattle.qh_core.specs.Made.IsTurned.{faulted}
 use Rattle.qh_core.specs.Receiving.{AreFramesTaken, BringsPacket, IsFaulted, counted_in}
 use Rattle.qh_core.specs.declared.inner.Inner.{Inner}
@@ -116,13 +117,13 @@ module _ {S : Type 0} where
   faulted_sound now e at tc closed same s ends f = sound_core tc closed (subst (λ (z : Connection S). IsSound z) (sym same) s) ends
       (λ up. let z : true ≡ false = sym up ∙ ap (λ (z : Inner S). is_open z.state) f.closed.rest_is in cc)
 
-  pub faulted_stands : (now : Moment) (e : TransportError) (hello : List ℕ) (old at tc : Connection S) (closed : Inner S) (t : List Act) → tc ≡ at → at ≡ record old { control = at.control }
-      → is_drained old.core.state ≡ false → IsFaulted now e tc.core closed → ((u : List Act) → Follows tc.core u → Follows closed u) → IsSameEnd tc.core closed → Stands hello old t
-      → Converses hello tc.handshake closed tc.is_connected t
-  faulted_stands now e hello old at tc closed t same is lives f follows ends p =
+  pub faulted_stands : (accepts : AcceptsTags S) (sealed : MakesTagsOf S) (now : Moment) (e : TransportError) (hello : List ℕ) (old at tc : Connection S) (closed : Inner S) (t : List Act) → tc ≡ at → at ≡ record old { control = at.control }
+      → is_drained old.core.state ≡ false → IsFaulted now e tc.core closed → ((u : List Act) → Follows tc.core u → Follows closed u) → IsSameEnd tc.core closed → Stands accepts sealed hello old t
+      → Converses accepts sealed hello tc.handshake closed tc.is_connected t
+  faulted_stands accepts sealed now e hello old at tc closed t same is lives f follows ends p =
       let before = sym (same ∙ is) in
-      stands_still hello tc.handshake tc.core closed tc.is_connected t
-      (turned_made tc.core closed (faulted now e (subst (λ (z : Connection S). is_drained z.core.state ≡ false) before lives) f) follows ends) (subst (λ (z : Connection S). Stands hello z t) before p)
+      stays accepts sealed hello tc.handshake tc.core closed tc.is_connected t
+      (turned_made tc.core closed (faulted now e (subst (λ (z : Connection S). is_drained z.core.state ≡ false) before lives) f) follows ends) (subst (λ (z : Connection S). Stands accepts sealed hello z t) before p)
 
   abbrev pub AreDone : Moment → (bytes : List ℕ) → (count : ℕ) → (old new : Connection S) → Type 0
   AreDone now bytes count old new = (read : List Frame) × BeginsWithFrames bytes read × (length read ≡ count) × AreFramesDone now read old new

@@ -5,14 +5,13 @@ use Rattle.std.proofs.lemmas.List.{append-nil}
 use Rattle.std.specs.Prelude.{OnOk, OnErr}
 use Rattle.qh_base.specs.declared.memory.Memory.{Memory as OutOfMemory}
 use Rattle.qh_base.specs.declared.time.Moment.{Moment}
-use Rattle.qh_conn.proofs.OutKeys.{keys, makes_all, names_all}
 use Rattle.qh_conn.specs.Greeting.{connected}
 use Rattle.qh_conn.specs.Hearing.{FailsTo, HearsStill, StandsOrFails}
 use Rattle.qh_conn.specs.Incoming.{IsShutConnected}
 use Rattle.qh_conn.specs.Whole.{Stands}
 use Rattle.qh_conn.specs.declared.connection.Connection.{Connection}
-use Rattle.qh_conduct.specs.Announced.{MakesTags}
-use Rattle.qh_converse.proofs.MidDatagram.{IsApart, apart, calls, connects, counts, dropped, heard, stays, unheard}
+use Rattle.qh_converse.proofs.AccordKept.{IsBeside}
+use Rattle.qh_converse.proofs.MidDatagram.{apart, calls, connects, counts, dropped, heard, stays, unheard}
 use Rattle.qh_converse.specs.Converses.{Converses, Hears}
 use Rattle.qh_core.proofs.MadeEnds.{event_made}
 use Rattle.qh_core.specs.Event.{is_drained}
@@ -32,7 +31,7 @@ use Rattle.qh_handshake.specs.declared.handshake.Handshake.{Handshake}
 use Rattle.qh_packet.proofs.Packets.{has_packet}
 use Rattle.qh_packet.specs.Frames.{AreValidFrames}
 use Rattle.qh_packet.specs.Packet.{IsOpened}
-use Rattle.qh_packet.specs.Session.{AcceptsTag, NamesTags, plain_accepts, plain_sealed}
+use Rattle.qh_packet.specs.Session.{AcceptsTag, NamesTags}
 use Rattle.qh_spec.proofs.Members.{in_last}
 use Rattle.qh_spec.proofs.PartLaws.{ends_has}
 use Rattle.qh_spec.proofs.TranscriptLaws.{handed_in-append}
@@ -81,15 +80,6 @@ not_drained s reason is_due until was is = let z : Closed reason is_due until �
 module _ {S : Type 0} where
   -- ---- calls of the end of the 1-RTT packets
 
-  abbrev plain_opens : AcceptsTags S
-  plain_opens s = plain_accepts keys
-
-  abbrev plain_seals : MakesTagsOf S
-  plain_seals s = plain_sealed keys
-
-  makes_data : (s : S) → MakesTags (plain_seals s)
-  makes_data s from number bound = makes_all from Data number bound
-
   pub self_made : (c : Inner S) → IsMadeLocally c c []
   self_made c = (
     on_streams [] (unchanged refl),
@@ -100,70 +90,60 @@ module _ {S : Type 0} where
   streams_made c new made = (on_streams [] made.0, made.1)
 
   pub hears_still : (c new : Inner S) → IsMadeLocally c new [] → HearsStill c new
-  hears_still c new made hello d h k t p = calls plain_opens plain_seals (λ s. names_all) makes_data hello d h c new k t made p
-
-  pub stands_still : (hello : List ℕ) (h : Handshake) (c new : Inner S) (k : Bool) (t : List Act) → IsMadeLocally c new [] → Converses hello h c k t → Converses hello h new k t
-  stands_still hello h c new k t made p = stays plain_opens plain_seals (λ s. names_all) makes_data hello h c new k t made p
+  hears_still c new made accepts sealed hello d h k t p = calls accepts sealed hello d h c new k t made p
 
   -- what stands so will once want of memory has ended it
-  pub fails_to : (hello : List ℕ) (c : Connection S) (t : List Act) → Stands hello c t → FailsTo hello c t
-  fails_to hello c t p core made shut = dropped hello c.handshake core c.is_connected t (stands_still hello c.handshake c.core core c.is_connected t made p)
+  pub fails_to : (accepts : AcceptsTags S) (sealed : MakesTagsOf S) (hello : List ℕ) (c : Connection S) (t : List Act) → Stands accepts sealed hello c t → FailsTo accepts sealed hello c t
+  fails_to accepts sealed hello c t p core made shut =
+      dropped accepts sealed hello c.handshake core c.is_connected t (stays accepts sealed hello c.handshake c.core core c.is_connected t made p)
 
   -- ---- the end of the 1-RTT packets takes what is behind the Initial packets
 
   abbrev pub IsTaken : (accepts : AcceptsTags S) → Moment → (tail : List ℕ) → (old new : Inner S) → Type 0
   IsTaken accepts now tail old new = IsDatagramTaken (accepts old.session) now tail (counted_in (length tail) old) new
 
-  came_made : {X : Type 0} (accepts : AcceptsTags S) (now : Moment) (tail : List ℕ) (r : Result X OutOfMemory) (old new : Inner S) → OnOk r (IsTaken accepts now tail old new)
+  came_made : {X : Type 0} (accepts : AcceptsTags S) (sealed : MakesTagsOf S) (now : Moment) (tail : List ℕ) (r : Result X OutOfMemory) (old new : Inner S) → OnOk r (IsTaken accepts now tail old new)
       → OnOk r (IsUndisturbed now old new) → OnErr r (IsFailedBy (counted_in (length tail) old) new) → OnErr r (IsDatagramUnread (accepts old.session) now tail (counted_in (length tail) old))
-      → ((t : List Act) → Follows old t → Follows new (t ++ HandedIn tail ∷ [])) → IsSameEnd old new → IsMade accepts plain_seals old new (HandedIn tail ∷ [])
-  came_made accepts now tail (Ok x) old new taken undisturbed failed wanting follows same =
-      event_made accepts plain_seals (Datagram now old.addresses.remote tail) (Ok tt) old new taken undisturbed failed wanting follows same
-  came_made accepts now tail (Err e) old new taken undisturbed failed wanting follows same =
-      event_made accepts plain_seals (Datagram now old.addresses.remote tail) (Err e) old new taken undisturbed failed wanting follows same
+      → ((t : List Act) → Follows old t → Follows new (t ++ HandedIn tail ∷ [])) → IsSameEnd old new → IsMade accepts sealed old new (HandedIn tail ∷ [])
+  came_made accepts sealed now tail (Ok x) old new taken undisturbed failed wanting follows same =
+      event_made accepts sealed (Datagram now old.addresses.remote tail) (Ok tt) old new taken undisturbed failed wanting follows same
+  came_made accepts sealed now tail (Err e) old new taken undisturbed failed wanting follows same =
+      event_made accepts sealed (Datagram now old.addresses.remote tail) (Err e) old new taken undisturbed failed wanting follows same
 
-  counted_apart : (size : ℕ) (old new : Inner S) → new ≡ counted_in size old → IsApart old new
-  counted_apart size old new e =
-      subst (λ (z : Inner S). IsApart old z) (sym e)
-      (record { same = record { side = refl; local_id = refl; remote_length = refl; config = refl }; space = refl; error = refl; opens = λ up. up; drained = λ is. is })
+  counted_beside : (size : ℕ) (old new : Inner S) → new ≡ counted_in size old → IsBeside old new
+  counted_beside size old new e = subst (λ (z : Inner S). IsBeside old z) (sym e) (record { rest_is = refl; opens = λ up. up; drained = λ is. is })
 
-  told_apart : (size : ℕ) (old new : Inner S) (reason : Close) (is_due : Bool) (until : Moment) → old.state ≡ Closed reason is_due until
-      → new ≡ record (counted_in size old) { state = Closed reason true until } → IsApart old new
-  told_apart size old new reason is_due until was e =
-      subst (λ (z : Inner S). IsApart old z) (sym e)
-      (record {
-        same = record { side = refl; local_id = refl; remote_length = refl; config = refl };
-        space = refl;
-        error = refl;
-        opens = λ up. let z : false ≡ true = up in cc;
-        drained = λ is. absurd (not_drained old.state reason is_due until was is);
-      })
+  told_beside : (size : ℕ) (old new : Inner S) (reason : Close) (is_due : Bool) (until : Moment) → old.state ≡ Closed reason is_due until
+      → new ≡ record (counted_in size old) { state = Closed reason true until } → IsBeside old new
+  told_beside size old new reason is_due until was e =
+      subst (λ (z : Inner S). IsBeside old z) (sym e)
+      (record { rest_is = refl; opens = λ up. let z : false ≡ true = up in cc; drained = λ is. absurd (not_drained old.state reason is_due until was is) })
 
-  module _ (accepts : AcceptsTags S) (now : Moment) (hello tail d : List ℕ) (h : Handshake) (old new : Inner S) (k : Bool) (t : List Act) (named : NamesTags (accepts old.session)) (ends : EndsWith tail d)
-      (greeted : is_some h.peer ≡ true) (p : Hears hello h old k t d) where
-    by_packet : IsShort tail → IsMade accepts plain_seals old new (HandedIn tail ∷ []) → Converses hello h new k (t ++ HandedIn d ∷ [])
-    by_packet short made = heard accepts plain_seals hello tail d h old new k t named (makes_data old.session) ends short greeted made p
+  module _ (accepts : AcceptsTags S) (sealed : MakesTagsOf S) (now : Moment) (hello tail d : List ℕ) (h : Handshake) (old new : Inner S) (k : Bool) (t : List Act) (named : NamesTags (accepts old.session))
+      (ends : EndsWith tail d) (greeted : is_some h.peer ≡ true) (p : Hears accepts sealed hello h old k t d) where
+    by_packet : IsShort tail → IsMade accepts sealed old new (HandedIn tail ∷ []) → Converses accepts sealed hello h new k (t ++ HandedIn d ∷ [])
+    by_packet short made = heard accepts sealed hello tail d h old new k t named ends short greeted made p
 
-    by_nothing : IsApart old new → Converses hello h new k (t ++ HandedIn d ∷ [])
-    by_nothing a = apart hello h old new k (t ++ HandedIn d ∷ []) a (unheard hello d h old k t p)
+    by_nothing : IsBeside old new → new.session ≡ old.session → Converses accepts sealed hello h new k (t ++ HandedIn d ∷ [])
+    by_nothing a same = apart accepts sealed hello h old new k (t ++ HandedIn d ∷ []) a (λ _. (ap accepts same, ap sealed same)) (unheard accepts sealed hello d h old k t p)
 
-    by_taken : IsTaken accepts now tail old new → IsMade accepts plain_seals old new (HandedIn tail ∷ []) → Converses hello h new k (t ++ HandedIn d ∷ [])
-    by_taken (IsDatagramTaken.dropped up none e) made = by_nothing (counted_apart (length tail) old new e)
+    by_taken : IsTaken accepts now tail old new → IsMade accepts sealed old new (HandedIn tail ∷ []) → Converses accepts sealed hello h new k (t ++ HandedIn d ∷ [])
+    by_taken (IsDatagramTaken.dropped up none e) made = by_nothing (counted_beside (length tail) old new e) (ap (λ (z : Inner S). z.session) e)
     by_taken (IsDatagramTaken.handled number frames up o is) made = by_packet (opened_short _ _ _ _ tail number frames o.is) made
-    by_taken (IsDatagramTaken.told_again reason is_due until was none e) made = by_nothing (told_apart (length tail) old new reason is_due until was e)
+    by_taken (IsDatagramTaken.told_again reason is_due until was none e) made = by_nothing (told_beside (length tail) old new reason is_due until was e) (ap (λ (z : Inner S). z.session) e)
     by_taken (IsDatagramTaken.closed_too reason is_due until was brings e) made = by_packet (opened_short _ _ _ _ tail brings.number brings.bytes brings.opened.is) made
-    by_taken (IsDatagramTaken.draining until was e) made = by_nothing (counted_apart (length tail) old new e)
-    by_taken (IsDatagramTaken.drained was e) made = by_nothing (counted_apart (length tail) old new e)
+    by_taken (IsDatagramTaken.draining until was e) made = by_nothing (counted_beside (length tail) old new e) (ap (λ (z : Inner S). z.session) e)
+    by_taken (IsDatagramTaken.drained was e) made = by_nothing (counted_beside (length tail) old new e) (ap (λ (z : Inner S). z.session) e)
 
     by_result : {X : Type 0} (r : Result X OutOfMemory) → OnOk r (IsTaken accepts now tail old new) → OnErr r (IsDatagramUnread (accepts old.session) now tail (counted_in (length tail) old))
-        → IsMade accepts plain_seals old new (HandedIn tail ∷ []) → Converses hello h new k (t ++ HandedIn d ∷ [])
+        → IsMade accepts sealed old new (HandedIn tail ∷ []) → Converses accepts sealed hello h new k (t ++ HandedIn d ∷ [])
     by_result (Ok x) taken wanting made = by_taken taken made
     by_result (Err e) taken wanting made = by_packet (opened_short _ _ _ _ tail wanting.number wanting.frames wanting.is.is) made
 
     pub rest_heard : {X : Type 0} (r : Result X OutOfMemory) → OnOk r (IsTaken accepts now tail old new) → OnOk r (IsUndisturbed now old new)
         → OnErr r (IsFailedBy (counted_in (length tail) old) new) → OnErr r (IsDatagramUnread (accepts old.session) now tail (counted_in (length tail) old))
-        → ((u : List Act) → Follows old u → Follows new (u ++ HandedIn tail ∷ [])) → IsSameEnd old new → Converses hello h new k (t ++ HandedIn d ∷ [])
-    rest_heard r taken undisturbed failed wanting follows same = by_result r taken wanting (came_made accepts now tail r old new taken undisturbed failed wanting follows same)
+        → ((u : List Act) → Follows old u → Follows new (u ++ HandedIn tail ∷ [])) → IsSameEnd old new → Converses accepts sealed hello h new k (t ++ HandedIn d ∷ [])
+    rest_heard r taken undisturbed failed wanting follows same = by_result r taken wanting (came_made accepts sealed now tail r old new taken undisturbed failed wanting follows same)
 
   -- a packet that was accepted came
   pub brought_came : (accepts : AcceptsTag) (now : Moment) (tail d frames : List ℕ) (old new : Inner S) (side : Side) (t : List Act) → NamesTags accepts → EndsWith tail d → IsSameEnd old new
@@ -174,34 +154,36 @@ module _ {S : Type 0} where
       (subst (λ (z : Side). HasPacketOf (length old.local_id) u (other z) Data) side_is
       (opened_came accepts (length old.local_id) (other old.side) b.is.expected tail d b.number frames b.taken.is_eliciting t named b.is.is b.taken.surveyed ends))
 
-  pub either_way : (result : Result Unit OutOfMemory) (hello : List ℕ) (c : Connection S) (t : List Act) → Stands hello c t → StandsOrFails result hello c t
-  either_way (Ok x) hello c t p = (p, tt)
-  either_way (Err e) hello c t p = (tt, fails_to hello c t p)
+  pub either_way : (accepts : AcceptsTags S) (sealed : MakesTagsOf S) (result : Result Unit OutOfMemory) (hello : List ℕ) (c : Connection S) (t : List Act) → Stands accepts sealed hello c t
+      → StandsOrFails accepts sealed result hello c t
+  either_way accepts sealed (Ok x) hello c t p = (p, tt)
+  either_way accepts sealed (Err e) hello c t p = (tt, fails_to accepts sealed hello c t p)
 
   -- a server is connected
-  pub connected_stands : (result : Result Unit OutOfMemory) (now : Moment) (hello : List ℕ) (old new : Connection S) (t : List Act) → OnOk result (new ≡ connected now old)
-      → OnErr result (new ≡ record (connected now old) { control = old.control }) → HasPacketOf (length old.core.local_id) (handed_in t) (other old.handshake.side) Data → Stands hello old t
-      → Stands hello new t
-  connected_stands (Ok x) now hello old new t is err has p =
-      subst (λ (z : Connection S). Stands hello z t) (sym is) (connects hello old.handshake old.core old.is_connected t has p)
-  connected_stands (Err e) now hello old new t ok is has p =
-      subst (λ (z : Connection S). Stands hello z t) (sym is) (connects hello old.handshake old.core old.is_connected t has p)
+  pub connected_stands : (accepts : AcceptsTags S) (sealed : MakesTagsOf S) (result : Result Unit OutOfMemory) (now : Moment) (hello : List ℕ) (old new : Connection S) (t : List Act) → OnOk result (new ≡ connected now old)
+      → OnErr result (new ≡ record (connected now old) { control = old.control }) → HasPacketOf (length old.core.local_id) (handed_in t) (other old.handshake.side) Data
+      → Stands accepts sealed hello old t → Stands accepts sealed hello new t
+  connected_stands accepts sealed (Ok x) now hello old new t is err has p =
+      subst (λ (z : Connection S). Stands accepts sealed hello z t) (sym is) (connects accepts sealed hello old.handshake old.core old.is_connected t has p)
+  connected_stands accepts sealed (Err e) now hello old new t ok is has p =
+      subst (λ (z : Connection S). Stands accepts sealed hello z t) (sym is) (connects accepts sealed hello old.handshake old.core old.is_connected t has p)
 
   -- ---- an end that closed
 
-  pub counted_hears : (hello : List ℕ) (c : Connection S) (n : ℕ) (t : List Act) (d : List ℕ) → n ≡ min (c.handshake.bytes_received + length d) (2 ^ 64 - 1) → Stands hello c t
-      → Hears hello (record c.handshake { bytes_received = n }) c.core c.is_connected t d
-  counted_hears hello c n t d same p =
-      subst (λ (z : ℕ). Hears hello (record c.handshake { bytes_received = z }) c.core c.is_connected t d) (sym (same ∙ min_comm _ _)) (counts hello d c.handshake c.core c.is_connected t p)
+  pub counted_hears : (accepts : AcceptsTags S) (sealed : MakesTagsOf S) (hello : List ℕ) (c : Connection S) (n : ℕ) (t : List Act) (d : List ℕ) → n ≡ min (c.handshake.bytes_received + length d) (2 ^ 64 - 1)
+      → Stands accepts sealed hello c t → Hears accepts sealed hello (record c.handshake { bytes_received = n }) c.core c.is_connected t d
+  counted_hears accepts sealed hello c n t d same p =
+      subst (λ (z : ℕ). Hears accepts sealed hello (record c.handshake { bytes_received = z }) c.core c.is_connected t d) (sym (same ∙ min_comm _ _))
+      (counts accepts sealed hello d c.handshake c.core c.is_connected t p)
 
-  pub shut_stands : (accepts : AcceptsTag) (hello tail d : List ℕ) (old mid : Connection S) (core : Inner S) (t : List Act) → NamesTags accepts → EndsWith tail d → IsShutConnected accepts tail old mid
-      → core.local_id ≡ old.handshake.local_id → Converses hello old.handshake core old.is_connected (t ++ HandedIn d ∷ [])
-      → Converses hello mid.handshake core mid.is_connected (t ++ HandedIn d ∷ [])
-  shut_stands accepts hello tail d old mid core t named ends (IsShutConnected.brought b e) id p =
+  pub shut_stands : (accepts : AcceptsTags S) (sealed : MakesTagsOf S) (takes : AcceptsTag) (hello tail d : List ℕ) (old mid : Connection S) (core : Inner S) (t : List Act) → NamesTags takes → EndsWith tail d
+      → IsShutConnected takes tail old mid → core.local_id ≡ old.handshake.local_id → Converses accepts sealed hello old.handshake core old.is_connected (t ++ HandedIn d ∷ [])
+      → Converses accepts sealed hello mid.handshake core mid.is_connected (t ++ HandedIn d ∷ [])
+  shut_stands accepts sealed takes hello tail d old mid core t named ends (IsShutConnected.brought b e) id p =
       let u = t ++ HandedIn d ∷ [] in
       let has : HasPacketOf (length core.local_id) (handed_in u) (other old.handshake.side) Data =
       subst (λ (z : List ℕ). HasPacketOf (length z) (handed_in u) (other old.handshake.side) Data) (sym id)
-      (opened_came accepts (length old.handshake.local_id) (other old.handshake.side) 0 tail d b.number b.frames b.is_eliciting t named b.opened b.valid ends) in
-      subst (λ (z : Connection S). Converses hello z.handshake core z.is_connected u) (sym e) (connects hello old.handshake core old.is_connected u has p)
-  shut_stands accepts hello tail d old mid core t named ends (IsShutConnected.still none e) id p =
-      subst (λ (z : Connection S). Converses hello z.handshake core z.is_connected (t ++ HandedIn d ∷ [])) (sym e) p
+      (opened_came takes (length old.handshake.local_id) (other old.handshake.side) 0 tail d b.number b.frames b.is_eliciting t named b.opened b.valid ends) in
+      subst (λ (z : Connection S). Converses accepts sealed hello z.handshake core z.is_connected u) (sym e) (connects accepts sealed hello old.handshake core old.is_connected u has p)
+  shut_stands accepts sealed takes hello tail d old mid core t named ends (IsShutConnected.still none e) id p =
+      subst (λ (z : Connection S). Converses accepts sealed hello z.handshake core z.is_connected (t ++ HandedIn d ∷ [])) (sym e) p

@@ -4,9 +4,7 @@ use Rattle.std.specs.Prelude.{IfOk, IfSome, is_some}
 use Rattle.qh_base.specs.declared.memory.Memory.{Memory as OutOfMemory}
 use Rattle.qh_base.specs.declared.stream_id.StreamId.{StreamId}
 use Rattle.qh_buffers.specs.declared.assembler.Chunk.{Chunk}
-use Rattle.qh_conduct.specs.Announced.{MakesTags}
-use Rattle.qh_conduct.specs.Reached.{AreNamed}
-use Rattle.qh_conn.proofs.OutKeys.{keys, makes_all, names_all, shut_of}
+use Rattle.qh_conn.proofs.OutKeys.{shut_of}
 use Rattle.qh_conn.proofs.OutWhole.{handshake_whole}
 use Rattle.qh_conn.specs.Whole.{CarriesOn, IsWhole, Stands}
 use Rattle.qh_conn.specs.declared.connection.Connection.{Connection}
@@ -19,16 +17,13 @@ use Rattle.qh_core.specs.Made.{AcceptsTags, AreMadeLocally, IsMadeOnStreams, Mak
 use Rattle.qh_core.specs.declared.fault.TakeFault.{TakeFault}
 use Rattle.qh_core.specs.declared.inner.Inner.{Inner}
 use Rattle.qh_handshake.specs.declared.handshake.Handshake.{Handshake}
-use Rattle.qh_packet.specs.Session.{plain_accepts, plain_sealed}
 use Rattle.qh_spec.proofs.PartLaws.{part_finished, part_read, part_written}
 use Rattle.qh_spec.specs.Transcript.{Act, finished, read, written}
-use Rattle.qh_spec.specs.declared.sides.Space.TheVariants.{Data}
 
 -- what `sends` says of calls that hand out no datagram
 abbrev pub Called : Type 0 → Type 0
-Called S = (accepts : AcceptsTags S) (sealed : MakesTagsOf S) (hello : List ℕ) (h : Handshake) (c new : Inner S) (k : Bool) (acts t : List Act)
-    → AreNamed (accepts c.session) → MakesTags (sealed c.session) → AreMadeLocally c new acts → (h.peer ≡ None → acts ≡ [])
-    → Converses hello h c k t → Converses hello h new k (t ++ acts)
+Called S = (accepts : AcceptsTags S) (sealed : MakesTagsOf S) (hello : List ℕ) (h : Handshake) (c new : Inner S) (k : Bool) (acts t : List Act) → AreMadeLocally c new acts → (h.peer ≡ None → acts ≡ [])
+    → Converses accepts sealed hello h c k t → Converses accepts sealed hello h new k (t ++ acts)
 
 some_or_none : {A : Type 0} (X : Type 0) (o : Option A) → is_some o ≡ true → o ≡ None → X
 some_or_none X (Some a) some none = cc
@@ -40,9 +35,8 @@ module _ {S : Type 0} where
 
   pub carried : Called S → (old : Connection S) (new : Inner S) (acts : List Act) → is_some old.handshake.peer ≡ true → IsMadeOnStreams old.core new acts
       → CarriesOn old (record old { core = new }) acts
-  carried called old new acts greeted made hello t p =
-      called (λ _. plain_accepts keys) (λ _. plain_sealed keys) hello old.handshake old.core new old.is_connected acts t names_all (λ from number h. makes_all from Data number h)
-      (locally old.core new acts made) (some_or_none (acts ≡ []) old.handshake.peer greeted) p
+  carried called old new acts greeted made accepts sealed hello t p =
+      called accepts sealed hello old.handshake old.core new old.is_connected acts t (locally old.core new acts made) (some_or_none (acts ≡ []) old.handshake.peer greeted) p
 
   pub whole_after : (old : Connection S) (new : Inner S) (acts : List Act) → IsWhole old → IsMadeOnStreams old.core new acts → IsWhole (record old { core = new })
   whole_after old new acts w made =
@@ -52,8 +46,8 @@ module _ {S : Type 0} where
   -- a stream that was opened is new in all that was done
   pub opened_new : (c : Connection S) (result : Result (Option StreamId) OutOfMemory)
       → IfOk result (λ o. IfSome o (λ id. (t : List Act) → Follows c.core t → (written t id.0 ≡ []) × (finished t id.0 ≡ false) × (read t id.0 ≡ [])))
-      → IfOk result (λ o. IfSome o (λ id. (hello : List ℕ) (t : List Act) → Stands hello c t → (written t id.0 ≡ []) × (finished t id.0 ≡ false) × (read t id.0 ≡ [])))
-  opened_new c (Ok (Some id)) h = λ hello t p.
+      → IfOk result (λ o. IfSome o (λ id. (accepts : AcceptsTags S) (sealed : MakesTagsOf S) (hello : List ℕ) (t : List Act) → Stands accepts sealed hello c t → (written t id.0 ≡ []) × (finished t id.0 ≡ false) × (read t id.0 ≡ [])))
+  opened_new c (Ok (Some id)) h = λ accepts sealed hello t p.
       let part = h p.part p.begun.behaves.follows in (
         sym (part_written p.part t p.is_part id.0) ∙ part.0,
         sym (part_finished p.part t p.is_part id.0) ∙ part.1,
@@ -65,8 +59,8 @@ module _ {S : Type 0} where
   -- what is read in order comes behind all that was read
   pub read_behind : (c : Connection S) (id : ℕ) (ordered : Bool) (result : Result (Option Chunk) TakeFault)
       → IfOk result (λ o. IfSome o (λ x. (t : List Act) → Follows c.core t → ordered ≡ true → 0 < length x.bytes → x.offset ≡ length (read t id)))
-      → IfOk result (λ o. IfSome o (λ x. (hello : List ℕ) (t : List Act) → Stands hello c t → ordered ≡ true → 0 < length x.bytes → x.offset ≡ length (read t id)))
-  read_behind c id ordered (Ok (Some x)) h = λ hello t p in_order some.
+      → IfOk result (λ o. IfSome o (λ x. (accepts : AcceptsTags S) (sealed : MakesTagsOf S) (hello : List ℕ) (t : List Act) → Stands accepts sealed hello c t → ordered ≡ true → 0 < length x.bytes → x.offset ≡ length (read t id)))
+  read_behind c id ordered (Ok (Some x)) h = λ accepts sealed hello t p in_order some.
       h p.part p.begun.behaves.follows in_order some ∙ ap (λ (z : List ℕ). length z) (part_read p.part t p.is_part id)
   read_behind c id ordered (Ok None) h = tt
   read_behind c id ordered (Err e) h = tt

@@ -1,17 +1,6 @@
--- Tags of a session that has no part in what is done.
-use Rattle.std.proofs.Common.{◌≡◌, Bool, true, false, [], refl, sym, ◌∙◌, arith}
+-- Whether an end is open, by what is told of it.
+use Rattle.std.proofs.Common.{◌≡◌, Bool, true, false, refl, sym, ◌∙◌}
 use Rattle.std.specs.Prelude.{not}
-use Rattle.qh_packet.proofs.Sessions.{plain_makes, plain_names}
-use Rattle.qh_packet.specs.Session.{MakesTags, NamesTags, PlainKeys, plain_accepts, plain_sealed}
-
-abbrev pub keys : PlainKeys
-keys = record { key_id = []; server_name = []; knows_name = false }
-
-pub names_all : NamesTags (plain_accepts keys)
-names_all = plain_names keys (omega arith)
-
-pub makes_all : MakesTags (plain_sealed keys)
-makes_all = plain_makes keys (omega arith)
 
 pub shut_of : (a b : Bool) → (b ≡ true → a ≡ true) → a ≡ false → b ≡ false
 shut_of a false opens e = refl

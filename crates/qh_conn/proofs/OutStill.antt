@@ -5,7 +5,7 @@ use Rattle.qh_base.specs.declared.memory.Memory.{Memory as OutOfMemory}
 use Rattle.qh_base.specs.declared.path.Transmit.{Transmit}
 use Rattle.qh_base.specs.declared.time.Moment.{Moment}
 use Rattle.qh_conn.specs.Outgoing.{AreOutgoing, IsControlHeld, IsDataTransmitted, IsQueueStill, IsStill, handed_on, made_acts}
-use Rattle.qh_conn.specs.Whole.{CarriesOn, Stands}
+use Rattle.qh_conn.specs.Whole.{CarriesOnBy, Stands}
 use Rattle.qh_conn.specs.declared.connection.Connection.{Connection}
 use Rattle.qh_control.specs.Queue.{PlainQueue, sent_in}
 use Rattle.qh_control.specs.declared.control.ControlState.{ControlState}
@@ -81,10 +81,10 @@ module _ {S : Type 0} where
       (subst (λ (z : S). IsDataTransmitted (seal z) now mid (handed_on t.size new) between after t) (ap (λ (z : Connection S). z.core.session) s.rest_is) is)))
 
   pub carries_after : (accepts : S → AcceptsTag) (seal : S → SealsTag) (old mid new : Connection S) (before between after : List ℕ) (result : Result (Option Transmit) OutOfMemory) → IsStill old mid
-      → between ≡ before → (NamesTags (accepts mid.core.session) → MakesTags (seal mid.core.session) → CarriesOn mid new (made_acts between after result))
-      → NamesTags (accepts old.core.session) → MakesTags (seal old.core.session) → CarriesOn old new (made_acts before after result)
+      → between ≡ before → (NamesTags (accepts mid.core.session) → MakesTags (seal mid.core.session) → CarriesOnBy accepts seal mid new (made_acts between after result))
+      → NamesTags (accepts old.core.session) → MakesTags (seal old.core.session) → CarriesOnBy accepts seal old new (made_acts before after result)
   carries_after accepts seal old mid new before between after result s e f named makes hello t p =
       let session = sym (ap (λ (z : Connection S). z.core.session) s.rest_is) in
-      subst (λ (z : List ℕ). Stands hello new (t ++ made_acts z after result)) e
+      subst (λ (z : List ℕ). Stands accepts seal hello new (t ++ made_acts z after result)) e
       (f (subst (λ (z : S). NamesTags (accepts z)) session named) (subst (λ (z : S). MakesTags (seal z)) session makes) hello t
-      (subst (λ (z : Connection S). Stands hello z t) (sym s.rest_is) p))
+      (subst (λ (z : Connection S). Stands accepts seal hello z t) (sym s.rest_is) p))

@@ -4,6 +4,7 @@ use Rattle.qh_conn.specs.declared.connection.Connection.{Connection}
 use Rattle.qh_control.specs.Control.{IsSendable}
 use Rattle.qh_converse.specs.Converses.{Converses}
 use Rattle.qh_core.specs.Inner.{is_open}
+use Rattle.qh_core.specs.Made.{AcceptsTags, MakesTagsOf}
 use Rattle.qh_handshake.specs.Handshake.{IsHandshake}
 use Rattle.qh_spec.specs.Transcript.{Act}
 use Rattle.qh_spec.specs.declared.sides.Side.TheVariants.{Client}
@@ -41,14 +42,18 @@ module _ {S : Type 0} where
     pub control : new.control ≡ old.control
     pub is_connected : new.is_connected ≡ old.is_connected
 
-  -- it stands so to all that was done with it, if its own hello is this one
-  abbrev pub Stands : (hello : List ℕ) → Connection S → List Act → Type 0
-  Stands hello c t = Converses hello c.handshake c.core c.is_connected t
+  -- it stands so to all that was done with it, if its own hello is this one, and sessions take and make these tags
+  abbrev pub Stands : AcceptsTags S → MakesTagsOf S → (hello : List ℕ) → Connection S → List Act → Type 0
+  Stands accepts sealed hello c t = Converses accepts sealed hello c.handshake c.core c.is_connected t
 
-  -- it stands to these acts more as it stood to all before
+  -- it stands to these acts more as it stood to all before, if sessions take and make these tags
+  abbrev pub CarriesOnBy : AcceptsTags S → MakesTagsOf S → (old new : Connection S) → List Act → Type 0
+  CarriesOnBy accepts sealed old new acts = (hello : List ℕ) (t : List Act) → Stands accepts sealed hello old t → Stands accepts sealed hello new (t ++ acts)
+
+  -- the same, whatever tags they take and make
   abbrev pub CarriesOn : (old new : Connection S) → List Act → Type 0
-  CarriesOn old new acts = (hello : List ℕ) (t : List Act) → Stands hello old t → Stands hello new (t ++ acts)
+  CarriesOn old new acts = (accepts : AcceptsTags S) (sealed : MakesTagsOf S) → CarriesOnBy accepts sealed old new acts
 
-  -- it stands to all that was done with it as before
+  -- it stands to all that was done with it as before, whatever tags they take and make
   abbrev pub StandsStill : (old new : Connection S) → Type 0
-  StandsStill old new = (hello : List ℕ) (t : List Act) → Stands hello old t → Stands hello new t
+  StandsStill old new = (accepts : AcceptsTags S) (sealed : MakesTagsOf S) (hello : List ℕ) (t : List Act) → Stands accepts sealed hello old t → Stands accepts sealed hello new t

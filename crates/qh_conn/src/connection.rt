@@ -7,6 +7,7 @@ ghost use Rattle.qh_conn.specs.Whole.{IsWhole, Stands, StandsStill};
 ghost use Rattle.qh_control.specs.declared.control.ControlState.{ControlState as AControlState};
 ghost use Rattle.qh_core.specs.Inner.{counted, fresh_stats, is_open};
 ghost use Rattle.qh_core.specs.Event.{is_drained};
+ghost use Rattle.qh_core.specs.Made.{AcceptsTags, MakesTagsOf};
 ghost use Rattle.qh_core.specs.Receiving.{IsClosedWith};
 ghost use Rattle.qh_core.specs.declared.control.ControlFrame.TheVariants as sending;
 ghost use Rattle.qh_core.specs.declared.state.Close.TheVariants.{Application};
@@ -84,7 +85,7 @@ impl<S: Session> Connection<S> {
     where
         S: Drop,
         ensures whole { IfOk result (λ c. IsWhole c) }
-        ensures stands { IfOk result (λ c. (hello : List ℕ) × IsFresh hello c.handshake × Stands hello c []) }
+        ensures stands { IfOk result (λ c. (hello : List ℕ) × IsFresh hello c.handshake × ((accepts : AcceptsTags S) (sealed : MakesTagsOf S) → Stands accepts sealed hello c [])) }
         ensures handshake { IfOk result (λ c. (c.handshake.side ≡ side) × (c.handshake.local_id ≡ local_id) × (c.handshake.original_id ≡ key_id) × (c.handshake.retry_id ≡ None) × (c.handshake.token ≡ []) × (c.handshake.peer ≡ None)) }
         ensures begins { IfOk result (λ c. IsFirstHandshake config (S.name session) key_id remote_id now c.handshake side) }
         ensures said { IfOk result (λ c. IsSaid config side local_id key_id c.handshake.parameters) }
@@ -142,7 +143,8 @@ impl<S: Session> Connection<S> {
         requires server { self.old.handshake.side ≡ Server }
         requires first { (self.old.handshake.peer ≡ None) × (self.old.handshake.bytes_received ≡ 0) × (self.old.handshake.bytes_sent ≡ 0) }
         ensures origin { self.new ≡ record self.old { handshake = with_origin self.old.handshake original_id retry_id validated } }
-        ensures stands { (hello : List ℕ) → IsFresh hello self.old.handshake → Stands hello self.old [] → (own : List ℕ) × IsFresh own self.new.handshake × Stands own self.new [] }
+        ensures stands { (hello : List ℕ) → IsFresh hello self.old.handshake → (own : List ℕ) × IsFresh own self.new.handshake
+            × ((accepts : AcceptsTags S) (sealed : MakesTagsOf S) → Stands accepts sealed hello self.old [] → Stands accepts sealed own self.new []) }
         ensures whole { IsWhole self.new }
     {
         self.handshake.set_origin(original_id, retry_id, validated);
@@ -155,7 +157,8 @@ impl<S: Session> Connection<S> {
         requires first { (self.old.handshake.retry_id ≡ None) × (self.old.handshake.bytes_received ≡ 0) × (self.old.handshake.bytes_sent ≡ 0) }
         requires short { length token ≤ 512 }
         ensures token { self.new ≡ record self.old { handshake = record self.old.handshake { token = token } } }
-        ensures stands { (hello : List ℕ) → IsFresh hello self.old.handshake → Stands hello self.old [] → IsFresh hello self.new.handshake × Stands hello self.new [] }
+        ensures stands { (hello : List ℕ) → IsFresh hello self.old.handshake → IsFresh hello self.new.handshake
+            × ((accepts : AcceptsTags S) (sealed : MakesTagsOf S) → Stands accepts sealed hello self.old [] → Stands accepts sealed hello self.new []) }
         ensures whole { IsWhole self.new }
     {
         self.handshake.bear(token);

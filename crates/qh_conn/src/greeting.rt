@@ -5,6 +5,7 @@ ghost use Rattle.qh_conn.specs.Whole.{IsSound, IsWhole, StandsStill};
 ghost use Rattle.qh_control.specs.Control.{IsSendable};
 ghost use Rattle.qh_converse.specs.Converses.{Hears};
 ghost use Rattle.qh_core.specs.Inner.{is_open, with_streams};
+ghost use Rattle.qh_core.specs.Made.{AcceptsTags, MakesTagsOf};
 ghost use Rattle.qh_handshake.specs.declared.handshake.Handshake.{Handshake as AHandshake};
 ghost use Rattle.qh_spec.specs.Transcript.{Act, HandedIn};
 ghost use Rattle.qh_spec.specs.declared.sides.Side.TheVariants.{Client};
@@ -28,7 +29,8 @@ impl<S: Session> Connection<S> {
         ensures some { is_some self.old.handshake.peer ≡ true → OnOk result (IsGreetedNow now self.old self.new) }
         ensures sound { IsSound self.new }
         ensures client { OnOk result (self.old.handshake.side ≡ Client → self.new.is_connected ≡ is_some self.old.handshake.peer) }
-        ensures hears { (hello d : List ℕ) (before : AHandshake) (t : List Act) → HasRead hello before self.old t d → before.peer ≡ None → OnOk result (HearsIt hello self.new t d) × OnErr result (FailsTo hello self.new (t ++ HandedIn d ∷ [])) }
+        ensures hears { (accepts : AcceptsTags S) (sealed : MakesTagsOf S) (hello d : List ℕ) (before : AHandshake) (t : List Act) → HasRead accepts sealed hello before self.old t d → before.peer ≡ None
+            → OnOk result (HearsIt accepts sealed hello self.new t d) × OnErr result (FailsTo accepts sealed hello self.new (t ++ HandedIn d ∷ [])) }
         ensures err { OnErr result (self.new ≡ record self.old { handshake = self.new.handshake; core = self.new.core; control = self.new.control; is_connected = self.new.is_connected; is_data_due = self.new.is_data_due; is_connected_due = self.new.is_connected_due }) }
     {
         let Some(peer) = self.handshake.peer else {
@@ -50,8 +52,9 @@ impl<S: Session> Connection<S> {
         requires greeted { self.old.handshake.peer ≡ Some peer }
         ensures core { OnOk result (IsBegunBy peer self.old.handshake self.old.early self.old.core self.new.core) }
         ensures rest { OnOk result (self.new ≡ with_core self.old self.new.core peer) }
-        ensures hears { OnOk result ((m : Bool) → (m ≡ true → self.old.handshake.side ≡ Client) → (hello d : List ℕ) (before : AHandshake) (t : List Act) → HasRead hello before self.old t d → before.peer ≡ None
-            → Hears hello self.old.handshake self.new.core m t d) }
+        ensures hears { OnOk result ((accepts : AcceptsTags S) (sealed : MakesTagsOf S) (m : Bool) → (m ≡ true → self.old.handshake.side ≡ Client) → (hello d : List ℕ) (before : AHandshake) (t : List Act)
+            → HasRead accepts sealed hello before self.old t d → before.peer ≡ None
+            → Hears accepts sealed hello self.old.handshake self.new.core m t d) }
         ensures sound { IsSound self.new }
         ensures err { OnErr result (self.new ≡ self.old) }
     {

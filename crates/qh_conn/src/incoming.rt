@@ -2,15 +2,15 @@ ghost use Rattle.std.specs.Prelude.{◌≡◌, ◌⊎◌, ◌∷◌, ◌++◌, [
 ghost use Rattle.qh_base.specs.declared.connection_error.ConnectionError.TheVariants.{Memory as OutOfMemory, Reset};
 ghost use Rattle.qh_conn.specs.Hearing.{FailsTo, HasRead, HearsIt, StandsOrFails};
 ghost use Rattle.qh_conn.specs.Incoming.{AreFramesDone, BeginsWithFrames, BringsData, EndsBy, HasHeard, IsClosingHeard, IsDatagramHandled, IsEventHandled, IsFed, IsKnownOf, IsMet, IsOpenHandled, IsOver, IsRestTaken, IsRestarted, IsShutConnected, acts_of, connected_if, is_reset_by, takes_memory};
-ghost use Rattle.qh_conn.specs.Whole.{CarriesOn, IsSafe, IsSound, IsWhole, Stands, StandsStill};
+ghost use Rattle.qh_conn.specs.Whole.{CarriesOnBy, IsSafe, IsSound, IsWhole, Stands, StandsStill};
 ghost use Rattle.qh_control.specs.Control.{IsControlTaken, IsSendable, control_refusal, keeps};
 ghost use Rattle.qh_core.specs.Inner.{IsFailedBy, IsSameEnd, is_open};
 ghost use Rattle.qh_core.specs.Event.{is_drained};
-ghost use Rattle.qh_core.specs.Made.{IsMadeLocally};
+ghost use Rattle.qh_core.specs.Made.{AcceptsTags, IsMadeLocally, MakesTagsOf};
 ghost use Rattle.qh_core.specs.Receiving.{IsDrainingFrom};
 ghost use Rattle.qh_frame.specs.declared.frame.Frame.{Frame as AFrame};
 ghost use Rattle.qh_handshake.specs.Handshake.{dropping};
-ghost use Rattle.qh_handshake.specs.Incoming.{IsBehind};
+ghost use Rattle.qh_handshake.specs.Incoming.{IsBehind, Learns};
 ghost use Rattle.qh_handshake.specs.Lost.{IsLost};
 ghost use Rattle.qh_handshake.specs.declared.handshake.Handshake.{Handshake as AHandshake};
 ghost use Rattle.qh_packet.specs.Session.{NamesTags};
@@ -44,7 +44,7 @@ impl<S: Session> Connection<S> {
         ensures err { OnErr result (IsOver self.new) }
         ensures wanting { OnErr result (is_open self.old.core.state ≡ true) }
         ensures calm { takes_memory event ≡ false → IsOk result }
-        ensures carries { NamesTags (S.accepts self.old.core.session) → CarriesOn self.old self.new (acts_of event) }
+        ensures carries { NamesTags (S.accepts self.old.core.session) → CarriesOnBy S.accepts S.sealed self.old self.new (acts_of event) }
         ensures whole { IsWhole self.new }
     {
         match event {
@@ -76,7 +76,7 @@ impl<S: Session> Connection<S> {
         ensures ok { OnOk result (IsDatagramHandled (record { name = S.name; knows = S.knows; key = S.key; sealed = S.sealed; accepts = S.accepts }) now datagram.now self.old self.new) }
         ensures err { OnErr result (IsOver self.new) }
         ensures wanting { OnErr result (is_open self.old.core.state ≡ true) }
-        ensures carries { NamesTags (S.accepts self.old.core.session) → CarriesOn self.old self.new (HandedIn datagram.now ∷ []) }
+        ensures carries { NamesTags (S.accepts self.old.core.session) → CarriesOnBy S.accepts S.sealed self.old self.new (HandedIn datagram.now ∷ []) }
         ensures whole { IsWhole self.new }
     {
         count(&mut self.udp_rx, datagram.len());
@@ -95,7 +95,7 @@ impl<S: Session> Connection<S> {
         ensures value { result ≡ taken }
         ensures ok { OnOk taken (self.new ≡ self.old) }
         ensures err { OnErr taken (IsOver self.new) }
-        ensures fails { OnErr taken ((hello : List ℕ) (t : List Act) → FailsTo hello self.old t → Stands hello self.new t) }
+        ensures fails { OnErr taken ((accepts : AcceptsTags S) (sealed : MakesTagsOf S) (hello : List ℕ) (t : List Act) → FailsTo accepts sealed hello self.old t → Stands accepts sealed hello self.new t) }
         ensures stands { StandsStill self.old self.new }
         ensures whole { IsWhole self.new }
     {
@@ -110,7 +110,7 @@ impl<S: Session> Connection<S> {
         requires whole { IsWhole self.old }
         requires open { is_open self.old.core.state ≡ true }
         ensures ok { OnOk result (IsOpenHandled (record { name = S.name; knows = S.knows; key = S.key; sealed = S.sealed; accepts = S.accepts }) now datagram.now self.old self.new) }
-        ensures carries { NamesTags (S.accepts self.old.core.session) → (hello : List ℕ) (t : List Act) → Stands hello self.old t → StandsOrFails result hello self.new (t ++ HandedIn datagram.now ∷ []) }
+        ensures carries { NamesTags (S.accepts self.old.core.session) → (hello : List ℕ) (t : List Act) → Stands S.accepts S.sealed hello self.old t → StandsOrFails S.accepts S.sealed result hello self.new (t ++ HandedIn datagram.now ∷ []) }
         ensures safe { IsSafe self.new }
         ensures whole { OnOk result (IsWhole self.new) }
     {
@@ -138,7 +138,8 @@ impl<S: Session> Connection<S> {
         requires first { was_greeted ≡ false → (self.old.is_connected ≡ false) × IsSendable self.old.core.side None self.old.control }
         requires whole { was_greeted ≡ true → IsWhole self.old }
         ensures ok { OnOk result (IsMet now was_greeted self.old self.new) }
-        ensures hears { (hello d : List ℕ) (before : AHandshake) (t : List Act) → HasRead hello before self.old t d → was_greeted ≡ is_some before.peer → OnOk result (HearsIt hello self.new t d) × OnErr result (FailsTo hello self.new (t ++ HandedIn d ∷ [])) }
+        ensures hears { (accepts : AcceptsTags S) (sealed : MakesTagsOf S) (hello d : List ℕ) (before : AHandshake) (t : List Act) → HasRead accepts sealed hello before self.old t d → was_greeted ≡ is_some before.peer
+            → OnOk result (HearsIt accepts sealed hello self.new t d) × OnErr result (FailsTo accepts sealed hello self.new (t ++ HandedIn d ∷ [])) }
         ensures sound { IsSound self.new }
         ensures whole { OnOk result (IsWhole self.new) }
         ensures open { OnOk result (is_open self.new.core.state ≡ true) }
@@ -154,7 +155,8 @@ impl<S: Session> Connection<S> {
         requires { IsSound self.old }
         ensures ok { IfOk result (λ rest. IsFed (record { name = S.name; knows = S.knows; key = S.key; sealed = S.sealed; accepts = S.accepts }) now datagram.now self.old self.new rest.now None) }
         ensures err { IfErr result (λ e. (e ≡ OutOfMemory) ⊎ ((rest : List ℕ) × IsFed (record { name = S.name; knows = S.knows; key = S.key; sealed = S.sealed; accepts = S.accepts }) now datagram.now self.old self.new rest (Some e))) }
-        ensures lost { IfErr result (λ e. e ≡ OutOfMemory → (learned : Option (List ℕ)) × IsLost (S.accepts self.old.core.session) now datagram.now self.old.handshake self.new.handshake learned) }
+        ensures lost { IfErr result (λ e. e ≡ OutOfMemory → (learned : Option (List ℕ)) × IsLost (S.accepts self.old.core.session) now datagram.now self.old.handshake self.new.handshake learned
+            × Learns (record { name = S.name; knows = S.knows; key = S.key; sealed = S.sealed; accepts = S.accepts }) self.old.core.session self.new.core.session learned) }
         ensures rest { self.new ≡ record self.old { handshake = self.new.handshake; core = record self.old.core { session = self.new.core.session } } }
         ensures kept { is_some self.old.handshake.peer ≡ true → self.new.handshake.peer ≡ self.old.handshake.peer }
         ensures side { self.new.handshake.side ≡ self.old.handshake.side }
@@ -174,7 +176,7 @@ impl<S: Session> Connection<S> {
         requires open { is_open self.old.core.state ≡ true }
         requires greeted { is_some self.old.handshake.peer ≡ true }
         requires ends { EndsWith rest.now datagram.now }
-        ensures carries { NamesTags (S.accepts self.old.core.session) → (hello : List ℕ) (t : List Act) → HearsIt hello self.old t datagram.now → StandsOrFails result hello self.new (t ++ HandedIn datagram.now ∷ []) }
+        ensures carries { NamesTags (S.accepts self.old.core.session) → (hello : List ℕ) (t : List Act) → HearsIt S.accepts S.sealed hello self.old t datagram.now → StandsOrFails S.accepts S.sealed result hello self.new (t ++ HandedIn datagram.now ∷ []) }
         ensures ok { OnOk result (IsRestTaken (S.accepts self.old.core.session) now datagram.now rest.now self.old self.new) }
         ensures safe { IsSafe self.new }
         ensures whole { OnOk result (IsWhole self.new) }
@@ -199,7 +201,8 @@ impl<S: Session> Connection<S> {
         ensures ok { OnOk result (self.new ≡ connected_if now self.old) }
         ensures connected { self.new.is_connected ≡ true }
         ensures core { self.new.core ≡ self.old.core }
-        ensures carries { (hello : List ℕ) (t : List Act) → HasPacketOf (length self.old.core.local_id) (handed_in t) (other self.old.handshake.side) Data → Stands hello self.old t → Stands hello self.new t }
+        ensures carries { (accepts : AcceptsTags S) (sealed : MakesTagsOf S) (hello : List ℕ) (t : List Act) → HasPacketOf (length self.old.core.local_id) (handed_in t) (other self.old.handshake.side) Data
+            → Stands accepts sealed hello self.old t → Stands accepts sealed hello self.new t }
         ensures sound { IsSound self.new }
     {
         if self.is_connected {
@@ -262,7 +265,7 @@ impl<S: Session> Connection<S> {
         requires whole { IsWhole self.old }
         requires closed { is_open self.old.core.state ≡ false }
         ensures heard { IsClosingHeard (record { name = S.name; knows = S.knows; key = S.key; sealed = S.sealed; accepts = S.accepts }) now datagram.now self.old self.new }
-        ensures carries { NamesTags (S.accepts self.old.core.session) → CarriesOn self.old self.new (HandedIn datagram.now ∷ []) }
+        ensures carries { NamesTags (S.accepts self.old.core.session) → CarriesOnBy S.accepts S.sealed self.old self.new (HandedIn datagram.now ∷ []) }
         ensures whole { IsWhole self.new }
     {
         let brings_close = self.handshake.brings_close(self.core.session(), datagram);
@@ -420,7 +423,7 @@ impl<S> Connection<S> {
         ensures handshake { self.new.handshake ≡ dropping self.old.handshake }
         ensures core { IsFailedBy self.old.core self.new.core }
         ensures rest { self.new ≡ record self.old { handshake = self.new.handshake; core = self.new.core; control = self.new.control } }
-        ensures fails { (hello : List ℕ) (t : List Act) → FailsTo hello self.old t → Stands hello self.new t }
+        ensures fails { (accepts : AcceptsTags S) (sealed : MakesTagsOf S) (hello : List ℕ) (t : List Act) → FailsTo accepts sealed hello self.old t → Stands accepts sealed hello self.new t }
         ensures stands { StandsStill self.old self.new }
         ensures whole { IsWhole self.new }
     {

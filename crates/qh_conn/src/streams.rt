@@ -3,6 +3,7 @@ ghost use Rattle.std.specs.List.{concat};
 ghost use Rattle.qh_conn.specs.Whole.{CarriesOn, IsWhole, Stands, StandsStill};
 ghost use Rattle.qh_core.specs.Follows.{write_acts, write_chunks_acts, finish_acts, reset_by_acts, stop_acts, take_acts, received_reset_acts};
 ghost use Rattle.qh_core.specs.Inner.{is_open, with_streams};
+ghost use Rattle.qh_core.specs.Made.{AcceptsTags, MakesTagsOf};
 ghost use Rattle.qh_core.specs.Streams.{IsRead, IsReadFault, IsWriteRefused};
 ghost use Rattle.qh_core.specs.declared.fault.TakeFault.TheVariants.{Read, Readable};
 ghost use Rattle.qh_half.specs.declared.fault.FinishFault.TheVariants as finish_faults;
@@ -43,7 +44,7 @@ impl<S> Connection<S> {
             ⊎ ((is_open self.old.core.state ≡ false) ⊎ ((counts_of self.old.core.space.streams (is_two_way dir)).opened ≡ (counts_of self.old.core.space.streams (is_two_way dir)).max_opened)) → IsOk result }
         ensures err { OnErr result (self.new ≡ self.old) }
         ensures rest { self.new ≡ record self.old { core = self.new.core } }
-        ensures unwritten { IfOk result (λ o. IfSome o (λ id. (hello : List ℕ) (t : List Act) → Stands hello self.old t → (written t id.0 ≡ []) × (finished t id.0 ≡ false) × (read t id.0 ≡ []))) }
+        ensures unwritten { IfOk result (λ o. IfSome o (λ id. (accepts : AcceptsTags S) (sealed : MakesTagsOf S) (hello : List ℕ) (t : List Act) → Stands accepts sealed hello self.old t → (written t id.0 ≡ []) × (finished t id.0 ≡ false) × (read t id.0 ≡ []))) }
         ensures stands { StandsStill self.old self.new }
         ensures whole { IsWhole self.new }
     {
@@ -235,7 +236,7 @@ impl<S> Connection<S> {
         ensures lacks { IfErr result (λ e. e ≡ Read Wanting → WaitsForMoreInOrderAt self.old.core.space.streams.recv id.0 ordered → ⊥) }
         ensures streams { self.new.core ≡ with_streams self.old.core self.new.core.space.streams }
         ensures rest { self.new ≡ record self.old { core = self.new.core } }
-        ensures in_order { IfOk result (λ o. IfSome o (λ c. (hello : List ℕ) (t : List Act) → Stands hello self.old t → ordered ≡ true → 0 < length c.bytes → c.offset ≡ length (read t id.0))) }
+        ensures in_order { IfOk result (λ o. IfSome o (λ c. (accepts : AcceptsTags S) (sealed : MakesTagsOf S) (hello : List ℕ) (t : List Act) → Stands accepts sealed hello self.old t → ordered ≡ true → 0 < length c.bytes → c.offset ≡ length (read t id.0))) }
         ensures carries { CarriesOn self.old self.new (take_acts id.0 result) }
         ensures whole { IsWhole self.new }
     {

@@ -81,7 +81,6 @@ impl<S> Connection<S> {
         ensures stands { StandsStill self.old self.new }
         ensures whole { IsWhole self.new }
     {
-        sends::<S>();
         match self.core.poll() {
             Some(event) => Some(event_of(event)),
             None => None,
@@ -98,7 +97,6 @@ impl<S> Connection<S> {
         ensures stands { StandsStill self.old self.new }
         ensures whole { IsWhole self.new }
     {
-        sends::<S>();
         self.time_handshake(now);
         self.core.handle_timeout(now);
     }

@@ -1,3 +1,4 @@
+pub mod AccordKept
 pub mod HandshakeDatagrams
 pub mod MadeOpens
 pub mod MadeQuietly

@@ -11,12 +11,11 @@ use Rattle.qh_conduct.proofs.GrantedCalls.{aside_granted}
 use Rattle.qh_conduct.proofs.ReachConnections.{aside_law}
 use Rattle.qh_conduct.proofs.SizedCalls.{aside_sized}
 use Rattle.qh_conduct.proofs.TurnedAside.{IsAside}
-use Rattle.qh_conduct.specs.Announced.{MakesTags}
 use Rattle.qh_conduct.specs.Behaves.{Behaves}
 use Rattle.qh_conduct.specs.Reached.{AreNamed}
-use Rattle.qh_converse.proofs.MadeOpens.{made_opens}
+use Rattle.qh_converse.proofs.AccordKept.{IsBeside, came_any, fresh_accorded, keys, makes_all}
 use Rattle.qh_converse.proofs.ShakeLaws.{shake_in, short_in}
-use Rattle.qh_converse.proofs.StateKept.{acted_begun, greeted_begun, greeted_order, same_begun, same_order}
+use Rattle.qh_converse.proofs.StateKept.{acted_begun, beside_begun, called_begun, greeted_begun, greeted_order, same_begun, same_order}
 use Rattle.qh_converse.proofs.Steps.{comes, ends}
 use Rattle.qh_converse.specs.Converses.{Converses, Hears, IsBegun, peer_limits, progress_of}
 use Rattle.qh_converse.specs.Parts.IsShakeOf.{none as no_shake, came}
@@ -25,10 +24,7 @@ use Rattle.qh_core.proofs.MadeTogether.{one_step}
 use Rattle.qh_core.specs.Follows.{Follows}
 use Rattle.qh_core.specs.Inner.{IsNewSpace, IsSameEnd, is_open}
 use Rattle.qh_core.specs.Made.{AcceptsTags, IsMade, IsMadeLocally, MakesTagsOf}
-use Rattle.qh_core.specs.Made.IsAnyCall.{local}
-use Rattle.qh_core.specs.declared.config.ConnConfig.{ConnConfig}
 use Rattle.qh_core.specs.declared.inner.Inner.{Inner}
-use Rattle.qh_core.specs.declared.state.State.TheVariants.{Drained}
 use Rattle.qh_handshake.proofs.FollowsIn.{heard_follows, lost_follows, taken_follows}
 use Rattle.qh_handshake.proofs.FollowsOn.{discarded_follows, dropped_follows, fresh_follows}
 use Rattle.qh_handshake.proofs.GoingOn.{lost_goes, taken_goes}
@@ -41,7 +37,7 @@ use Rattle.qh_handshake.specs.Lost.{IsLost}
 use Rattle.qh_handshake.specs.Sends.{Sends}
 use Rattle.qh_handshake.specs.declared.handshake.Handshake.{Handshake}
 use Rattle.qh_hello.specs.declared.transport_parameters.TransportParameters.{TransportParameters}
-use Rattle.qh_packet.specs.Session.{AcceptsTag, NamesTags}
+use Rattle.qh_packet.specs.Session.{AcceptsTag, NamesTags, plain_sealed}
 use Rattle.qh_spec.proofs.HandshakeOrderLaws.{fresh_orders}
 use Rattle.qh_spec.proofs.Members.{in_left}
 use Rattle.qh_spec.proofs.PartLaws.{last_or_before}
@@ -49,7 +45,7 @@ use Rattle.qh_spec.proofs.TranscriptLaws.{handed_in-append}
 use Rattle.qh_spec.specs.Greeted.{HasPacketOf, IsGreeted}
 use Rattle.qh_spec.specs.Link.{other}
 use Rattle.qh_spec.specs.Lists.{In}
-use Rattle.qh_spec.specs.Parted.{EndsWith, IsPartOf, IsShort}
+use Rattle.qh_spec.specs.Parted.{AreShort, EndsWith, IsPartOf, IsShort}
 use Rattle.qh_spec.specs.Parted.IsPartOf.{none as no_part, rest as rest_act, unheard as unheard_act}
 use Rattle.qh_spec.specs.Transcript.{Act, HandedIn, HandedOut, handed_in}
 use Rattle.qh_spec.specs.declared.sides.Side.TheVariants.{Client}
@@ -82,14 +78,34 @@ counted_sends hello h t d p = record {
       };
 }
 
+-- ---- the end of the 1-RTT packets is the same but for its session, its counts and how far it is
+
 module _ {S : Type 0} where
-  pub counts : (hello d : List ℕ) (h : Handshake) (c : Inner S) (k : Bool) (t : List Act) → Converses hello h c k t → Hears hello (received (length d) h) c k t d
-  counts hello d h c k t p = comes hello h (received (length d) h) c k t d refl refl refl p (heard_follows hello h p.shake d p.follows) (counted_sends hello h p.shake d p.sends)
+  same_beside : (old new : Inner S) → IsBeside old new → IsSameEnd old new
+  same_beside old new a = record {
+    side = ap (λ (z : Inner S). z.side) a.rest_is;
+    local_id = ap (λ (z : Inner S). z.local_id) a.rest_is;
+    remote_length = ap (λ (z : Inner S). length z.remote_id) a.rest_is;
+    config = ap (λ (z : Inner S). z.config) a.rest_is;
+  }
+
+  is_aside : (old new : Inner S) → IsBeside old new → IsAside old new
+  is_aside old new a = record {
+    same = same_beside old new a;
+    log = old.space.log;
+    space = ap (λ (z : Inner S). z.space) a.rest_is;
+    opens = a.opens;
+    drained = λ is. (a.drained is, ap (λ (z : Inner S). z.error) a.rest_is);
+  }
+
+module _ {S : Type 0} (accepts : AcceptsTags S) (sealed : MakesTagsOf S) where
+  pub counts : (hello d : List ℕ) (h : Handshake) (c : Inner S) (k : Bool) (t : List Act) → Converses accepts sealed hello h c k t → Hears accepts sealed hello (received (length d) h) c k t d
+  counts hello d h c k t p = comes accepts sealed hello h (received (length d) h) c k t d refl refl refl p (heard_follows hello h p.shake d p.follows) (counted_sends hello h p.shake d p.sends)
 
   -- ---- a datagram comes
 
   pub fresh : (hello : List ℕ) (h : Handshake) (c : Inner S) → IsFresh hello h → c.side ≡ h.side → c.local_id ≡ h.local_id → IsNewSpace c.config c.side c.space → Follows c []
-      → Converses hello h c false []
+      → Converses accepts sealed hello h c false []
   fresh hello h c new side id space follows = record {
     shake = [];
     is_shake = no_shake;
@@ -101,6 +117,7 @@ module _ {S : Type 0} where
       side_is = side;
       id_is = id;
       behaves = fresh_behaves c space follows;
+      accords = fresh_accorded accepts sealed h c space follows;
       short = λ d i. absurd i;
       not_yet = λ _. refl;
       limits = λ p e up. let z : None ≡ Some p = sym new.ungreeted ∙ e in cc;
@@ -108,20 +125,20 @@ module _ {S : Type 0} where
     orders = λ n _. fresh_orders (length c.local_id) n (progress_of h false) (ap is_some new.ungreeted) refl;
   }
 
-  module _ (accepts : AcceptsTag) (now : Moment) where
-    pub hears_it : (d rest hello : List ℕ) (old new : Handshake) (retried learned : Option (List ℕ)) (end : Option ConnectionError) (c : Inner S) (k : Bool) (t : List Act) → NamesTags accepts
-        → IsDatagramTaken accepts now d old new rest retried learned end → new.peer ≡ old.peer → Converses hello old c k t → Hears hello new c k t d
+  module _ (takes : AcceptsTag) (now : Moment) where
+    pub hears_it : (d rest hello : List ℕ) (old new : Handshake) (retried learned : Option (List ℕ)) (end : Option ConnectionError) (c : Inner S) (k : Bool) (t : List Act) → NamesTags takes
+        → IsDatagramTaken takes now d old new rest retried learned end → new.peer ≡ old.peer → Converses accepts sealed hello old c k t → Hears accepts sealed hello new c k t d
     hears_it d rest hello old new retried learned end c k t named taken peer p =
-        let on = taken_goes accepts now d rest old new retried learned end taken in
-        comes hello old new c k t d on.side on.local_id peer p (taken_follows accepts now d rest hello old new retried learned end p.shake named taken p.follows)
-        (taken_sends accepts now d rest hello old new retried learned end p.shake named taken p.sends)
+        let on = taken_goes takes now d rest old new retried learned end taken in
+        comes accepts sealed hello old new c k t d on.side on.local_id peer p (taken_follows takes now d rest hello old new retried learned end p.shake named taken p.follows)
+        (taken_sends takes now d rest hello old new retried learned end p.shake named taken p.sends)
 
     pub greets : (d rest hello : List ℕ) (old new : Handshake) (retried learned : Option (List ℕ)) (end : Option ConnectionError) (c next : Inner S) (k m : Bool) (t : List Act) (p : TransportParameters)
-        → NamesTags accepts → IsDatagramTaken accepts now d old new rest retried learned end → old.peer ≡ None → new.peer ≡ Some p → IsNewSpace next.config next.side next.space → Follows next []
-        → next.config.peer ≡ peer_limits p → next.side ≡ c.side → next.local_id ≡ c.local_id → (m ≡ true → new.side ≡ Client) → Converses hello old c k t → Hears hello new next m t d
+        → NamesTags takes → IsDatagramTaken takes now d old new rest retried learned end → old.peer ≡ None → new.peer ≡ Some p → IsNewSpace next.config next.side next.space → Follows next []
+        → next.config.peer ≡ peer_limits p → next.side ≡ c.side → next.local_id ≡ c.local_id → (m ≡ true → new.side ≡ Client) → Converses accepts sealed hello old c k t → Hears accepts sealed hello new next m t d
     greets d rest hello old new retried learned end c next k m t p named taken none some space core limits side id client q =
-        let on = taken_goes accepts now d rest old new retried learned end taken in
-        let follows : FollowsShake hello new (q.shake ++ HandedIn d ∷ []) = taken_follows accepts now d rest hello old new retried learned end q.shake named taken q.follows in
+        let on = taken_goes takes now d rest old new retried learned end taken in
+        let follows : FollowsShake hello new (q.shake ++ HandedIn d ∷ []) = taken_follows takes now d rest hello old new retried learned end q.shake named taken q.follows in
         let is_shake = came q.shake t d q.is_shake in
         let with = follows.greeted p (length next.local_id) some in
         let greeted : IsGreeted (length next.local_id) (handed_in (t ++ HandedIn d ∷ [])) (other new.side) =
@@ -130,39 +147,39 @@ module _ {S : Type 0} where
           shake = q.shake ++ HandedIn d ∷ [];
           is_shake = is_shake;
           follows = follows;
-          sends = taken_sends accepts now d rest hello old new retried learned end q.shake named taken q.sends;
+          sends = taken_sends takes now d rest hello old new retried learned end q.shake named taken q.sends;
           part = [];
           is_part = subst (λ (z : List Act). IsPartOf z t) (q.begun.not_yet none) q.is_part;
-          begun = greeted_begun new next p (side ∙ q.begun.side_is ∙ sym on.side) (id ∙ q.begun.id_is ∙ sym on.local_id) some limits (fresh_behaves next space core);
+          begun = greeted_begun accepts sealed new next p (side ∙ q.begun.side_is ∙ sym on.side) (id ∙ q.begun.id_is ∙ sym on.local_id) some limits space core;
           orders = greeted_order old new c next k m t d on.side none client id greeted q.orders;
         }
 
-    pub lost : (d hello : List ℕ) (old new : Handshake) (learned : Option (List ℕ)) (c : Inner S) (k : Bool) (t : List Act) → NamesTags accepts → IsLost accepts now d old new learned → new.peer ≡ old.peer
-        → Converses hello old c k t → Hears hello (dropping new) c k t d
+    pub lost : (d hello : List ℕ) (old new : Handshake) (learned : Option (List ℕ)) (c : Inner S) (k : Bool) (t : List Act) → NamesTags takes → IsLost takes now d old new learned → new.peer ≡ old.peer
+        → Converses accepts sealed hello old c k t → Hears accepts sealed hello (dropping new) c k t d
     lost d hello old new learned c k t named taken peer p =
-        let on = lost_goes accepts now d old new learned taken in
-        comes hello old (dropping new) c k t d on.side on.local_id peer p (lost_follows accepts now d hello old new learned p.shake named taken p.follows)
-        (lost_sends accepts now d hello old new learned p.shake named taken p.sends)
+        let on = lost_goes takes now d old new learned taken in
+        comes accepts sealed hello old (dropping new) c k t d on.side on.local_id peer p (lost_follows takes now d hello old new learned p.shake named taken p.follows)
+        (lost_sends takes now d hello old new learned p.shake named taken p.sends)
 
     -- the connection ends as it is greeted
-    pub ends_it : (d rest hello : List ℕ) (old new : Handshake) (retried learned : Option (List ℕ)) (end : Option ConnectionError) (c : Inner S) (t : List Act) (p : TransportParameters) → NamesTags accepts
-        → IsDatagramTaken accepts now d old new rest retried learned end → old.peer ≡ None → new.peer ≡ Some p → is_open c.state ≡ false → Converses hello old c false t → Hears hello new c false t d
+    pub ends_it : (d rest hello : List ℕ) (old new : Handshake) (retried learned : Option (List ℕ)) (end : Option ConnectionError) (c : Inner S) (t : List Act) (p : TransportParameters) → NamesTags takes
+        → IsDatagramTaken takes now d old new rest retried learned end → old.peer ≡ None → new.peer ≡ Some p → is_open c.state ≡ false → Converses accepts sealed hello old c false t → Hears accepts sealed hello new c false t d
     ends_it d rest hello old new retried learned end c t p named taken none some shut q =
-        let on = taken_goes accepts now d rest old new retried learned end taken in
-        ends hello old new c t d p on.side on.local_id none some shut q (taken_follows accepts now d rest hello old new retried learned end q.shake named taken q.follows)
-        (taken_sends accepts now d rest hello old new retried learned end q.shake named taken q.sends)
+        let on = taken_goes takes now d rest old new retried learned end taken in
+        ends accepts sealed hello old new c t d p on.side on.local_id none some shut q (taken_follows takes now d rest hello old new retried learned end q.shake named taken q.follows)
+        (taken_sends takes now d rest hello old new retried learned end q.shake named taken q.sends)
 
-    pub ends_lost : (d hello : List ℕ) (old new : Handshake) (learned : Option (List ℕ)) (c : Inner S) (t : List Act) (p : TransportParameters) → NamesTags accepts → IsLost accepts now d old new learned
-        → old.peer ≡ None → new.peer ≡ Some p → is_open c.state ≡ false → Converses hello old c false t → Hears hello (dropping new) c false t d
+    pub ends_lost : (d hello : List ℕ) (old new : Handshake) (learned : Option (List ℕ)) (c : Inner S) (t : List Act) (p : TransportParameters) → NamesTags takes → IsLost takes now d old new learned
+        → old.peer ≡ None → new.peer ≡ Some p → is_open c.state ≡ false → Converses accepts sealed hello old c false t → Hears accepts sealed hello (dropping new) c false t d
     ends_lost d hello old new learned c t p named taken none some shut q =
-        let on = lost_goes accepts now d old new learned taken in
-        ends hello old (dropping new) c t d p on.side on.local_id none some shut q (lost_follows accepts now d hello old new learned q.shake named taken q.follows)
-        (lost_sends accepts now d hello old new learned q.shake named taken q.sends)
+        let on = lost_goes takes now d old new learned taken in
+        ends accepts sealed hello old (dropping new) c t d p on.side on.local_id none some shut q (lost_follows takes now d hello old new learned q.shake named taken q.follows)
+        (lost_sends takes now d hello old new learned q.shake named taken q.sends)
 
   -- ---- the Initial space is given up
 
-  left : (hello d : List ℕ) (h new : Handshake) (c : Inner S) (k : Bool) (t : List Act) → new.side ≡ h.side → new.local_id ≡ h.local_id → new.peer ≡ h.peer → (p : Hears hello h c k t d)
-      → FollowsShake hello new p.shake → Sends hello new p.shake → Hears hello new c k t d
+  left : (hello d : List ℕ) (h new : Handshake) (c : Inner S) (k : Bool) (t : List Act) → new.side ≡ h.side → new.local_id ≡ h.local_id → new.peer ≡ h.peer → (p : Hears accepts sealed hello h c k t d)
+      → FollowsShake hello new p.shake → Sends hello new p.shake → Hears accepts sealed hello new c k t d
   left hello d h new c k t side id peer p follows sends = record {
     shake = p.shake;
     is_shake = p.is_shake;
@@ -170,18 +187,18 @@ module _ {S : Type 0} where
     sends = sends;
     part = p.part;
     is_part = p.is_part;
-    begun = same_begun h new c p.part side id peer p.begun;
+    begun = same_begun accepts sealed h new c p.part side id peer p.begun;
     orders = same_order h new c c k (t ++ HandedIn d ∷ []) side peer refl refl p.orders;
   }
 
-  pub drops : (hello d : List ℕ) (h : Handshake) (c : Inner S) (k : Bool) (t : List Act) → Hears hello h c k t d → Hears hello (dropping h) c k t d
+  pub drops : (hello d : List ℕ) (h : Handshake) (c : Inner S) (k : Bool) (t : List Act) → Hears accepts sealed hello h c k t d → Hears accepts sealed hello (dropping h) c k t d
   drops hello d h c k t p = left hello d h (dropping h) c k t refl refl refl p (dropped_follows hello h p.shake p.follows) (dropped_sends hello h p.shake p.sends)
 
-  pub discards : (hello d : List ℕ) (h : Handshake) (c : Inner S) (k : Bool) (t : List Act) → Hears hello h c k t d → Hears hello (record (dropping h) { is_validated = true }) c k t d
+  pub discards : (hello d : List ℕ) (h : Handshake) (c : Inner S) (k : Bool) (t : List Act) → Hears accepts sealed hello h c k t d → Hears accepts sealed hello (record (dropping h) { is_validated = true }) c k t d
   discards hello d h c k t p =
       left hello d h (record (dropping h) { is_validated = true }) c k t refl refl refl p (discarded_follows hello h p.shake p.follows) (discarded_sends hello h p.shake p.sends)
 
-  pub dropped : (hello : List ℕ) (h : Handshake) (c : Inner S) (k : Bool) (t : List Act) → Converses hello h c k t → Converses hello (dropping h) c k t
+  pub dropped : (hello : List ℕ) (h : Handshake) (c : Inner S) (k : Bool) (t : List Act) → Converses accepts sealed hello h c k t → Converses accepts sealed hello (dropping h) c k t
   dropped hello h c k t p = record {
     shake = p.shake;
     is_shake = p.is_shake;
@@ -189,13 +206,13 @@ module _ {S : Type 0} where
     sends = dropped_sends hello h p.shake p.sends;
     part = p.part;
     is_part = p.is_part;
-    begun = same_begun h (dropping h) c p.part refl refl refl p.begun;
+    begun = same_begun accepts sealed h (dropping h) c p.part refl refl refl p.begun;
     orders = same_order h (dropping h) c c k t refl refl refl refl p.orders;
   }
 
   -- a server is connected by a 1-RTT packet of the client's
-  pub connects : (hello : List ℕ) (h : Handshake) (c : Inner S) (k : Bool) (t : List Act) → HasPacketOf (length c.local_id) (handed_in t) (other h.side) Data → Converses hello h c k t
-      → Converses hello (record (dropping h) { is_validated = true }) c true t
+  pub connects : (hello : List ℕ) (h : Handshake) (c : Inner S) (k : Bool) (t : List Act) → HasPacketOf (length c.local_id) (handed_in t) (other h.side) Data → Converses accepts sealed hello h c k t
+      → Converses accepts sealed hello (record (dropping h) { is_validated = true }) c true t
   connects hello h c k t has p = record {
     shake = p.shake;
     is_shake = p.is_shake;
@@ -203,13 +220,13 @@ module _ {S : Type 0} where
     sends = discarded_sends hello h p.shake p.sends;
     part = p.part;
     is_part = p.is_part;
-    begun = same_begun h (record (dropping h) { is_validated = true }) c p.part refl refl refl p.begun;
+    begun = same_begun accepts sealed h (record (dropping h) { is_validated = true }) c p.part refl refl refl p.begun;
     orders = λ n is. let o = p.orders n is in record { greeted = o.greeted; heard = λ _. has; order = o.order };
   }
 
   -- ---- what is behind the Initial packets
 
-  pub unheard : (hello d : List ℕ) (h : Handshake) (c : Inner S) (k : Bool) (t : List Act) → Hears hello h c k t d → Converses hello h c k (t ++ HandedIn d ∷ [])
+  pub unheard : (hello d : List ℕ) (h : Handshake) (c : Inner S) (k : Bool) (t : List Act) → Hears accepts sealed hello h c k t d → Converses accepts sealed hello h c k (t ++ HandedIn d ∷ [])
   unheard hello d h c k t p = record {
     shake = p.shake;
     is_shake = p.is_shake;
@@ -221,12 +238,14 @@ module _ {S : Type 0} where
     orders = p.orders;
   }
 
-  pub heard : (accepts : AcceptsTags S) (sealed : MakesTagsOf S) (hello tail d : List ℕ) (h : Handshake) (c new : Inner S) (k : Bool) (t : List Act) → AreNamed (accepts c.session)
-      → MakesTags (sealed c.session) → EndsWith tail d → IsShort tail → is_some h.peer ≡ true → IsMade accepts sealed c new (HandedIn tail ∷ []) → Hears hello h c k t d
-      → Converses hello h new k (t ++ HandedIn d ∷ [])
-  heard accepts sealed hello tail d h c new k t named makes ends short greeted made p =
+  pub heard : (hello tail d : List ℕ) (h : Handshake) (c new : Inner S) (k : Bool) (t : List Act) → AreNamed (accepts c.session) → EndsWith tail d → IsShort tail → is_some h.peer ≡ true
+      → IsMade accepts sealed c new (HandedIn tail ∷ []) → Hears accepts sealed hello h c k t d → Converses accepts sealed hello h new k (t ++ HandedIn d ∷ [])
+  heard hello tail d h c new k t named ends short greeted made p =
       let same = made.1.same_end in
-      let behaves = made_on accepts sealed c new (HandedIn tail ∷ []) p.part named makes (one_step (IsMade accepts sealed) c new (HandedIn tail ∷ []) made) p.begun.behaves in
+      let plain : MakesTagsOf S = λ _. plain_sealed keys in
+      let by_plain : IsMade accepts plain c new (HandedIn tail ∷ []) = (came_any accepts sealed plain c new tail made.0, made.1) in
+      let behaves = made_on accepts plain c new (HandedIn tail ∷ []) p.part named (λ from number bound. makes_all from Data number bound)
+      (one_step (IsMade accepts plain) c new (HandedIn tail ∷ []) by_plain) p.begun.behaves in
       record {
         shake = p.shake;
         is_shake = p.is_shake;
@@ -234,90 +253,69 @@ module _ {S : Type 0} where
         sends = p.sends;
         part = p.part ++ HandedIn tail ∷ [];
         is_part = rest_act p.part t tail d ends short p.is_part;
-        begun = acted_begun h c new p.part (HandedIn tail) same (made_opens accepts sealed c new (HandedIn tail ∷ []) made.0) behaves (short_in p.part tail p.begun.short) greeted p.begun;
+        begun = acted_begun accepts sealed h c new p.part (HandedIn tail) greeted made behaves (short_in p.part tail p.begun.short) p.begun;
         orders = same_order h h c new k (t ++ HandedIn d ∷ []) refl refl same.local_id same.remote_length p.orders;
       }
 
   -- ---- another session, other counters, or a close that is to be told again
 
-  -- the end of the 1-RTT packets is the same but for these
-  pub record IsApart (old new : Inner S) : Type 0 where
-    pub same : IsSameEnd old new
-    pub space : new.space ≡ old.space
-    pub error : new.error ≡ old.error
-    pub opens : is_open new.state ≡ true → is_open old.state ≡ true
-    pub drained : old.state ≡ Drained → new.state ≡ Drained
-
-  is_aside : (old new : Inner S) → IsApart old new → IsAside old new
-  is_aside old new a = record { same = a.same; log = old.space.log; space = a.space; opens = a.opens; drained = λ is. (a.drained is, a.error) }
-
-  apart_follows : (old new : Inner S) (t : List Act) → IsApart old new → Follows old t → Follows new t
+  apart_follows : (old new : Inner S) (t : List Act) → IsBeside old new → Follows old t → Follows new t
   unfolding Follows
-  apart_follows old new t a f = unchanged old new t a.same a.space (λ memory. a.error ∙ memory) f
+  apart_follows old new t a f = unchanged old new t (same_beside old new a) (ap (λ (z : Inner S). z.space) a.rest_is) (λ memory. ap (λ (z : Inner S). z.error) a.rest_is ∙ memory) f
 
-  apart_behaves : (old new : Inner S) (t : List Act) → IsApart old new → Behaves old t → Behaves new t
+  apart_behaves : (old new : Inner S) (t : List Act) → IsBeside old new → Behaves old t → Behaves new t
   apart_behaves old new t a b = record {
     follows = apart_follows old new t a b.follows;
     reached = aside_law old new t (is_aside old new a) b.reached;
     announced = aside_announced old new t (is_aside old new a) b.announced;
     granted = aside_granted old new (is_aside old new a) b.granted;
     sized = aside_sized old new t (is_aside old new a) b.sized;
-    filled = still_filled old new t a.same b.filled;
+    filled = still_filled old new t (same_beside old new a) b.filled;
   }
 
-  -- the new end behaves as the old one did, and is open only if that was
-  carried_begun : (h : Handshake) (old new : Inner S) (part : List Act) → IsSameEnd old new → (is_open new.state ≡ true → is_open old.state ≡ true) → Behaves new part → IsBegun h old part
-      → IsBegun h new part
-  carried_begun h old new part same opens behaves b = record {
-    side_is = same.side ∙ b.side_is;
-    id_is = same.local_id ∙ b.id_is;
-    behaves = behaves;
-    short = b.short;
-    not_yet = b.not_yet;
-    limits = λ q e up. ap (λ (z : ConnConfig). z.peer) same.config ∙ b.limits q e (opens up);
-  }
+  pub apart : (hello : List ℕ) (h : Handshake) (old new : Inner S) (k : Bool) (t : List Act) → IsBeside old new
+      → (is_some h.peer ≡ true → (accepts new.session ≡ accepts old.session) × (sealed new.session ≡ sealed old.session)) → Converses accepts sealed hello h old k t
+      → Converses accepts sealed hello h new k t
+  apart hello h old new k t a tags p =
+      let same = same_beside old new a in
+      record {
+        shake = p.shake;
+        is_shake = p.is_shake;
+        follows = p.follows;
+        sends = p.sends;
+        part = p.part;
+        is_part = p.is_part;
+        begun = beside_begun accepts sealed h old new p.part a tags (apart_behaves old new p.part a p.begun.behaves) p.begun;
+        orders = same_order h h old new k t refl refl same.local_id same.remote_length p.orders;
+      }
 
-  pub apart : (hello : List ℕ) (h : Handshake) (old new : Inner S) (k : Bool) (t : List Act) → IsApart old new → Converses hello h old k t → Converses hello h new k t
-  apart hello h old new k t a p = record {
+  -- ---- a call that hands no datagram in or out
+
+  still_begun : (h : Handshake) (c new : Inner S) (part : List Act) → IsMadeLocally c new [] → IsBegun accepts sealed h c part → IsBegun accepts sealed h new part
+  still_begun h c new part made b =
+      subst (λ (z : List Act). IsBegun accepts sealed h new z) (append-nil part)
+      (called_begun accepts sealed h c new part [] (one_step IsMadeLocally c new [] made) (subst (λ (z : List Act). AreShort z) (sym (append-nil part)) b.short) (λ _. refl) b)
+
+  pub calls : (hello d : List ℕ) (h : Handshake) (c new : Inner S) (k : Bool) (t : List Act) → IsMadeLocally c new [] → Hears accepts sealed hello h c k t d → Hears accepts sealed hello h new k t d
+  calls hello d h c new k t made p = record {
     shake = p.shake;
     is_shake = p.is_shake;
     follows = p.follows;
     sends = p.sends;
     part = p.part;
     is_part = p.is_part;
-    begun = carried_begun h old new p.part a.same a.opens (apart_behaves old new p.part a p.begun.behaves) p.begun;
-    orders = same_order h h old new k t refl refl a.same.local_id a.same.remote_length p.orders;
+    begun = still_begun h c new p.part made p.begun;
+    orders = same_order h h c new k (t ++ HandedIn d ∷ []) refl refl made.1.same_end.local_id made.1.same_end.remote_length p.orders;
   }
 
-  -- ---- a call that hands no datagram in or out
-
-  module _ (accepts : AcceptsTags S) (sealed : MakesTagsOf S) (named : (s : S) → AreNamed (accepts s)) (makes : (s : S) → MakesTags (sealed s)) where
-    called_begun : (h : Handshake) (c new : Inner S) (part : List Act) → IsMadeLocally c new [] → IsBegun h c part → IsBegun h new part
-    called_begun h c new part made b =
-        let call : IsMade accepts sealed c new [] = (local [] made.0, made.1) in
-        carried_begun h c new part made.1.same_end (made_opens accepts sealed c new [] call.0)
-        (subst (λ (z : List Act). Behaves new z) (append-nil part) (made_on accepts sealed c new [] part (named c.session) (makes c.session) (one_step (IsMade accepts sealed) c new [] call) b.behaves)) b
-
-    pub calls : (hello d : List ℕ) (h : Handshake) (c new : Inner S) (k : Bool) (t : List Act) → IsMadeLocally c new [] → Hears hello h c k t d → Hears hello h new k t d
-    calls hello d h c new k t made p = record {
-      shake = p.shake;
-      is_shake = p.is_shake;
-      follows = p.follows;
-      sends = p.sends;
-      part = p.part;
-      is_part = p.is_part;
-      begun = called_begun h c new p.part made p.begun;
-      orders = same_order h h c new k (t ++ HandedIn d ∷ []) refl refl made.1.same_end.local_id made.1.same_end.remote_length p.orders;
-    }
-
-    pub stays : (hello : List ℕ) (h : Handshake) (c new : Inner S) (k : Bool) (t : List Act) → IsMadeLocally c new [] → Converses hello h c k t → Converses hello h new k t
-    stays hello h c new k t made p = record {
-      shake = p.shake;
-      is_shake = p.is_shake;
-      follows = p.follows;
-      sends = p.sends;
-      part = p.part;
-      is_part = p.is_part;
-      begun = called_begun h c new p.part made p.begun;
-      orders = same_order h h c new k t refl refl made.1.same_end.local_id made.1.same_end.remote_length p.orders;
-    }
+  pub stays : (hello : List ℕ) (h : Handshake) (c new : Inner S) (k : Bool) (t : List Act) → IsMadeLocally c new [] → Converses accepts sealed hello h c k t → Converses accepts sealed hello h new k t
+  stays hello h c new k t made p = record {
+    shake = p.shake;
+    is_shake = p.is_shake;
+    follows = p.follows;
+    sends = p.sends;
+    part = p.part;
+    is_part = p.is_part;
+    begun = still_begun h c new p.part made p.begun;
+    orders = same_order h h c new k t refl refl made.1.same_end.local_id made.1.same_end.remote_length p.orders;
+  }

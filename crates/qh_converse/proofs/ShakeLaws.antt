@@ -27,7 +27,7 @@ shake_in u t (came shake whole d p) = handed_in_more shake d ∙ ap (λ (z : Lis
 shake_in u t (went shake whole d alone p) = handed_in_still shake (HandedOut d) refl ∙ shake_in shake whole p ∙ sym (handed_in_still whole (HandedOut d) refl)
 shake_in u t (other_act shake whole a quiet short p) = shake_in shake whole p ∙ sym (handed_in_still whole a quiet)
 
-is_handed_out : (a : Act) (d : List ℕ) → In d (out_of a) → a ≡ HandedOut d
+pub is_handed_out : (a : Act) (d : List ℕ) → In d (out_of a) → a ≡ HandedOut d
 is_handed_out (HandedIn g) d i = absurd i
 is_handed_out (HandedOut g) d i = elim i [ inl e ↦ ap HandedOut e | inr n ↦ absurd n ]
 is_handed_out (Wrote stream bytes) d i = absurd i
@@ -38,10 +38,10 @@ is_handed_out (ReadBytes stream offset bytes) d i = absurd i
 is_handed_out (ReadEnd stream) d i = absurd i
 is_handed_out (ReadReset stream code) d i = absurd i
 
-out_kept : (d : List ℕ) (t : List Act) (a : Act) → In d (handed_out t) → In d (handed_out (t ++ a ∷ []))
+pub out_kept : (d : List ℕ) (t : List Act) (a : Act) → In d (handed_out t) → In d (handed_out (t ++ a ∷ []))
 out_kept d t a i = subst (λ (z : List (List ℕ)). In d z) (sym (handed_out-append t (a ∷ []))) (in_left d (handed_out t) (handed_out (a ∷ [])) i)
 
-out_last : (d : List ℕ) (t : List Act) (g : List ℕ) → In d (g ∷ []) → In d (handed_out (t ++ HandedOut g ∷ []))
+pub out_last : (d : List ℕ) (t : List Act) (g : List ℕ) → In d (g ∷ []) → In d (handed_out (t ++ HandedOut g ∷ []))
 out_last d t g i = subst (λ (z : List (List ℕ)). In d z) (sym (handed_out-append t (HandedOut g ∷ []))) (in_right d (handed_out t) (g ∷ []) i)
 
 -- each datagram that was handed out was handed out by the handshake, or begins with a short header

@@ -1,16 +1,23 @@
 -- A step of the handshake, and of the end of the 1-RTT packets, leaves what the end stands for by what was done so far.
 use Rattle.std.proofs.Common.{◌≡◌, ℕ, Bool, true, false, List, [], ◌∷◌, ◌++◌, length, Option, Some, None, refl, sym, ap, subst, ◌∙◌}
+use Rattle.std.proofs.lemmas.List.{append-nil}
 use Rattle.std.proofs.lemmas.Option.{same_Some}
 use Rattle.std.specs.Prelude.{not, ◌&&◌, is_some}
+use Rattle.qh_conduct.proofs.BehavingEnds.{fresh_behaves}
 use Rattle.qh_conduct.specs.Behaves.{Behaves}
+use Rattle.qh_converse.proofs.AccordKept.{IsBeside, beside_accorded, fresh_accorded, locally_accorded, locally_behaves, made_accorded, shake_accorded}
+use Rattle.qh_converse.proofs.MadeOpens.{locally_opens, made_opens}
 use Rattle.qh_converse.proofs.OrderSteps.{alone_orders, quiet_orders, same_orders}
 use Rattle.qh_converse.proofs.ShakeLaws.{AreQuiet, shake_in}
-use Rattle.qh_converse.specs.Converses.{IsBegun, IsInOrder, peer_limits, progress_of}
+use Rattle.qh_converse.specs.Converses.{AccordsByTags, IsBegun, IsInOrder, peer_limits, progress_of}
 use Rattle.qh_converse.specs.Parts.{IsShakeOf}
-use Rattle.qh_core.specs.Inner.{IsSameEnd, is_client, is_open}
+use Rattle.qh_core.proofs.MadeTogether.{all_same, local_all, one_step}
+use Rattle.qh_core.specs.Follows.{Follows}
+use Rattle.qh_core.specs.Inner.{IsNewSpace, IsSameEnd, is_client, is_open}
+use Rattle.qh_core.specs.Made.{AcceptsTags, AreMadeLocally, IsMade, MakesTagsOf}
 use Rattle.qh_core.specs.declared.config.ConnConfig.{ConnConfig}
 use Rattle.qh_core.specs.declared.inner.Inner.{Inner}
-use Rattle.qh_handshake.specs.Follows.{Follows}
+use Rattle.qh_handshake.specs.Follows.{Follows as FollowsShake}
 use Rattle.qh_handshake.specs.declared.handshake.Handshake.{Handshake}
 use Rattle.qh_hello.specs.declared.transport_parameters.TransportParameters.{TransportParameters}
 use Rattle.qh_spec.proofs.HandshakeOrderLaws.{act_orders, sends_orders}
@@ -37,59 +44,96 @@ is_heard k Client server connected = let z : Client ≡ Server = server in cc
 is_heard true Server server connected = refl
 is_heard false Server server connected = cc
 
-module _ {S : Type 0} where
+module _ {S : Type 0} (accepts : AcceptsTags S) (sealed : MakesTagsOf S) where
   -- ---- the end of the 1-RTT packets
 
-  pub same_begun : (old new : Handshake) (c : Inner S) (part : List Act) → new.side ≡ old.side → new.local_id ≡ old.local_id → new.peer ≡ old.peer → IsBegun old c part → IsBegun new c part
+  pub same_begun : (old new : Handshake) (c : Inner S) (part : List Act) → new.side ≡ old.side → new.local_id ≡ old.local_id → new.peer ≡ old.peer → IsBegun accepts sealed old c part
+      → IsBegun accepts sealed new c part
   same_begun old new c part side id peer b = record {
     side_is = b.side_is ∙ sym side;
     id_is = b.id_is ∙ sym id;
     behaves = b.behaves;
+    accords = shake_accorded accepts sealed old new c part (λ greeted. ap (λ (o : Option TransportParameters). is_some o) peer ∙ greeted) b.accords;
     short = b.short;
     not_yet = λ e. b.not_yet (sym peer ∙ e);
     limits = λ p e up. b.limits p (sym peer ∙ e) up;
   }
 
-  pub made_begun : (h : Handshake) (c new : Inner S) (part acts : List Act) → IsSameEnd c new → (is_open new.state ≡ true → is_open c.state ≡ true) → Behaves new (part ++ acts)
-      → AreShort (part ++ acts) → (h.peer ≡ None → acts ≡ []) → IsBegun h c part → IsBegun h new (part ++ acts)
-  made_begun h c new part acts same opens behaves short quiet b = record {
+  made_begun : (h : Handshake) (c new : Inner S) (part acts : List Act) → IsSameEnd c new → (is_open new.state ≡ true → is_open c.state ≡ true) → Behaves new (part ++ acts)
+      → AccordsByTags accepts sealed h new (part ++ acts) → AreShort (part ++ acts) → (h.peer ≡ None → acts ≡ []) → IsBegun accepts sealed h c part → IsBegun accepts sealed h new (part ++ acts)
+  made_begun h c new part acts same opens behaves accords short quiet b = record {
     side_is = same.side ∙ b.side_is;
     id_is = same.local_id ∙ b.id_is;
     behaves = behaves;
+    accords = accords;
     short = short;
     not_yet = λ e. ap (λ (z : List Act). z ++ acts) (b.not_yet e) ∙ quiet e;
     limits = λ p e up. ap (λ (k : ConnConfig). k.peer) same.config ∙ b.limits p e (opens up);
   }
 
+  -- calls that hand no datagram in or out
+  pub called_begun : (h : Handshake) (c new : Inner S) (part acts : List Act) → AreMadeLocally c new acts → AreShort (part ++ acts) → (h.peer ≡ None → acts ≡ []) → IsBegun accepts sealed h c part
+      → IsBegun accepts sealed h new (part ++ acts)
+  called_begun h c new part acts made short quiet b =
+      made_begun h c new part acts (all_same accepts sealed c new acts (local_all accepts sealed c new acts made)).0 (locally_opens c new acts made) (locally_behaves c new acts part made b.behaves)
+      (locally_accorded accepts sealed h c new acts part made b.accords) short quiet b
+
   -- one act more, of an end that was greeted
-  pub acted_begun : (h : Handshake) (c new : Inner S) (part : List Act) (a : Act) → IsSameEnd c new → (is_open new.state ≡ true → is_open c.state ≡ true) → Behaves new (part ++ a ∷ [])
-      → AreShort (part ++ a ∷ []) → is_some h.peer ≡ true → IsBegun h c part → IsBegun h new (part ++ a ∷ [])
-  acted_begun h c new part a same opens behaves short greeted b = made_begun h c new part (a ∷ []) same opens behaves short (λ e. absurd (there h.peer greeted e)) b
+  pub acted_begun : (h : Handshake) (c new : Inner S) (part : List Act) (a : Act) → is_some h.peer ≡ true → IsMade accepts sealed c new (a ∷ []) → Behaves new (part ++ a ∷ [])
+      → AreShort (part ++ a ∷ []) → IsBegun accepts sealed h c part → IsBegun accepts sealed h new (part ++ a ∷ [])
+  acted_begun h c new part a greeted made behaves short b =
+      made_begun h c new part (a ∷ []) made.1.same_end (made_opens accepts sealed c new (a ∷ []) made.0) behaves
+      (made_accorded accepts sealed h c new (a ∷ []) part greeted (one_step (IsMade accepts sealed) c new (a ∷ []) made) b.accords) short (λ e. absurd (there h.peer greeted e)) b
+
+  -- none more, of an end that was greeted
+  pub quiet_begun : (h : Handshake) (c new : Inner S) (part : List Act) → is_some h.peer ≡ true → IsMade accepts sealed c new [] → Behaves new (part ++ []) → IsBegun accepts sealed h c part
+      → IsBegun accepts sealed h new part
+  quiet_begun h c new part greeted made behaves b =
+      subst (λ (z : List Act). IsBegun accepts sealed h new z) (append-nil part)
+      (made_begun h c new part [] made.1.same_end (made_opens accepts sealed c new [] made.0) behaves
+      (made_accorded accepts sealed h c new [] part greeted (one_step (IsMade accepts sealed) c new [] made) b.accords)
+      (subst (λ (z : List Act). AreShort z) (sym (append-nil part)) b.short) (λ e. absurd (there h.peer greeted e)) b)
 
   -- the end was greeted as its connection ended
-  pub shut_begun : (old new : Handshake) (c : Inner S) (part : List Act) → new.side ≡ old.side → new.local_id ≡ old.local_id → is_open c.state ≡ false → is_some new.peer ≡ true → IsBegun old c part
-      → IsBegun new c part
+  pub shut_begun : (old new : Handshake) (c : Inner S) (part : List Act) → new.side ≡ old.side → new.local_id ≡ old.local_id → is_open c.state ≡ false → is_some new.peer ≡ true
+      → IsBegun accepts sealed old c part → IsBegun accepts sealed new c part
   shut_begun old new c part side id shut greeted b = record {
     side_is = b.side_is ∙ sym side;
     id_is = b.id_is ∙ sym id;
     behaves = b.behaves;
+    accords = shake_accorded accepts sealed old new c part (λ _. greeted) b.accords;
     short = b.short;
     not_yet = λ e. absurd (there new.peer greeted e);
     limits = λ p e up. let z : true ≡ false = sym up ∙ shut in cc;
   }
 
   -- an end of 1-RTT packets begins with the limits of the hello that came
-  pub greeted_begun : (h : Handshake) (c : Inner S) (p : TransportParameters) → c.side ≡ h.side → c.local_id ≡ h.local_id → h.peer ≡ Some p → c.config.peer ≡ peer_limits p → Behaves c []
-      → IsBegun h c []
-  greeted_begun h c p side id peer limits behaves = record {
+  pub greeted_begun : (h : Handshake) (c : Inner S) (p : TransportParameters) → c.side ≡ h.side → c.local_id ≡ h.local_id → h.peer ≡ Some p → c.config.peer ≡ peer_limits p
+      → IsNewSpace c.config c.side c.space → Follows c [] → IsBegun accepts sealed h c []
+  greeted_begun h c p side id peer limits space follows = record {
     side_is = side;
     id_is = id;
-    behaves = behaves;
+    behaves = fresh_behaves c space follows;
+    accords = fresh_accorded accepts sealed h c space follows;
     short = λ d i. absurd i;
     not_yet = λ e. let z : None ≡ Some p = sym e ∙ peer in cc;
     limits = λ r e up. limits ∙ ap (λ (z : TransportParameters). peer_limits z) (same_Some p r (sym peer ∙ e));
   }
 
+  -- the end is the same but for its session, its counts and how far it is
+  pub beside_begun : (h : Handshake) (old new : Inner S) (part : List Act) → IsBeside old new → (is_some h.peer ≡ true → (accepts new.session ≡ accepts old.session) × (sealed new.session ≡ sealed old.session))
+      → Behaves new part → IsBegun accepts sealed h old part → IsBegun accepts sealed h new part
+  beside_begun h old new part a tags behaves b = record {
+    side_is = ap (λ (z : Inner S). z.side) a.rest_is ∙ b.side_is;
+    id_is = ap (λ (z : Inner S). z.local_id) a.rest_is ∙ b.id_is;
+    behaves = behaves;
+    accords = beside_accorded accepts sealed h old new part a tags behaves b.accords;
+    short = b.short;
+    not_yet = b.not_yet;
+    limits = λ q e up. ap (λ (z : Inner S). z.config.peer) a.rest_is ∙ b.limits q e (a.opens up);
+  }
+
+module _ {S : Type 0} where
   -- ---- the order
 
   pub same_order : (old new : Handshake) (c d : Inner S) (k : Bool) (t : List Act) → new.side ≡ old.side → new.peer ≡ old.peer → d.local_id ≡ c.local_id → length d.remote_id ≡ length c.remote_id
@@ -122,7 +166,7 @@ module _ {S : Type 0} where
 
   -- the handshake hands out one Initial packet
   pub alone_order : (hello : List ℕ) (old new : Handshake) (c : Inner S) (k : Bool) (shake t : List Act) (d : List ℕ) → new.side ≡ old.side → new.peer ≡ old.peer → IsInitialAlone d
-      → IsShakeOf shake t → Follows hello new (shake ++ HandedOut d ∷ []) → IsInOrder old c k t → IsInOrder new c k (t ++ HandedOut d ∷ [])
+      → IsShakeOf shake t → FollowsShake hello new (shake ++ HandedOut d ∷ []) → IsInOrder old c k t → IsInOrder new c k (t ++ HandedOut d ∷ [])
   alone_order hello old new c k shake t d side peer alone is_shake follows order n is =
       alone_orders (length c.local_id) n (progress_of new k) t d alone
       (λ server from payload has. subst (λ (z : List (List ℕ)). IsGreeted (length c.local_id) z (other new.side)) (shake_in shake t is_shake)

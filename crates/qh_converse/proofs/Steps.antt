@@ -7,6 +7,7 @@ use Rattle.qh_converse.proofs.StateKept.{alone_order, came_order, greeted_order,
 use Rattle.qh_converse.specs.Converses.{Converses, Hears}
 use Rattle.qh_converse.specs.Parts.IsShakeOf.{came, went}
 use Rattle.qh_core.specs.Inner.{is_open}
+use Rattle.qh_core.specs.Made.{AcceptsTags, MakesTagsOf}
 use Rattle.qh_core.specs.declared.inner.Inner.{Inner}
 use Rattle.qh_handshake.specs.Follows.{Follows}
 use Rattle.qh_handshake.specs.Handshake.{IsHandshake}
@@ -21,10 +22,10 @@ use Rattle.qh_spec.specs.Parted.{CameFrom}
 use Rattle.qh_spec.specs.Parted.IsPartOf.{initial as alone_act}
 use Rattle.qh_spec.specs.Transcript.{Act, HandedIn, HandedOut, handed_in}
 
-module _ {S : Type 0} where
+module _ {S : Type 0} (accepts : AcceptsTags S) (sealed : MakesTagsOf S) where
   -- a datagram came, by which the end isn't greeted
   pub comes : (hello : List ℕ) (old new : Handshake) (c : Inner S) (k : Bool) (t : List Act) (d : List ℕ) → new.side ≡ old.side → new.local_id ≡ old.local_id → new.peer ≡ old.peer
-      → (p : Converses hello old c k t) → Follows hello new (p.shake ++ HandedIn d ∷ []) → Sends hello new (p.shake ++ HandedIn d ∷ []) → Hears hello new c k t d
+      → (p : Converses accepts sealed hello old c k t) → Follows hello new (p.shake ++ HandedIn d ∷ []) → Sends hello new (p.shake ++ HandedIn d ∷ []) → Hears accepts sealed hello new c k t d
   comes hello old new c k t d side id peer p follows sends = record {
     shake = p.shake ++ HandedIn d ∷ [];
     is_shake = came p.shake t d p.is_shake;
@@ -32,14 +33,14 @@ module _ {S : Type 0} where
     sends = sends;
     part = p.part;
     is_part = p.is_part;
-    begun = same_begun old new c p.part side id peer p.begun;
+    begun = same_begun accepts sealed old new c p.part side id peer p.begun;
     orders = came_order old new c k t d side peer p.orders;
   }
 
   -- a datagram came, by which the end is greeted as its connection ends
   pub ends : (hello : List ℕ) (old new : Handshake) (c : Inner S) (t : List Act) (d : List ℕ) (r : TransportParameters) → new.side ≡ old.side → new.local_id ≡ old.local_id → old.peer ≡ None
-      → new.peer ≡ Some r → is_open c.state ≡ false → (p : Converses hello old c false t) → Follows hello new (p.shake ++ HandedIn d ∷ []) → Sends hello new (p.shake ++ HandedIn d ∷ [])
-      → Hears hello new c false t d
+      → new.peer ≡ Some r → is_open c.state ≡ false → (p : Converses accepts sealed hello old c false t) → Follows hello new (p.shake ++ HandedIn d ∷ []) → Sends hello new (p.shake ++ HandedIn d ∷ [])
+      → Hears accepts sealed hello new c false t d
   ends hello old new c t d r side id none some shut p follows sends =
       let is_shake = came p.shake t d p.is_shake in
       let with = follows.greeted r (length c.local_id) some in
@@ -52,13 +53,13 @@ module _ {S : Type 0} where
         sends = sends;
         part = p.part;
         is_part = p.is_part;
-        begun = shut_begun old new c p.part side id shut (ap is_some some) p.begun;
+        begun = shut_begun accepts sealed old new c p.part side id shut (ap is_some some) p.begun;
         orders = greeted_order old new c c false false t d side none (λ e. cc) refl greeted p.orders;
       }
 
   -- the handshake handed out a datagram
   pub goes : (hello : List ℕ) (old new : Handshake) (c : Inner S) (k : Bool) (t : List Act) (d : List ℕ) → new.side ≡ old.side → new.local_id ≡ old.local_id → new.peer ≡ old.peer
-      → (p : Converses hello old c k t) → Follows hello new (p.shake ++ HandedOut d ∷ []) → Sends hello new (p.shake ++ HandedOut d ∷ []) → Converses hello new c k (t ++ HandedOut d ∷ [])
+      → (p : Converses accepts sealed hello old c k t) → Follows hello new (p.shake ++ HandedOut d ∷ []) → Sends hello new (p.shake ++ HandedOut d ∷ []) → Converses accepts sealed hello new c k (t ++ HandedOut d ∷ [])
   goes hello old new c k t d side id peer p follows sends =
       let alone = honest_alone hello _ new d (sends.each p.shake [] d refl) in
       record {
@@ -68,13 +69,13 @@ module _ {S : Type 0} where
         sends = sends;
         part = p.part;
         is_part = alone_act p.part t d alone p.is_part;
-        begun = same_begun old new c p.part side id peer p.begun;
+        begun = same_begun accepts sealed old new c p.part side id peer p.begun;
         orders = alone_order hello old new c k p.shake t d side peer alone p.is_shake follows p.orders;
       }
 
   -- nothing came or went
   pub stays : (hello : List ℕ) (old new : Handshake) (c : Inner S) (k : Bool) (t : List Act) → new.side ≡ old.side → new.local_id ≡ old.local_id → new.peer ≡ old.peer
-      → (p : Converses hello old c k t) → Follows hello new p.shake → Sends hello new p.shake → Converses hello new c k t
+      → (p : Converses accepts sealed hello old c k t) → Follows hello new p.shake → Sends hello new p.shake → Converses accepts sealed hello new c k t
   stays hello old new c k t side id peer p follows sends = record {
     shake = p.shake;
     is_shake = p.is_shake;
@@ -82,12 +83,12 @@ module _ {S : Type 0} where
     sends = sends;
     part = p.part;
     is_part = p.is_part;
-    begun = same_begun old new c p.part side id peer p.begun;
+    begun = same_begun accepts sealed old new c p.part side id peer p.begun;
     orders = same_order old new c c k t side peer refl refl p.orders;
   }
 
   -- over a link that gives each end only what the other handed out their handshakes are those of two ends
-  pub are_peers : (own_hello peer_hello : List ℕ) (own peer : Handshake) (c q : Inner S) (k m : Bool) (tc tp : List Act) (mine : Converses own_hello own c k tc) (theirs : Converses peer_hello peer q m tp)
+  pub are_peers : (own_hello peer_hello : List ℕ) (own peer : Handshake) (c q : Inner S) (k m : Bool) (tc tp : List Act) (mine : Converses accepts sealed own_hello own c k tc) (theirs : Converses accepts sealed peer_hello peer q m tp)
       → peer.side ≡ other own.side → IsHandshake peer → KnowsIds own peer own.side → CameFrom tc tp → CameFrom tp tc → IsPeer own_hello peer_hello own peer mine.shake theirs.shake
   are_peers own_hello peer_hello own peer c q k m tc tp mine theirs sides whole ids to back = record {
     side_is = sides;

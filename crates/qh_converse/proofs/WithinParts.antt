@@ -1,16 +1,19 @@
--- A datagram that keeps within the limits by the part of the 1-RTT packets keeps within them by the whole.
-use Rattle.std.proofs.Common.{◌≡◌, inl, inr, ℕ, List, [], ◌∷◌, ◌++◌}
+-- What the part of the 1-RTT packets tells of the whole: a datagram that keeps within the limits by the part keeps within them by the whole.
+use Rattle.std.proofs.Common.{◌≡◌, inl, inr, ℕ, List, [], ◌∷◌, ◌++◌, refl, sym, subst}
+use Rattle.qh_converse.proofs.ShakeLaws.{is_handed_out, out_kept, out_last}
+use Rattle.qh_converse.specs.Converses.{IsDataPart}
 use Rattle.qh_core.specs.Follows.{HasFrame, IsWithinLimits, Reaches}
 use Rattle.qh_core.specs.Follows.Reaches.{run as by_run, reset as by_reset}
 use Rattle.qh_core.specs.declared.config.ConnConfig.{ConnConfig}
 use Rattle.qh_spec.proofs.Members.{in_left, in_right, in_split}
-use Rattle.qh_spec.proofs.PartLaws.{alone_has_none, ends_has, part_in, part_out}
+use Rattle.qh_spec.proofs.PartLaws.{alone_has_none, ends_has, out_more, part_finished, part_in, part_out, part_read, part_written}
 use Rattle.qh_spec.specs.Datagram.{Packet, HasPacket}
 use Rattle.qh_spec.specs.Link.{other}
 use Rattle.qh_spec.specs.Lists.{In}
 use Rattle.qh_spec.specs.Parted.{IsPartOf}
+use Rattle.qh_spec.specs.Parted.IsPartOf.{none, same, rest, unheard, initial}
 use Rattle.qh_spec.specs.QuicFrames.{QuicFrame}
-use Rattle.qh_spec.specs.Transcript.{Act, handed_in, handed_out}
+use Rattle.qh_spec.specs.Transcript.{Act, HandedIn, HandedOut, handed_in, handed_out, out_of}
 use Rattle.qh_spec.specs.declared.sides.Side.{Side}
 use Rattle.qh_spec.specs.declared.sides.Space.TheVariants.{Data}
 
@@ -65,4 +68,29 @@ within_whole own peer side config u t d p w = record {
   all_bytes = λ ends distinct reach. w.all_bytes ends distinct (λ e i. reaches_out peer u t d side e.0 e.1 p (reach e i));
   stream_bytes = w.stream_bytes;
   count = w.count;
+}
+
+-- ---- what the part tells of the whole
+
+part_went : (u t : List Act) → IsPartOf u t → (d : List ℕ) → In d (handed_out u) → In d (handed_out t)
+part_went u t none d i = absurd i
+part_went u t (same part whole a quiet p) d i =
+    elim (out_more d part a (out_of a) refl i) [
+      | inl h ↦ out_kept d whole a (part_went part whole p d h)
+      | inr h ↦ subst (λ (z : Act). In d (handed_out (whole ++ z ∷ []))) (sym (is_handed_out a d h)) (out_last d whole d (inl refl))
+    ]
+part_went u t (rest part whole tail g ends short p) d i =
+    elim (out_more d part (HandedIn tail) [] refl i) [ inl h ↦ out_kept d whole (HandedIn g) (part_went part whole p d h) | inr h ↦ absurd h ]
+part_went u t (unheard part whole g p) d i = out_kept d whole (HandedIn g) (part_went part whole p d i)
+part_went u t (initial part whole g alone p) d i = out_kept d whole (HandedOut g) (part_went part whole p d i)
+
+pub data_part : (u t : List Act) → IsPartOf u t → IsDataPart u t
+data_part u t p = record {
+  is_part = p;
+  came = λ tail i. let e = part_in u t p tail i in record { datagram = e.datagram; among = e.among; ends = e.ends };
+  went = part_went u t p;
+  all_went = part_out u t p;
+  written_is = part_written u t p;
+  finished_is = part_finished u t p;
+  read_is = part_read u t p;
 }

@@ -1,13 +1,15 @@
 ghost use Rattle.std.specs.Prelude.{◌≡◌, ◌⊎◌, ◌++◌, ◌∷◌, ℕ, Bool, true, List, [], length, Option, Some, None, is_some};
 ghost use Rattle.std.specs.declared.net.socket_addr.SocketAddr.{SocketAddr as AnAddress};
+ghost use Rattle.qh_arrival.specs.Accord.{AreTags};
 ghost use Rattle.qh_base.specs.declared.connection_error.ConnectionError.TheVariants.{TransportError as Fault, VersionMismatch};
 ghost use Rattle.qh_base.specs.declared.time.Moment.{Moment as AMoment};
 ghost use Rattle.qh_base.specs.declared.transport_error.TransportError.{TransportError as ATransportError};
 ghost use Rattle.qh_conduct.specs.Peers.{ArePeers};
 ghost use Rattle.qh_conduct.specs.Reached.{AreNamed};
-ghost use Rattle.qh_converse.specs.Converses.{Converses};
+ghost use Rattle.qh_converse.specs.Converses.{Converses, HasAccord, IsInAccordBehind};
 ghost use Rattle.qh_core.specs.Follows.{IsWithinLimits};
 ghost use Rattle.qh_core.specs.Inner.{is_open};
+ghost use Rattle.qh_core.specs.Made.{AcceptsTags, MakesTagsOf};
 ghost use Rattle.qh_core.specs.Receiving.{IsEventTaken};
 ghost use Rattle.qh_core.specs.declared.event.ConnectionEvent.TheVariants.{Datagram as ADatagram};
 ghost use Rattle.qh_core.specs.declared.inner.Inner.{Inner as AnInner};
@@ -27,32 +29,42 @@ ghost use Rattle.qh_spec.specs.Transcript.{Act, HandedOut, handed_in, handed_out
 ghost use Rattle.qh_spec.specs.declared.sides.Side.{Side as ASide};
 ghost use Rattle.qh_spec.specs.declared.sides.Space.{Space as ASpace};
 
+use qh_arrival::accords;
 use qh_conduct::behaves;
 use qh_core::lawful;
 use qh_handshake::peers;
 use qh_spec::laws::greetings::parts;
 
 /// What that means of all that was done with an end: it keeps the laws of an end; it greeted in order; each datagram is one Initial packet,
-/// or keeps within the limits that the peer had given before; the limits that it began with are those of the hello that came. And between
-/// two ends over a link that gives each only what the other handed out neither refuses what comes: not its handshake (`faults`, `versions`),
-/// nor the end of its 1-RTT packets (`open`).
+/// or keeps within the limits that the peer had given before; the limits that it began with are those of the hello that came. If the tags of
+/// its session are tags, it accords with the part of all that concerns 1-RTT packets (`accords`): so what it owes, while it is open, waits or
+/// is out, and the datagrams tell which packets it sent and which it accepted (`in_accord`). And between two ends over a link that gives each
+/// only what the other handed out neither refuses what comes: not its handshake (`faults`, `versions`), nor the end of its 1-RTT packets
+/// (`open`).
 pub fn converses<S>()
-    ensures lawful { (hello : List ℕ) (h : AHandshake) (c : AnInner S) (k : Bool) (t : List Act) → Converses hello h c k t → Lawful c.side (length c.local_id) (length c.remote_id) t }
-    ensures order { (hello : List ℕ) (h : AHandshake) (c : AnInner S) (k : Bool) (t : List Act) → Converses hello h c k t → HasGreetedInOrder (length c.local_id) (length c.remote_id) c.side t }
-    ensures within { (hello : List ℕ) (h : AHandshake) (c : AnInner S) (k : Bool) (t before after : List Act) (d : List ℕ) → Converses hello h c k t → t ≡ before ++ HandedOut d ∷ after
+    ensures lawful { (accepts : AcceptsTags S) (sealed : MakesTagsOf S) (hello : List ℕ) (h : AHandshake) (c : AnInner S) (k : Bool) (t : List Act) → Converses accepts sealed hello h c k t → Lawful c.side (length c.local_id) (length c.remote_id) t }
+    ensures order { (accepts : AcceptsTags S) (sealed : MakesTagsOf S) (hello : List ℕ) (h : AHandshake) (c : AnInner S) (k : Bool) (t : List Act) → Converses accepts sealed hello h c k t
+        → HasGreetedInOrder (length c.local_id) (length c.remote_id) c.side t }
+    ensures within { (accepts : AcceptsTags S) (sealed : MakesTagsOf S) (hello : List ℕ) (h : AHandshake) (c : AnInner S) (k : Bool) (t before after : List Act) (d : List ℕ) → Converses accepts sealed hello h c k t → t ≡ before ++ HandedOut d ∷ after
         → IsInitialAlone d ⊎ IsWithinLimits (length c.local_id) (length c.remote_id) c.side c.config before d }
-    ensures announced { (hello : List ℕ) (h : AHandshake) (c : AnInner S) (k : Bool) (t : List Act) (p : Parameters) → Converses hello h c k t → h.peer ≡ Some p
+    ensures announced { (accepts : AcceptsTags S) (sealed : MakesTagsOf S) (hello : List ℕ) (h : AHandshake) (c : AnInner S) (k : Bool) (t : List Act) (p : Parameters) → Converses accepts sealed hello h c k t → h.peer ≡ Some p
         → AreAnnouncedFirst (length c.local_id) (handed_in t) (other c.side) (limits_of p) }
-    ensures faults { (accepts : AcceptsTag) (now : AMoment) (datagram rest own_hello peer_hello : List ℕ) (own new peer : AHandshake) (c p : AnInner S) (k m : Bool) (retried learned : Option (List ℕ)) (e : ATransportError) (tc tp : List Act)
-        → NamesTags accepts → Converses own_hello own c k tc → Converses peer_hello peer p m tp → peer.side ≡ other own.side → IsHandshake peer → KnowsIds own peer own.side → CameFrom tc tp → CameFrom tp tc
-        → In datagram (handed_out tp) → IsDatagramTaken accepts now datagram own new rest retried learned (Some (Fault e)) → ⊥ }
-    ensures versions { (accepts : AcceptsTag) (now : AMoment) (datagram rest own_hello peer_hello : List ℕ) (own new peer : AHandshake) (c p : AnInner S) (k m : Bool) (retried learned : Option (List ℕ)) (tc tp : List Act)
-        → Converses own_hello own c k tc → Converses peer_hello peer p m tp → peer.side ≡ other own.side → IsHandshake peer → KnowsIds own peer own.side → CameFrom tc tp → CameFrom tp tc
-        → In datagram (handed_out tp) → IsDatagramTaken accepts now datagram own new rest retried learned (Some VersionMismatch) → ⊥ }
-    ensures open { (accepts : ASide → ASpace → ℕ → List ℕ → Bool) → AreNamed accepts → (own_hello peer_hello : List ℕ) (own peer : AHandshake) (c p new : AnInner S) (k m : Bool) (tc tp : List Act) (now : AMoment) (remote : AnAddress) (tail d : List ℕ)
-        → ArePeers c p → CameFrom tc tp → CameFrom tp tc → Converses own_hello own c k tc → Converses peer_hello peer p m tp → is_open c.state ≡ true → is_open p.state ≡ true → p.error ≡ None
-        → In d (handed_out tp) → EndsWith tail d → IsShort tail → IsEventTaken accepts (ADatagram now remote tail) c new → is_open new.state ≡ true }
+    ensures faults { (accepts : AcceptsTags S) (sealed : MakesTagsOf S) (takes : AcceptsTag) (now : AMoment) (datagram rest own_hello peer_hello : List ℕ) (own new peer : AHandshake) (c p : AnInner S) (k m : Bool) (retried learned : Option (List ℕ)) (e : ATransportError) (tc tp : List Act)
+        → NamesTags takes → Converses accepts sealed own_hello own c k tc → Converses accepts sealed peer_hello peer p m tp → peer.side ≡ other own.side → IsHandshake peer → KnowsIds own peer own.side → CameFrom tc tp → CameFrom tp tc
+        → In datagram (handed_out tp) → IsDatagramTaken takes now datagram own new rest retried learned (Some (Fault e)) → ⊥ }
+    ensures versions { (accepts : AcceptsTags S) (sealed : MakesTagsOf S) (takes : AcceptsTag) (now : AMoment) (datagram rest own_hello peer_hello : List ℕ) (own new peer : AHandshake) (c p : AnInner S) (k m : Bool) (retried learned : Option (List ℕ)) (tc tp : List Act)
+        → Converses accepts sealed own_hello own c k tc → Converses accepts sealed peer_hello peer p m tp → peer.side ≡ other own.side → IsHandshake peer → KnowsIds own peer own.side → CameFrom tc tp → CameFrom tp tc
+        → In datagram (handed_out tp) → IsDatagramTaken takes now datagram own new rest retried learned (Some VersionMismatch) → ⊥ }
+    ensures open { (accepts : AcceptsTags S) (sealed : MakesTagsOf S) (takes : ASide → ASpace → ℕ → List ℕ → Bool) → AreNamed takes
+        → (own_hello peer_hello : List ℕ) (own peer : AHandshake) (c p new : AnInner S) (k m : Bool) (tc tp : List Act) (now : AMoment) (remote : AnAddress) (tail d : List ℕ)
+        → ArePeers c p → CameFrom tc tp → CameFrom tp tc → Converses accepts sealed own_hello own c k tc → Converses accepts sealed peer_hello peer p m tp → is_open c.state ≡ true → is_open p.state ≡ true → p.error ≡ None
+        → In d (handed_out tp) → EndsWith tail d → IsShort tail → IsEventTaken takes (ADatagram now remote tail) c new → is_open new.state ≡ true }
+    ensures accords { (accepts : AcceptsTags S) (sealed : MakesTagsOf S) (hello : List ℕ) (h : AHandshake) (c : AnInner S) (k : Bool) (t : List Act) → AreTags (accepts c.session) (sealed c.session) → Converses accepts sealed hello h c k t
+        → HasAccord accepts sealed c t }
+    ensures in_accord { (accepts : AcceptsTags S) (sealed : MakesTagsOf S) (hello : List ℕ) (h : AHandshake) (c : AnInner S) (k : Bool) (t : List Act) → AreTags (accepts c.session) (sealed c.session) → is_open c.state ≡ true
+        → Converses accepts sealed hello h c k t → IsInAccordBehind accepts sealed c t }
 {
+    accords::<S>();
     behaves::<S>();
     lawful::<S>();
     parts();

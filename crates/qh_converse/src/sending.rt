@@ -25,24 +25,27 @@ use qh_handshake::follows;
 /// What an end does beside taking datagrams: the handshake's datagrams go out, and its close; the 1-RTT packets of an end that was
 /// greeted, a server's once it is connected; and what hands out no datagram.
 pub fn sends<S>()
-    ensures made { (sealed : ASide → ASpace → ℕ → List ℕ) (now : AMoment) (before after hello : List ℕ) (old new : AHandshake) (size : ℕ) (c : AnInner S) (k : Bool) (t : List Act)
-        → MakesAllTags sealed → IsHandshake old → IsDatagramMade sealed now old new before after size → Converses hello old c k t
-        → Converses hello new c k (t ++ HandedOut (drop (length before) after) ∷ []) }
-    ensures close { (sealed : ASide → ASpace → ℕ → List ℕ) (close : AClose) (before after hello : List ℕ) (old new : AHandshake) (size : ℕ) (c : AnInner S) (k : Bool) (t : List Act)
-        → MakesAllTags sealed → IsHandshake old → IsCloseMade sealed close old new before after size → Converses hello old c k t
-        → Converses hello new c k (t ++ HandedOut (drop (length before) after) ∷ []) }
+    ensures made { (accepts : AcceptsTags S) (sealed : MakesTagsOf S) (makes : ASide → ASpace → ℕ → List ℕ) (now : AMoment) (before after hello : List ℕ) (old new : AHandshake) (size : ℕ) (c : AnInner S) (k : Bool) (t : List Act)
+        → MakesAllTags makes → IsHandshake old → IsDatagramMade makes now old new before after size → Converses accepts sealed hello old c k t
+        → Converses accepts sealed hello new c k (t ++ HandedOut (drop (length before) after) ∷ []) }
+    ensures close { (accepts : AcceptsTags S) (sealed : MakesTagsOf S) (makes : ASide → ASpace → ℕ → List ℕ) (close : AClose) (before after hello : List ℕ) (old new : AHandshake) (size : ℕ) (c : AnInner S) (k : Bool) (t : List Act)
+        → MakesAllTags makes → IsHandshake old → IsCloseMade makes close old new before after size → Converses accepts sealed hello old c k t
+        → Converses accepts sealed hello new c k (t ++ HandedOut (drop (length before) after) ∷ []) }
     ensures short { (sealed : ASide → ASpace → ℕ → List ℕ) (now : AMoment) (old new : AnInner S) (before after : List ℕ) (transmit : ATransmit)
         → IsCoreDatagramMade sealed now old new before after transmit → IsShort (drop (length before) after) }
     ensures sent { (accepts : AcceptsTags S) (sealed : MakesTagsOf S) (hello d : List ℕ) (h : AHandshake) (c new : AnInner S) (k : Bool) (t : List Act)
         → AreNamed (accepts c.session) → MakesTags (sealed c.session) → IsMade accepts sealed c new (HandedOut d ∷ []) → IsShort d
-        → is_some h.peer ≡ true → (h.side ≡ Server → k ≡ true) → Converses hello h c k t → Converses hello h new k (t ++ HandedOut d ∷ []) }
+        → is_some h.peer ≡ true → (h.side ≡ Server → k ≡ true) → Converses accepts sealed hello h c k t → Converses accepts sealed hello h new k (t ++ HandedOut d ∷ []) }
     ensures called { (accepts : AcceptsTags S) (sealed : MakesTagsOf S) (hello : List ℕ) (h : AHandshake) (c new : AnInner S) (k : Bool) (acts t : List Act)
-        → AreNamed (accepts c.session) → MakesTags (sealed c.session) → AreMadeLocally c new acts → (h.peer ≡ None → acts ≡ [])
-        → Converses hello h c k t → Converses hello h new k (t ++ acts) }
-    ensures unsent { (now : AMoment) (hello : List ℕ) (old new : AHandshake) (c : AnInner S) (k : Bool) (t : List Act) → IsUnsent now old new → Converses hello old c k t → Converses hello new c k t }
-    ensures close_unsent { (hello : List ℕ) (old new : AHandshake) (c : AnInner S) (k : Bool) (t : List Act) → IsCloseUnsent old new → Converses hello old c k t → Converses hello new c k t }
-    ensures timed_out { (now : ℕ) (hello : List ℕ) (old new : AHandshake) (c : AnInner S) (k : Bool) (t : List Act) → IsTimedOut now old new → Converses hello old c k t → Converses hello new c k t }
-    ensures dropped { (hello : List ℕ) (h : AHandshake) (c : AnInner S) (k : Bool) (t : List Act) → Converses hello h c k t → Converses hello (dropping h) c k t }
+        → AreMadeLocally c new acts → (h.peer ≡ None → acts ≡ [])
+        → Converses accepts sealed hello h c k t → Converses accepts sealed hello h new k (t ++ acts) }
+    ensures unsent { (accepts : AcceptsTags S) (sealed : MakesTagsOf S) (now : AMoment) (hello : List ℕ) (old new : AHandshake) (c : AnInner S) (k : Bool) (t : List Act) → IsUnsent now old new → Converses accepts sealed hello old c k t
+        → Converses accepts sealed hello new c k t }
+    ensures close_unsent { (accepts : AcceptsTags S) (sealed : MakesTagsOf S) (hello : List ℕ) (old new : AHandshake) (c : AnInner S) (k : Bool) (t : List Act) → IsCloseUnsent old new → Converses accepts sealed hello old c k t
+        → Converses accepts sealed hello new c k t }
+    ensures timed_out { (accepts : AcceptsTags S) (sealed : MakesTagsOf S) (now : ℕ) (hello : List ℕ) (old new : AHandshake) (c : AnInner S) (k : Bool) (t : List Act) → IsTimedOut now old new → Converses accepts sealed hello old c k t
+        → Converses accepts sealed hello new c k t }
+    ensures dropped { (accepts : AcceptsTags S) (sealed : MakesTagsOf S) (hello : List ℕ) (h : AHandshake) (c : AnInner S) (k : Bool) (t : List Act) → Converses accepts sealed hello h c k t → Converses accepts sealed hello (dropping h) c k t }
 {
     behaves_on::<S>();
     follows();

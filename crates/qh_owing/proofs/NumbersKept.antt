@@ -1,19 +1,15 @@
--- What a space remembers of the packet numbers that it accepted: nothing at first, and no more where it accepts no packet.
-use Rattle.std.proofs.Common.{◌≡◌, ℕ, ◌-◌, nat_lt, Bool, true, false, List, [], length, Option, Some, None, refl, ap, ◌∙◌, inl, inr}
+-- What a space remembers of the packet numbers that it accepted: no more where it accepts no packet.
+use Rattle.std.proofs.Common.{◌≡◌, ℕ, ◌-◌, nat_lt, Bool, true, false, List, length, Option, Some, None, refl, ap, ◌∙◌}
 use Rattle.std.specs.Prelude.{MatchBool}
 use Rattle.qh_base.specs.declared.connection_error.ConnectionError.{ConnectionError}
-use Rattle.qh_base.specs.declared.connection_error.ConnectionError.TheVariants.{Memory}
-use Rattle.qh_core.specs.Follows.{Follows}
 use Rattle.qh_core.specs.Receiving.{AreFramesTaken}
 use Rattle.qh_core.specs.Receiving.AreFramesTaken.{none as none_taken, more as more_taken, closed as closed_by, refused as refused_at}
 use Rattle.qh_core.specs.Timers.{AreLostByAge, IsProbed}
 use Rattle.qh_core.specs.Timers.AreLostByAge.{due as due_lost, not_yet as none_lost}
 use Rattle.qh_core.specs.Timers.IsProbed.{due as due_probe, not_yet as no_probe}
-use Rattle.qh_core.specs.declared.inner.Inner.{Inner}
 use Rattle.qh_frame.specs.declared.frame.Frame.{Frame}
 use Rattle.qh_loss.specs.declared.probe.Probe.{Probe}
 use Rattle.qh_loss.specs.declared.probe.Probe.TheVariants as probe
-use Rattle.qh_recovery.specs.Accepted.{Remembers}
 use Rattle.qh_recovery.specs.declared.sent_packets.SentPacket.{SentPacket}
 use Rattle.qh_space.specs.Receiving.{IsFrameTaken}
 use Rattle.qh_space.specs.Receiving.IsFrameTaken.{passive, streams as of_streams, ack as of_ack, challenge, close}
@@ -21,7 +17,6 @@ use Rattle.qh_space.specs.Sending.{AreElicitingPut, IsPacketMade, may_elicit, wi
 use Rattle.qh_space.specs.Timers.{pings_after}
 use Rattle.qh_space.specs.declared.data_space.DataSpace.{DataSpace}
 use Rattle.qh_streams.specs.declared.frames.SentFrame.{SentFrame}
-use Rattle.qh_transcript.proofs.ReceivingLists.{none_some}
 
 -- the space remembers what it did
 abbrev pub HasSameNumbers : (old new : DataSpace) → Type 0
@@ -71,12 +66,3 @@ aged_same now old new (none_lost later e) = ap (λ (s : DataSpace). s.dedup) e
 pub probed_same : (now : ℕ) (old new : DataSpace) → IsProbed now old new → HasSameNumbers old new
 probed_same now old new (due_probe moment is before due) = ap (λ (s : DataSpace). s.dedup) due.rest_is ∙ pings_same due.probe _
 probed_same now old new (no_probe later e) = ap (λ (s : DataSpace). s.dedup) e
-
--- ---- at first
-
-module _ {S : Type 0} where
-  pub none_accepted : (c : Inner S) → c.error ≡ None → Follows c [] → Remembers [] c.space.dedup
-  unfolding Follows
-  none_accepted c fine f =
-      let is : c.space ≡ f.space = elim f.is_space [ inl failed ↦ none_some _ c.error Memory fine failed | inr same ↦ same ] in
-      rw is (record { agrees = λ n near. let a = f.remembers.agrees n (λ m among. absurd (f.numbers m among).among) in (λ has. (f.numbers n (a.0 has)).among, λ among. absurd among) })

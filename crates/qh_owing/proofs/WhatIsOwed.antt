@@ -4,14 +4,12 @@ use Rattle.std.proofs.lemmas.Bool.{both_ways, false≢true, lt-ltb}
 use Rattle.qh_buffers.specs.SendBuffer.{PlainSendBuffer, is_queued, mark_at, taken_to, waits}
 use Rattle.qh_buffers.specs.declared.send_buffer.Mark.{Mark}
 use Rattle.qh_buffers.specs.declared.send_buffer.Mark.TheVariants.{Sent, Queued, Acked}
-use Rattle.qh_core.specs.Follows.{Follows}
 use Rattle.qh_core.specs.Inner.{IsNewSpace, is_open}
 use Rattle.qh_core.specs.declared.inner.Inner.{Inner}
 use Rattle.qh_half.specs.Send.{PlainSend, is_end_acked, is_end_queued, is_finished, is_reset}
 use Rattle.qh_half.specs.declared.send.SendState.{SendState}
 use Rattle.qh_half.specs.declared.send.SendState.TheVariants.{Ready, DataSent, ResetSent}
 use Rattle.qh_halves.specs.SendHalves.{half_in, send_at}
-use Rattle.qh_owing.proofs.NumbersKept.{none_accepted}
 use Rattle.qh_owing.specs.Owing.{AreInPackets, AreOutCarried, IsByteOut, IsEndOut, IsFrameCarried, IsInPacket, IsByteKept, IsByteToCome, IsConfirmed, IsEndKept, IsEndToCome, KeepsStream, KeepsWhatIsOwed, Owes}
 use Rattle.qh_packet.specs.Session.{AcceptsTag}
 use Rattle.qh_owing.specs.Owing.AreAccepted.{none as none_at_first}
@@ -126,16 +124,16 @@ none_kept_end X None e (inr there) = absurd there
 none_kept_end X (Some h) e is = absurd (cc)
 
 module _ {S : Type 0} (accepts : AcceptsTag) where
-  pub fresh : (c : Inner S) → IsNewSpace c.config c.side c.space → c.error ≡ None → Follows c [] → Owes accepts c []
+  pub fresh : (c : Inner S) → IsNewSpace c.config c.side c.space → Owes accepts c []
   unfolding Owes
-  fresh c is_new fine follows =
+  fresh c is_new =
       let none : (id : ℕ) → send_at c.space.streams.send id ≡ None = λ id. ap (λ (l : List (ℕ × PlainSend)). half_in l id) is_new.no_half.send in (
         [],
         record {
           come = λ p among. absurd among;
           once = tt;
           are = λ up. none_at_first;
-          remembers = λ up. none_accepted c fine follows;
+          remembers = λ up. is_new.remembers;
           space = λ up. record {
             kept = record {
               streams = λ id. rw (none id) (record { half = tt; bytes = λ not k below. absurd (omega (arith, below)); end = λ not was. absurd (false≢true was) });

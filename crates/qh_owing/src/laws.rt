@@ -7,7 +7,7 @@ ghost use Rattle.qh_base.specs.declared.stream_id.StreamId.{StreamId as AStreamI
 ghost use Rattle.qh_base.specs.declared.time.Moment.{Moment as AMoment};
 ghost use Rattle.qh_buffers.specs.declared.assembler.Chunk.{Chunk as AChunk};
 ghost use Rattle.qh_core.specs.Event.{IsDrainedTold, IsPolledEvent};
-ghost use Rattle.qh_core.specs.Follows.{Follows, event_acts, transmit_acts, write_acts, write_chunks_acts, finish_acts, reset_by_acts, stop_acts, take_acts, received_reset_acts};
+ghost use Rattle.qh_core.specs.Follows.{event_acts, transmit_acts, write_acts, write_chunks_acts, finish_acts, reset_by_acts, stop_acts, take_acts, received_reset_acts};
 ghost use Rattle.qh_core.specs.Inner.{IsFailedBy, IsNewSpace, is_open, with_streams};
 ghost use Rattle.qh_core.specs.Made.{AcceptsTags, MakesTagsOf, AreMade, IsTurned};
 ghost use Rattle.qh_core.specs.Receiving.{IsClosedWith, IsEventTaken, received};
@@ -46,7 +46,7 @@ pub fn owing<S>()
     ensures owed { (accepts : AcceptsTag) (c : AnInner S) (t : List Act) → is_open c.state ≡ true → Owes accepts c t → KeepsWhatIsOwed accepts c t }
     ensures confirmed { (accepts : AcceptsTag) (c : AnInner S) (t : List Act) (stream : ℕ) → is_open c.state ≡ true → Owes accepts c t → finished t stream ≡ true → was_reset t stream ≡ false
         → send_at c.space.streams.send stream ≡ None → IsConfirmed accepts c t stream }
-    ensures fresh { (accepts : AcceptsTag) (c : AnInner S) → IsNewSpace c.config c.side c.space → c.error ≡ None → Follows c [] → Owes accepts c [] }
+    ensures fresh { (accepts : AcceptsTag) (c : AnInner S) → IsNewSpace c.config c.side c.space → Owes accepts c [] }
     ensures event { (accepts : AcceptsTag) (event : AConnectionEvent) (result : Result Unit OutOfMemory) (old new : AnInner S) (t : List Act)
         → NamesTags accepts → OnOk result (IsEventTaken accepts event old new) → OnErr result (IsFailedBy (received event old) new)
         → Owes accepts old t → Owes accepts new (t ++ event_acts event) }

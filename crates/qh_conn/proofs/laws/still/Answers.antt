@@ -1,9 +1,7 @@
-use Rattle.std.proofs.Common.{◌≡◌, inl, inr, ℕ, Bool, true, false, List, [], length, refl, sym, ap, subst, ◌∙◌, arith}
+use Rattle.std.proofs.Common.{◌≡◌, inl, inr, Bool, true, false, List, [], length, refl, sym, ap, subst, ◌∙◌}
 use Rattle.std.proofs.lemmas.List.{append-nil}
 use Rattle.std.specs.Prelude.{is_some}
-use Rattle.qh_conduct.specs.Announced.{MakesTags}
-use Rattle.qh_conduct.specs.Reached.{AreNamed}
-use Rattle.qh_converse.proofs.MadeOpens.{made_opens}
+use Rattle.qh_converse.proofs.MadeOpens.{locally_opens}
 use Rattle.qh_converse.specs.Converses.{Converses}
 use Rattle.qh_control.specs.Control.{IsSendable}
 use Rattle.qh_control.specs.declared.control.ControlState.{ControlState}
@@ -11,42 +9,26 @@ use Rattle.qh_core.proofs.MadeTogether.{one_step}
 use Rattle.qh_core.specs.Inner.{is_open}
 use Rattle.qh_core.specs.declared.config.ConnConfig.{ConnConfig as CoreConfig}
 use Rattle.qh_core.specs.Made.{IsMadeLocally}
-use Rattle.qh_core.specs.Made.IsAnyCall.{local}
 use Rattle.qh_core.specs.Made.IsLocalCall.{on_streams}
 use Rattle.qh_handshake.specs.Handshake.{IsHandshake}
 use Rattle.qh_handshake.specs.declared.handshake.Handshake.{Handshake}
-use Rattle.qh_packet.specs.Session.{PlainKeys, plain_sealed}
 use Rattle.qh_spec.specs.Transcript.{Act}
 use Rattle.qh_spec.specs.declared.sides.Side.{Side}
-use Rattle.qh_spec.specs.declared.sides.Space.{Space}
-use Rattle.qh_spec.specs.declared.sides.Space.TheVariants.{Data}
 use Rattle.qh_conn.proofs.laws.still.Goals as goal
-
--- a session that takes nothing for a tag, and one that makes those of an empty key
-abbrev takes_none : {S : Type 0} → S → Side → Space → ℕ → List ℕ → Bool
-takes_none s from space number tag = false
-
-abbrev no_key : PlainKeys
-no_key = record { key_id = []; server_name = []; knows_name = false }
-
-abbrev makes_plain : {S : Type 0} → S → Side → Space → ℕ → List ℕ
-makes_plain s = plain_sealed no_key
 
 stays_shut : (old new : Bool) → (new ≡ true → old ≡ true) → old ≡ false → new ≡ false
 stays_shut old false opens shut = refl
 stays_shut old true opens shut = let z : true ≡ false = sym (opens refl) ∙ shut in cc
 
 pub returns-clause-stands : goal.returns-clause-stands
-returns-clause-stands g c = λ hello h x new k t made p.
-    let named : AreNamed (takes_none x.session) = λ from space number tag bound e. let z : false ≡ true = e in cc in
-    let makes : MakesTags (makes_plain x.session) = λ from number bound. c.plain_tags.ensures.makes no_key (omega arith) from Data number bound in
-    subst (λ (z : List Act). Converses hello h new k z) (append-nil t)
-    (c.sends.ensures.called takes_none makes_plain hello h x new k [] t named makes (one_step IsMadeLocally x new [] made) (λ _. refl) p)
+returns-clause-stands g c = λ accepts sealed hello h x new k t made p.
+    subst (λ (z : List Act). Converses accepts sealed hello h new k z) (append-nil t)
+    (c.sends.ensures.called accepts sealed hello h x new k [] t (one_step IsMadeLocally x new [] made) (λ _. refl) p)
 
 pub returns-clause-whole : goal.returns-clause-whole
 returns-clause-whole g c = λ old new same made whole.
     let end = made.1.same_end in
-    let opens = made_opens takes_none makes_plain old.core new.core [] (local [] made.0) in
+    let opens = locally_opens old.core new.core [] (one_step IsMadeLocally old.core new.core [] made) in
     record {
       sound = record {
         handshake = subst (λ (z : Handshake). IsHandshake z) (sym same.handshake) whole.sound.handshake;
@@ -67,7 +49,7 @@ returns-clause-whole g c = λ old new same made whole.
     }
 
 pub returns-clause-streams_stand : goal.returns-clause-streams_stand
-returns-clause-streams_stand g c = λ hello h x new k t made p. returns-clause-stands g c hello h x new k t (on_streams [] made.0, made.1) p
+returns-clause-streams_stand g c = λ accepts sealed hello h x new k t made p. returns-clause-stands g c accepts sealed hello h x new k t (on_streams [] made.0, made.1) p
 
 pub returns-clause-streams_whole : goal.returns-clause-streams_whole
 returns-clause-streams_whole g c = λ old new same made whole. returns-clause-whole g c old new same (on_streams [] made.0, made.1) whole

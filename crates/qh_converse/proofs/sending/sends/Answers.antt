@@ -1,10 +1,9 @@
 use Rattle.std.proofs.Common.{◌≡◌, ℕ, List, [], ◌∷◌, ◌++◌, length, drop, refl, ap, subst}
 use Rattle.qh_converse.proofs.HandshakeDatagrams.{close_unsent_still, dropped_follows, dropped_sends, timed_still, unsent_still}
-use Rattle.qh_converse.proofs.MadeOpens.{locally_opens, made_opens}
 use Rattle.qh_converse.proofs.MadeQuietly.{locally_quiet}
 use Rattle.qh_converse.proofs.ShakeLaws.{part_quiet, shake_quiet, short_out, short_quiet}
 use Rattle.qh_converse.proofs.ShortDatagrams.{short_made}
-use Rattle.qh_converse.proofs.StateKept.{acted_begun, made_begun, quiet_order, same_order, sent_order}
+use Rattle.qh_converse.proofs.StateKept.{acted_begun, called_begun, quiet_order, same_order, sent_order}
 use Rattle.qh_converse.proofs.Steps.{goes, stays}
 use Rattle.qh_converse.specs.Parts.IsShakeOf.{other as other_act}
 use Rattle.qh_core.proofs.MadeTogether.{all_same, local_all, one_step}
@@ -17,16 +16,16 @@ use Rattle.qh_spec.specs.Transcript.{HandedOut}
 use Rattle.qh_converse.proofs.sending.sends.Goals as goal
 
 pub returns-clause-made : goal.returns-clause-made
-returns-clause-made g c = λ sealed now before after hello old new size x k t makes whole made p.
-    goes hello old new x k t (drop (length before) after) (ap (λ (z : Handshake). z.side) made.new_is) (ap (λ (z : Handshake). z.local_id) made.new_is) (ap (λ (z : Handshake). z.peer) made.new_is) p
-    (c.follows.ensures.made sealed now before after hello old new size p.shake makes whole made p.follows)
-    (c.sends.ensures.made sealed now before after hello old new size p.shake makes whole made p.follows p.sends)
+returns-clause-made g c = λ accepts sealed makes_it now before after hello old new size x k t makes whole made p.
+    goes accepts sealed hello old new x k t (drop (length before) after) (ap (λ (z : Handshake). z.side) made.new_is) (ap (λ (z : Handshake). z.local_id) made.new_is) (ap (λ (z : Handshake). z.peer) made.new_is) p
+    (c.follows.ensures.made makes_it now before after hello old new size p.shake makes whole made p.follows)
+    (c.sends.ensures.made makes_it now before after hello old new size p.shake makes whole made p.follows p.sends)
 
 pub returns-clause-close : goal.returns-clause-close
-returns-clause-close g c = λ sealed close before after hello old new size x k t makes whole made p.
-    goes hello old new x k t (drop (length before) after) (ap (λ (z : Handshake). z.side) made.new_is) (ap (λ (z : Handshake). z.local_id) made.new_is) (ap (λ (z : Handshake). z.peer) made.new_is) p
-    (c.follows.ensures.closed sealed close before after hello old new size p.shake makes whole made p.follows)
-    (c.sends.ensures.closed sealed close before after hello old new size p.shake makes whole made p.sends)
+returns-clause-close g c = λ accepts sealed makes_it close before after hello old new size x k t makes whole made p.
+    goes accepts sealed hello old new x k t (drop (length before) after) (ap (λ (z : Handshake). z.side) made.new_is) (ap (λ (z : Handshake). z.local_id) made.new_is) (ap (λ (z : Handshake). z.peer) made.new_is) p
+    (c.follows.ensures.closed makes_it close before after hello old new size p.shake makes whole made p.follows)
+    (c.sends.ensures.closed makes_it close before after hello old new size p.shake makes whole made p.sends)
 
 pub returns-clause-short : goal.returns-clause-short
 returns-clause-short g c = λ sealed now old new before after transmit made. short_made sealed now old new before after transmit made
@@ -42,15 +41,14 @@ returns-clause-sent g c = λ accepts sealed hello d h x new k t named makes made
       sends = p.sends;
       part = p.part ++ HandedOut d ∷ [];
       is_part = same_act p.part t (HandedOut d) refl p.is_part;
-      begun = acted_begun h x new p.part (HandedOut d) same (made_opens accepts sealed x new (HandedOut d ∷ []) made.0) behaves (short_out p.part d short p.begun.short) greeted p.begun;
+      begun = acted_begun accepts sealed h x new p.part (HandedOut d) greeted made behaves (short_out p.part d short p.begun.short) p.begun;
       orders = sent_order h x new k t d greeted connected same.local_id same.remote_length p.orders;
     }
 
 pub returns-clause-called : goal.returns-clause-called
-returns-clause-called g c = λ accepts sealed hello h x new k acts t named makes made none p.
+returns-clause-called g c = λ accepts sealed hello h x new k acts t made none p.
     let silent = locally_quiet x new acts made in
-    let all = local_all accepts sealed x new acts made in
-    let same = (all_same accepts sealed x new acts all).0 in
+    let same = (all_same accepts sealed x new acts (local_all accepts sealed x new acts made)).0 in
     record {
       shake = p.shake;
       is_shake = shake_quiet acts p.shake t silent p.is_shake;
@@ -58,26 +56,25 @@ returns-clause-called g c = λ accepts sealed hello h x new k acts t named makes
       sends = p.sends;
       part = p.part ++ acts;
       is_part = part_quiet acts p.part t silent p.is_part;
-      begun = made_begun h x new p.part acts same (locally_opens x new acts made) (c.behaves_on.ensures accepts sealed x new acts p.part named makes all p.begun.behaves)
-          (short_quiet acts p.part silent p.begun.short) none p.begun;
+      begun = called_begun accepts sealed h x new p.part acts made (short_quiet acts p.part silent p.begun.short) none p.begun;
       orders = quiet_order h new k acts t silent (same_order h h x new k t refl refl same.local_id same.remote_length p.orders);
     }
 
 pub returns-clause-unsent : goal.returns-clause-unsent
-returns-clause-unsent g c = λ now hello old new x k t is p.
+returns-clause-unsent g c = λ accepts sealed now hello old new x k t is p.
     let s = unsent_still now old new is in
-    stays hello old new x k t s.side s.id s.peer p (c.follows.ensures.unsent now hello old new p.shake is p.follows) (c.sends.ensures.unsent now hello old new p.shake is p.sends)
+    stays accepts sealed hello old new x k t s.side s.id s.peer p (c.follows.ensures.unsent now hello old new p.shake is p.follows) (c.sends.ensures.unsent now hello old new p.shake is p.sends)
 
 pub returns-clause-close_unsent : goal.returns-clause-close_unsent
-returns-clause-close_unsent g c = λ hello old new x k t is p.
+returns-clause-close_unsent g c = λ accepts sealed hello old new x k t is p.
     let s = close_unsent_still old new is in
-    stays hello old new x k t s.side s.id s.peer p (c.follows.ensures.close_unsent hello old new p.shake is p.follows) (c.sends.ensures.close_unsent hello old new p.shake is p.sends)
+    stays accepts sealed hello old new x k t s.side s.id s.peer p (c.follows.ensures.close_unsent hello old new p.shake is p.follows) (c.sends.ensures.close_unsent hello old new p.shake is p.sends)
 
 pub returns-clause-timed_out : goal.returns-clause-timed_out
-returns-clause-timed_out g c = λ now hello old new x k t is p.
+returns-clause-timed_out g c = λ accepts sealed now hello old new x k t is p.
     let s = timed_still now old new is in
-    stays hello old new x k t s.side s.id s.peer p (c.follows.ensures.timed_out now hello old new p.shake is p.follows) (c.sends.ensures.timed_out now hello old new p.shake is p.sends)
+    stays accepts sealed hello old new x k t s.side s.id s.peer p (c.follows.ensures.timed_out now hello old new p.shake is p.follows) (c.sends.ensures.timed_out now hello old new p.shake is p.sends)
 
 pub returns-clause-dropped : goal.returns-clause-dropped
-returns-clause-dropped g c = λ hello h x k t p.
-    stays hello h (dropping h) x k t refl refl refl p (dropped_follows hello h p.shake p.follows) (dropped_sends hello h p.shake p.sends)
+returns-clause-dropped g c = λ accepts sealed hello h x k t p.
+    stays accepts sealed hello h (dropping h) x k t refl refl refl p (dropped_follows hello h p.shake p.follows) (dropped_sends hello h p.shake p.sends)

@@ -16,7 +16,7 @@ returns c =
     let made = c.new-2.ensures in
     record {
       end = new_end _ _ _ _ _ _ made.value (record { side_is = refl; local = ids.lengths.0; remote = ids.lengths.1; config_is = refl; short = key_short _ c.in_ok-session.session c.in_ok-session.session c.key_id.ensures.value refl c.key_id.ensures.short }) made.space
-          (λ space. c.accords.ensures.fresh (plain_accepts c.new-2.result.session) (plain_sealed c.new-2.result.session) c.new-2.result space (ap (λ (z : End). z.error) made.value) made.follows) refl refl refl;
+          (λ space. c.accords.ensures.fresh (plain_accepts c.new-2.result.session) (plain_sealed c.new-2.result.session) c.new-2.result space made.follows) refl refl refl;
       names = record {
         local_is = ap (λ (z : End). z.local_id) made.value ∙ ids.are.0;
         remote_is = ap (λ (z : End). length z.remote_id) made.value ∙ ap length ids.are.1;

@@ -5,7 +5,7 @@ use Rattle.qh_conn.proofs.connection.Connection.accept.Goals as goal
 pub returns-clause-stands : goal.returns-clause-stands
 returns-clause-stands g c =
     let e = c.accept.ensures in
-    λ hello t p. c.still.ensures.streams_stand hello c.args.self.now.handshake c.args.self.now.core c.accept.new.self c.args.self.now.is_connected t
+    λ accepts sealed hello t p. c.still.ensures.streams_stand accepts sealed hello c.args.self.now.handshake c.args.self.now.core c.accept.new.self c.args.self.now.is_connected t
     (c.made.ensures.accept c.args.dir c.accept.result c.args.self.now.core c.accept.new.self (IfSome_then c.accept.result e.some (λ _ h. h.1)) (IfSome_then c.accept.result e.some (λ _ h. h.2)) (λ n. (e.none n).1) e.follows) p
 
 pub returns-clause-whole : goal.returns-clause-whole

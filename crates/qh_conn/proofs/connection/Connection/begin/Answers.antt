@@ -10,12 +10,12 @@ use Rattle.qh_spec.specs.declared.sides.Side.{Side}
 use Rattle.qh_conn.proofs.connection.Connection.begin.Goals as goal
 
 pub returns-clause-hears : goal.returns-clause-hears
-returns-clause-hears g c = λ m client hello d before t r none.
+returns-clause-hears g c = λ accepts sealed m client hello d before t r none.
     let self = c.args.self.now in
     let core = c.greet-2.new.self in
     let e = c.greet-2.ensures in
-    c.set_early.ensures.hears hello d self.handshake m t
-    (greets r.accepts r.now d r.rest hello before self.handshake r.retried r.learned r.end self.core core self.is_connected m t c.args.peer r.named r.taken none c.requires.greeted e.space e.follows
+    c.set_early.ensures.hears accepts sealed hello d self.handshake m t
+    (greets accepts sealed r.takes r.now d r.rest hello before self.handshake r.retried r.learned r.end self.core core self.is_connected m t c.args.peer r.named r.taken none c.requires.greeted e.space e.follows
     (ap (λ (z : Inner _). z.config.peer) e.rest ∙ c.peer_limits.ensures) (ap (λ (z : Inner _). z.side) e.rest) (ap (λ (z : Inner _). z.local_id) e.rest) client r.stood)
 
 pub returns-clause-sound : goal.returns-clause-sound

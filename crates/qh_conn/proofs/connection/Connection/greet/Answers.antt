@@ -2,6 +2,7 @@ use Rattle.std.proofs.Common.{◌≡◌, ℕ, Bool, true, false, List, [], ◌�
 use Rattle.qh_base.specs.declared.time.Moment.{Moment}
 use Rattle.qh_conn.specs.Greeting.{IsBegunBy, IsGreetedNow, connected, with_core}
 use Rattle.qh_conn.specs.declared.connection.Connection.{Connection}
+use Rattle.qh_core.specs.Made.{AcceptsTags, MakesTagsOf}
 use Rattle.qh_core.specs.declared.inner.Inner.{Inner}
 use Rattle.qh_hello.specs.declared.transport_parameters.TransportParameters.{TransportParameters}
 use Rattle.qh_core.specs.Inner.{is_client}
@@ -28,9 +29,9 @@ module _ {S : Type 0} where
     new_is = new_is ∙ ap (behind now old begun.core peer) (sym side_is ∙ ap (λ (z : Connection S). z.handshake.side) rest);
   }
 
-  begun_hears : (old begun : Connection S) (hello : List ℕ) (t : List Act) (d : List ℕ) (m : Bool) (peer : TransportParameters) → begun ≡ with_core old begun.core peer
-      → Hears hello old.handshake begun.core m t d → Hears hello begun.handshake begun.core m t d
-  begun_hears old begun hello t d m peer is p = subst (λ (z : Handshake). Hears hello z begun.core m t d) (sym (ap (λ (z : Connection S). z.handshake) is)) p
+  begun_hears : (accepts : AcceptsTags S) (sealed : MakesTagsOf S) (old begun : Connection S) (hello : List ℕ) (t : List Act) (d : List ℕ) (m : Bool) (peer : TransportParameters) → begun ≡ with_core old begun.core peer
+      → Hears accepts sealed hello old.handshake begun.core m t d → Hears accepts sealed hello begun.handshake begun.core m t d
+  begun_hears accepts sealed old begun hello t d m peer is p = subst (λ (z : Handshake). Hears accepts sealed hello z begun.core m t d) (sym (ap (λ (z : Connection S). z.handshake) is)) p
 
   side_of : (old begun : Connection S) (peer : TransportParameters) → begun ≡ with_core old begun.core peer → old.handshake.side ≡ begun.handshake.side
   side_of old begun peer is = sym (ap (λ (z : Connection S). z.handshake.side) is)
@@ -47,31 +48,31 @@ returns-in-Server-clause-some g c = λ _.
     greeted c.args.now c.args.self.now c.begin.new.self c.begin.new.self c.in-Some.peer Server c.in-Some.is e.core e.rest c.in-Server.is e.rest
 
 pub returns-in_default-clause-hears : goal.returns-in_default-clause-hears
-returns-in_default-clause-hears g c = λ hello d before t r none. (read_unknown hello before t d c.args.self.now none c.in_default.is r, tt)
+returns-in_default-clause-hears g c = λ accepts sealed hello d before t r none. (read_unknown accepts sealed hello before t d c.args.self.now none c.in_default.is r, tt)
 
 pub returns-in_err-begin-clause-hears : goal.returns-in_err-begin-clause-hears
-returns-in_err-begin-clause-hears g c = λ hello d before t r none.
+returns-in_err-begin-clause-hears g c = λ accepts sealed hello d before t r none.
     failing _ _ c.from_residual.result c.from_residual.ensures.0
-    (subst (λ (z : Connection _). FailsTo hello z (t ++ HandedIn d ∷ [])) (sym c.in_err-begin.ensures.err) (read_fails hello before t d c.args.self.now (λ _. c.requires.first.0) r))
+    (subst (λ (z : Connection _). FailsTo accepts sealed hello z (t ++ HandedIn d ∷ [])) (sym c.in_err-begin.ensures.err) (read_fails accepts sealed hello before t d c.args.self.now (λ _. c.requires.first.0) r))
 
 pub returns-in_err-connect-in-Client-clause-hears : goal.returns-in_err-connect-in-Client-clause-hears
-returns-in_err-connect-in-Client-clause-hears g c = λ hello d before t r none.
+returns-in_err-connect-in-Client-clause-hears g c = λ accepts sealed hello d before t r none.
     let new = c.connect.new.self in
     let is = c.in_err-connect-in-Client.ensures.err in
-    let hears = begun_hears c.args.self.now c.begin.new.self hello t d true c.in-Some.peer c.in_ok-begin.ensures.rest (c.in_ok-begin.ensures.hears true (λ _. side_of c.args.self.now c.begin.new.self c.in-Some.peer c.in_ok-begin.ensures.rest ∙ c.in-Client.is) hello d before t r none) in
+    let hears = begun_hears accepts sealed c.args.self.now c.begin.new.self hello t d true c.in-Some.peer c.in_ok-begin.ensures.rest (c.in_ok-begin.ensures.hears accepts sealed true (λ _. side_of c.args.self.now c.begin.new.self c.in-Some.peer c.in_ok-begin.ensures.rest ∙ c.in-Client.is) hello d before t r none) in
     failing _ _ c.from_residual-in_err-connect-in-Client.result c.from_residual-in_err-connect-in-Client.ensures.0
-    (hears_fails hello new t d
-    (discarded_hears hello c.begin.new.self new t d (ap (λ (z : Connection _). z.handshake) is) (ap (λ (z : Connection _). z.core) is) (ap (λ (z : Connection _). z.is_connected) is) hears))
+    (hears_fails accepts sealed hello new t d
+    (discarded_hears accepts sealed hello c.begin.new.self new t d (ap (λ (z : Connection _). z.handshake) is) (ap (λ (z : Connection _). z.core) is) (ap (λ (z : Connection _). z.is_connected) is) hears))
 
 pub returns-in_ok-connect-in-Client-clause-hears : goal.returns-in_ok-connect-in-Client-clause-hears
-returns-in_ok-connect-in-Client-clause-hears g c = λ hello d before t r none.
+returns-in_ok-connect-in-Client-clause-hears g c = λ accepts sealed hello d before t r none.
     let new = c.connect.new.self in
     let is = c.in_ok-connect-in-Client.ensures.ok in
-    let hears = begun_hears c.args.self.now c.begin.new.self hello t d true c.in-Some.peer c.in_ok-begin.ensures.rest (c.in_ok-begin.ensures.hears true (λ _. side_of c.args.self.now c.begin.new.self c.in-Some.peer c.in_ok-begin.ensures.rest ∙ c.in-Client.is) hello d before t r none) in
-    (discarded_hears hello c.begin.new.self new t d (ap (λ (z : Connection _). z.handshake) is) (ap (λ (z : Connection _). z.core) is) (ap (λ (z : Connection _). z.is_connected) is) hears, tt)
+    let hears = begun_hears accepts sealed c.args.self.now c.begin.new.self hello t d true c.in-Some.peer c.in_ok-begin.ensures.rest (c.in_ok-begin.ensures.hears accepts sealed true (λ _. side_of c.args.self.now c.begin.new.self c.in-Some.peer c.in_ok-begin.ensures.rest ∙ c.in-Client.is) hello d before t r none) in
+    (discarded_hears accepts sealed hello c.begin.new.self new t d (ap (λ (z : Connection _). z.handshake) is) (ap (λ (z : Connection _). z.core) is) (ap (λ (z : Connection _). z.is_connected) is) hears, tt)
 
 pub returns-in-Server-clause-hears : goal.returns-in-Server-clause-hears
-returns-in-Server-clause-hears g c = λ hello d before t r none.
+returns-in-Server-clause-hears g c = λ accepts sealed hello d before t r none.
     let e = c.in_ok-begin.ensures in
-    let hears = begun_hears c.args.self.now c.begin.new.self hello t d false c.in-Some.peer e.rest (e.hears false (λ k. let z : false ≡ true = k in cc) hello d before t r none) in
-    (subst (λ (z : Bool). Hears hello c.begin.new.self.handshake c.begin.new.self.core z t d) (sym (ap (λ (z : Connection _). z.is_connected) e.rest ∙ c.requires.first.0)) hears, tt)
+    let hears = begun_hears accepts sealed c.args.self.now c.begin.new.self hello t d false c.in-Some.peer e.rest (e.hears accepts sealed false (λ k. let z : false ≡ true = k in cc) hello d before t r none) in
+    (subst (λ (z : Bool). Hears accepts sealed hello c.begin.new.self.handshake c.begin.new.self.core z t d) (sym (ap (λ (z : Connection _). z.is_connected) e.rest ∙ c.requires.first.0)) hears, tt)

@@ -19,4 +19,4 @@ returns-then-is_closed-clause-carries g c = λ named hello t p. c.hear_closed.en
 
 pub returns-clause-carries : goal.returns-clause-carries
 returns-clause-carries g c = λ named hello t p.
-    settled_stands c.take-taken.result hello c.take-taken.new.self c.settled.new.self _ (c.take-taken.ensures.carries named hello t p) c.settled.ensures.ok c.settled.ensures.fails
+    settled_stands g.S.Session.accepts g.S.Session.sealed c.take-taken.result hello c.take-taken.new.self c.settled.new.self _ (c.take-taken.ensures.carries named hello t p) c.settled.ensures.ok c.settled.ensures.fails

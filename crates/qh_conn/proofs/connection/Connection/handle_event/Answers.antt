@@ -21,5 +21,5 @@ settled-requires-clause-whole g c =
 pub returns-else-is_closed-clause-carries : goal.returns-else-is_closed-clause-carries
 returns-else-is_closed-clause-carries g c = λ named hello t p.
     let new = c.settled.new.self in
-    subst (λ (z : ConnectionEvent). Converses hello new.handshake new.core new.is_connected (t ++ acts_of z)) (sym c.in-NewIdentifiers.is)
-    (nothing_more hello new.handshake new.core new.is_connected t (c.settled.ensures.stands hello t p))
+    subst (λ (z : ConnectionEvent). Converses g.S.Session.accepts g.S.Session.sealed hello new.handshake new.core new.is_connected (t ++ acts_of z)) (sym c.in-NewIdentifiers.is)
+    (nothing_more g.S.Session.accepts g.S.Session.sealed hello new.handshake new.core new.is_connected t (c.settled.ensures.stands g.S.Session.accepts g.S.Session.sealed hello t p))

@@ -54,9 +54,9 @@ returns-then-brings_close-clause-carries g c = λ named hello t p.
     let self = c.args.self.now in
     let d = c.args.datagram.now in
     let e = c.hear_closed.ensures in
-    unheard hello d (with_bytes self c.saturating_add-self.result self.core).handshake c.hear_closed.new.self self.is_connected t
-    (hears_still self.core c.hear_closed.new.self (turned_made self.core c.hear_closed.new.self (closed_heard true c.requires.closed e.heard) e.follows e.same_end) hello d _ self.is_connected t
-    (counted_hears hello self c.saturating_add-self.result t d c.saturating_add-self.ensures p))
+    unheard g.S.Session.accepts g.S.Session.sealed hello d (with_bytes self c.saturating_add-self.result self.core).handshake c.hear_closed.new.self self.is_connected t
+    (hears_still self.core c.hear_closed.new.self (turned_made self.core c.hear_closed.new.self (closed_heard true c.requires.closed e.heard) e.follows e.same_end) g.S.Session.accepts g.S.Session.sealed hello d _ self.is_connected t
+    (counted_hears g.S.Session.accepts g.S.Session.sealed hello self c.saturating_add-self.result t d c.saturating_add-self.ensures p))
 
 pub returns-then-not-is_greeted-clause-carries : goal.returns-then-not-is_greeted-clause-carries
 returns-then-not-is_greeted-clause-carries g c = λ named hello t p.
@@ -64,9 +64,9 @@ returns-then-not-is_greeted-clause-carries g c = λ named hello t p.
     let d = c.args.datagram.now in
     let core = c.hear_closed-then-not-is_greeted.new.self in
     let e = c.hear_closed-then-not-is_greeted.ensures in
-    unheard hello d (with_bytes self c.saturating_add-self.result self.core).handshake core self.is_connected t
-    (hears_still self.core core (turned_made self.core core (closed_heard false c.requires.closed e.heard) e.follows e.same_end) hello d _ self.is_connected t
-    (counted_hears hello self c.saturating_add-self.result t d c.saturating_add-self.ensures p))
+    unheard g.S.Session.accepts g.S.Session.sealed hello d (with_bytes self c.saturating_add-self.result self.core).handshake core self.is_connected t
+    (hears_still self.core core (turned_made self.core core (closed_heard false c.requires.closed e.heard) e.follows e.same_end) g.S.Session.accepts g.S.Session.sealed hello d _ self.is_connected t
+    (counted_hears g.S.Session.accepts g.S.Session.sealed hello self c.saturating_add-self.result t d c.saturating_add-self.ensures p))
 
 pub returns-else-not-is_greeted-clause-carries : goal.returns-else-not-is_greeted-clause-carries
 returns-else-not-is_greeted-clause-carries g c = λ named hello t p.
@@ -78,9 +78,9 @@ returns-else-not-is_greeted-clause-carries g c = λ named hello t p.
     let rest = c.behind_initials-rest in
     let e = c.handle_datagram.ensures in
     let greeted : is_some self.handshake.peer ≡ true = search rules in
-    let heard = rest_heard g.S.Session.accepts c.args.now hello rest.result.now d bytes.handshake mid.core c.handle_datagram.new.self self.is_connected t
+    let heard = rest_heard g.S.Session.accepts g.S.Session.sealed c.args.now hello rest.result.now d bytes.handshake mid.core c.handle_datagram.new.self self.is_connected t
     (subst (λ (z : Inner _). NamesTags (g.S.Session.accepts z.session)) (sym core) named) rest.ensures.ends greeted
-    (subst (λ (z : Inner _). Hears hello bytes.handshake z self.is_connected t d) (sym core) (counted_hears hello self c.saturating_add-self.result t d c.saturating_add-self.ensures p))
+    (subst (λ (z : Inner _). Hears g.S.Session.accepts g.S.Session.sealed hello bytes.handshake z self.is_connected t d) (sym core) (counted_hears g.S.Session.accepts g.S.Session.sealed hello self c.saturating_add-self.result t d c.saturating_add-self.ensures p))
     c.handle_datagram.result e.ok e.undisturbed e.err e.wanting e.follows e.same_end in
-    shut_stands (g.S.Session.accepts self.core.session) hello rest.result.now d bytes mid c.handle_datagram.new.self t named rest.ensures.ends c.shut_connected.ensures.connected
+    shut_stands g.S.Session.accepts g.S.Session.sealed (g.S.Session.accepts self.core.session) hello rest.result.now d bytes mid c.handle_datagram.new.self t named rest.ensures.ends c.shut_connected.ensures.connected
     (e.same_end.local_id ∙ ap (λ (z : Inner _). z.local_id) core ∙ c.requires.whole.sound.id_is) heard

@@ -4,7 +4,7 @@ use Rattle.qh_conn.proofs.InFed.{read_known}
 use Rattle.qh_conn.proofs.connection.Connection.meet.Goals as goal
 
 pub returns-then-was_greeted-clause-hears : goal.returns-then-was_greeted-clause-hears
-returns-then-was_greeted-clause-hears g c = λ hello d before t r was. (read_known hello before t d c.args.self.now (sym was ∙ c.if-was_greeted.true) r, tt)
+returns-then-was_greeted-clause-hears g c = λ accepts sealed hello d before t r was. (read_known accepts sealed hello before t d c.args.self.now (sym was ∙ c.if-was_greeted.true) r, tt)
 
 pub returns-clause-hears : goal.returns-clause-hears
-returns-clause-hears g c = λ hello d before t r was. c.greet.ensures.hears hello d before t r (none_when before.peer (sym was ∙ c.if-was_greeted.false))
+returns-clause-hears g c = λ accepts sealed hello d before t r was. c.greet.ensures.hears accepts sealed hello d before t r (none_when before.peer (sym was ∙ c.if-was_greeted.false))

@@ -18,7 +18,7 @@ returns-clause-stands g c =
     let config : core.config ≡ c.core.result = ap (λ (z : Inner _). z.config) is in
     let space : IsNewSpace core.config core.side core.space =
     subst (λ (z : CoreConfig). IsNewSpace z core.side core.space) (sym config) (subst (λ (z : Side). IsNewSpace c.core.result z core.space) (sym side) c.new-core.ensures.space) in
-    (fresh.0, fresh.1, c.hears.ensures.fresh fresh.0 c.in_ok-handshake.handshake core fresh.1 (side ∙ sym ids.0) (ap (λ (z : Inner _). z.local_id) is ∙ sym ids.1) space c.new-core.ensures.follows)
+    (fresh.0, fresh.1, λ accepts sealed. c.hears.ensures.fresh accepts sealed fresh.0 c.in_ok-handshake.handshake core fresh.1 (side ∙ sym ids.0) (ap (λ (z : Inner _). z.local_id) is ∙ sym ids.1) space c.new-core.ensures.follows)
 
 pub returns-clause-whole : goal.returns-clause-whole
 returns-clause-whole g c =

@@ -4,7 +4,7 @@ use Rattle.qh_conn.proofs.connection.Connection.open.Goals as goal
 pub returns-clause-stands : goal.returns-clause-stands
 returns-clause-stands g c =
     let e = c.open.ensures in
-    λ hello t p. c.still.ensures.streams_stand hello c.args.self.now.handshake c.args.self.now.core c.open.new.self c.args.self.now.is_connected t
+    λ accepts sealed hello t p. c.still.ensures.streams_stand accepts sealed hello c.args.self.now.handshake c.args.self.now.core c.open.new.self c.args.self.now.is_connected t
     (c.made.ensures.open c.args.dir c.open.result c.args.self.now.core c.open.new.self e.some e.none e.err e.follows) p
 
 pub returns-clause-whole : goal.returns-clause-whole

@@ -1,21 +1,15 @@
-use Rattle.std.proofs.Common.{[], refl, ap, ◌∙◌}
-use Rattle.qh_conn.proofs.OutCarries.{nothing_less}
-use Rattle.qh_conn.proofs.OutKeys.{keys, makes_all, names_all}
+use Rattle.std.proofs.Common.{refl, ap, ◌∙◌}
 use Rattle.qh_conn.proofs.OutWhole.{handshake_whole}
+use Rattle.qh_converse.proofs.MidDatagram.{stays}
 use Rattle.qh_core.proofs.MadeEnds.{poll_made}
-use Rattle.qh_core.proofs.MadeTogether.{one_step}
 use Rattle.qh_core.specs.Inner.{is_open}
-use Rattle.qh_core.specs.Made.{IsMadeLocally}
-use Rattle.qh_packet.specs.Session.{plain_accepts, plain_sealed}
-use Rattle.qh_spec.specs.declared.sides.Space.TheVariants.{Data}
 use Rattle.qh_conn.proofs.connection.Connection.poll_core.Goals as goal
 
 pub returns-in-Some-clause-stands : goal.returns-in-Some-clause-stands
-returns-in-Some-clause-stands g c = λ hello t p.
+returns-in-Some-clause-stands g c = λ accepts sealed hello t p.
     let old = c.args.self.now in
-    nothing_less hello old.handshake c.poll.new.self old.is_connected t
-    (c.sends.ensures.called (λ _. plain_accepts keys) (λ _. plain_sealed keys) hello old.handshake old.core c.poll.new.self old.is_connected [] t names_all (λ from number h. makes_all from Data number h)
-    (one_step IsMadeLocally old.core c.poll.new.self [] (poll_made c.poll.result old.core c.poll.new.self c.poll.ensures.told c.poll.ensures.follows c.poll.ensures.same_end)) (λ _. refl) p)
+    stays accepts sealed hello old.handshake old.core c.poll.new.self old.is_connected t
+    (poll_made c.poll.result old.core c.poll.new.self c.poll.ensures.told c.poll.ensures.follows c.poll.ensures.same_end) p
 
 pub returns-in-Some-clause-whole : goal.returns-in-Some-clause-whole
 returns-in-Some-clause-whole g c =
@@ -23,11 +17,10 @@ returns-in-Some-clause-whole g c =
     handshake_whole old old.handshake c.poll.new.self c.requires c.requires.sound.handshake refl refl refl (λ e. e) c.poll.ensures.same_end (λ shut. ap is_open c.poll.ensures.kept.3 ∙ shut)
 
 pub returns-in-None-clause-stands : goal.returns-in-None-clause-stands
-returns-in-None-clause-stands g c = λ hello t p.
+returns-in-None-clause-stands g c = λ accepts sealed hello t p.
     let old = c.args.self.now in
-    nothing_less hello old.handshake c.poll.new.self old.is_connected t
-    (c.sends.ensures.called (λ _. plain_accepts keys) (λ _. plain_sealed keys) hello old.handshake old.core c.poll.new.self old.is_connected [] t names_all (λ from number h. makes_all from Data number h)
-    (one_step IsMadeLocally old.core c.poll.new.self [] (poll_made c.poll.result old.core c.poll.new.self c.poll.ensures.told c.poll.ensures.follows c.poll.ensures.same_end)) (λ _. refl) p)
+    stays accepts sealed hello old.handshake old.core c.poll.new.self old.is_connected t
+    (poll_made c.poll.result old.core c.poll.new.self c.poll.ensures.told c.poll.ensures.follows c.poll.ensures.same_end) p
 
 pub returns-in-None-clause-whole : goal.returns-in-None-clause-whole
 returns-in-None-clause-whole g c =

@@ -5,10 +5,10 @@ use Rattle.qh_converse.specs.Converses.{Converses}
 use Rattle.qh_conn.proofs.connection.Connection.set_max_concurrent_streams.Goals as goal
 
 pub returns-clause-stands : goal.returns-clause-stands
-returns-clause-stands g c = λ hello t p.
+returns-clause-stands g c = λ accepts sealed hello t p.
     let made = c.made.ensures.set_max_concurrent_streams c.args.dir c.args.count c.args.self.now.core c.set_max_concurrent_streams.new.self c.set_max_concurrent_streams.ensures.value c.set_max_concurrent_streams.ensures.follows in
-    subst (λ (z : Connection _). Converses hello z.handshake z.core z.is_connected t) (sym c.keep_early.ensures)
-    (c.still.ensures.streams_stand hello c.args.self.now.handshake c.args.self.now.core c.set_max_concurrent_streams.new.self c.args.self.now.is_connected t made p)
+    subst (λ (z : Connection _). Converses accepts sealed hello z.handshake z.core z.is_connected t) (sym c.keep_early.ensures)
+    (c.still.ensures.streams_stand accepts sealed hello c.args.self.now.handshake c.args.self.now.core c.set_max_concurrent_streams.new.self c.args.self.now.is_connected t made p)
 
 pub returns-clause-whole : goal.returns-clause-whole
 returns-clause-whole g c =

@@ -10,7 +10,7 @@ use Rattle.qh_spec.specs.declared.sides.Side.TheVariants.{Server}
 use Rattle.qh_conn.proofs.connection.Connection.set_origin.Goals as goal
 
 pub returns-clause-stands : goal.returns-clause-stands
-returns-clause-stands g c = λ hello fresh p.
+returns-clause-stands g c = λ hello fresh.
     let self = c.args.self.now in
     let new = c.set_origin.new.self in
     let is = c.set_origin.ensures.origin in
@@ -18,4 +18,4 @@ returns-clause-stands g c = λ hello fresh p.
     let own = hello_bytes (hello_of (greeting Server [] h.parameters)) in
     let now : IsFresh own new = subst (λ (z : Handshake). IsFresh own z) (sym is)
     (origin_fresh hello c.args.original_id c.args.retry_id c.args.validated self.handshake c.requires.server fresh (subst (λ (z : Handshake). IsHandshake z) is c.set_origin.ensures.whole)) in
-    (own, now, refreshed hello own self.handshake new self.core self.is_connected now (ap (λ (z : Handshake). z.side) is) (ap (λ (z : Handshake). z.local_id) is) (ap (λ (z : Handshake). z.peer) is) p)
+    (own, now, λ accepts sealed p. refreshed accepts sealed hello own self.handshake new self.core self.is_connected now (ap (λ (z : Handshake). z.side) is) (ap (λ (z : Handshake). z.local_id) is) (ap (λ (z : Handshake). z.peer) is) p)

@@ -18,7 +18,7 @@ returns-in-Err g c =
     record {
       ok = ended_by _ c.args.now c.args.datagram.now c.args.self.now c.feed.new.self c.end_by.new.self c.in-Err.error c.in-Err.ensures.err named c.end_by.ensures.ends c.end_by.ensures.rest;
       carries = λ from hello t p. (
-        ended_stands _ c.args.now c.args.datagram.now hello c.args.self.now c.feed.new.self c.end_by.new.self c.in-Err.error t from c.in-Err.ensures.err named c.end_by.ensures.rest c.end_by.ensures.made
+        ended_stands _ c.args.now c.args.datagram.now hello c.args.self.now c.feed.new.self c.end_by.new.self c.in-Err.error t from c.requires.whole.sound.handshake c.in-Err.ensures.err named c.end_by.ensures.rest c.end_by.ensures.made
             c.end_by.ensures.closed (λ none. (unready c.args.self.now c.requires.whole.sound none).0) p,
         tt,
       );
@@ -62,31 +62,34 @@ take_data-requires-clause-ends g c =
 
 pub returns-in-Err-Memory-clause-carries : goal.returns-in-Err-Memory-clause-carries
 returns-in-Err-Memory-clause-carries g c = λ from hello t p.
-    let l = c.in-Err-Memory.ensures.lost c.in-Err-Memory.field-0-is in
-    (tt, lost_fails _ c.args.now c.args.datagram.now hello c.args.self.now c.feed.new.self l.0 t from l.1 c.feed.ensures.rest (λ none. (unready c.args.self.now c.requires.whole.sound none).0) p)
+    let l = c.in-Err-Memory.ensures.lost c.in-Err-Memory.field-0-is in (
+      tt,
+      lost_fails (record { name = g.S.Session.name; knows = g.S.Session.knows; key = g.S.Session.key; sealed = g.S.Session.sealed; accepts = g.S.Session.accepts }) c.args.now c.args.datagram.now hello
+          c.args.self.now c.feed.new.self l.0 t from l.1 l.2 c.feed.ensures.rest (λ none. (unready c.args.self.now c.requires.whole.sound none).0) p,
+    )
 
 pub returns-in_err-meet-clause-carries : goal.returns-in_err-meet-clause-carries
 returns-in_err-meet-clause-carries g c = λ from hello t p.
-    let read = restarted_read _ c.args.now c.args.datagram.now c.in-Ok.rest.now hello c.args.self.now c.feed.new.self c.restart.new.self t from c.in-Ok.ensures.ok c.restart.ensures.rest c.restart.ensures.made p in
-    failing _ _ c.from_residual.result c.from_residual.ensures.0 (c.in_err-meet.ensures.hears hello c.args.datagram.now c.args.self.now.handshake t read c.known-known.ensures.is_greeted).1
+    let read = restarted_read _ c.args.now c.args.datagram.now c.in-Ok.rest.now hello c.args.self.now c.feed.new.self c.restart.new.self t from c.requires.whole.sound.handshake c.in-Ok.ensures.ok c.restart.ensures.rest c.restart.ensures.made p in
+    failing _ _ c.from_residual.result c.from_residual.ensures.0 (c.in_err-meet.ensures.hears g.S.Session.accepts g.S.Session.sealed hello c.args.datagram.now c.args.self.now.handshake t read c.known-known.ensures.is_greeted).1
 
 pub returns-in_err-take_data-clause-carries : goal.returns-in_err-take_data-clause-carries
 returns-in_err-take_data-clause-carries g c = λ from hello t p.
-    let read = restarted_read _ c.args.now c.args.datagram.now c.in-Ok.rest.now hello c.args.self.now c.feed.new.self c.restart.new.self t from c.in-Ok.ensures.ok c.restart.ensures.rest c.restart.ensures.made p in
+    let read = restarted_read _ c.args.now c.args.datagram.now c.in-Ok.rest.now hello c.args.self.now c.feed.new.self c.restart.new.self t from c.requires.whole.sound.handshake c.in-Ok.ensures.ok c.restart.ensures.rest c.restart.ensures.made p in
     let tags = met_tags _ c.args.now c.args.datagram.now c.in-Ok.rest.now c.args.self.now c.feed.new.self c.restart.new.self c.meet.new.self c.known-known.result.is_greeted
     (some_bytes c.in-Ok.rest.now c.if-not-is_empty.ensures) from c.in-Ok.ensures.ok c.restart.ensures.rest c.in_ok-meet.ensures.ok in
     failing _ _ c.from_residual-in_err-take_data.result c.from_residual-in_err-take_data.ensures.0
-    (c.in_err-take_data.ensures.carries tags hello t (c.in_ok-meet.ensures.hears hello c.args.datagram.now c.args.self.now.handshake t read c.known-known.ensures.is_greeted).0).1
+    (c.in_err-take_data.ensures.carries tags hello t (c.in_ok-meet.ensures.hears g.S.Session.accepts g.S.Session.sealed hello c.args.datagram.now c.args.self.now.handshake t read c.known-known.ensures.is_greeted).0).1
 
 pub returns-in_ok-take_data-clause-carries : goal.returns-in_ok-take_data-clause-carries
 returns-in_ok-take_data-clause-carries g c = λ from hello t p.
-    let read = restarted_read _ c.args.now c.args.datagram.now c.in-Ok.rest.now hello c.args.self.now c.feed.new.self c.restart.new.self t from c.in-Ok.ensures.ok c.restart.ensures.rest c.restart.ensures.made p in
+    let read = restarted_read _ c.args.now c.args.datagram.now c.in-Ok.rest.now hello c.args.self.now c.feed.new.self c.restart.new.self t from c.requires.whole.sound.handshake c.in-Ok.ensures.ok c.restart.ensures.rest c.restart.ensures.made p in
     let tags = met_tags _ c.args.now c.args.datagram.now c.in-Ok.rest.now c.args.self.now c.feed.new.self c.restart.new.self c.meet.new.self c.known-known.result.is_greeted
     (some_bytes c.in-Ok.rest.now c.if-not-is_empty.ensures) from c.in-Ok.ensures.ok c.restart.ensures.rest c.in_ok-meet.ensures.ok in
-    c.in_ok-take_data.ensures.carries tags hello t (c.in_ok-meet.ensures.hears hello c.args.datagram.now c.args.self.now.handshake t read c.known-known.ensures.is_greeted).0
+    c.in_ok-take_data.ensures.carries tags hello t (c.in_ok-meet.ensures.hears g.S.Session.accepts g.S.Session.sealed hello c.args.datagram.now c.args.self.now.handshake t read c.known-known.ensures.is_greeted).0
 
 pub returns-else-is_greeted-clause-carries : goal.returns-else-is_greeted-clause-carries
 returns-else-is_greeted-clause-carries g c = λ from hello t p.
-    let read = restarted_read _ c.args.now c.args.datagram.now c.in-Ok.rest.now hello c.args.self.now c.feed.new.self c.restart.new.self t from c.in-Ok.ensures.ok c.restart.ensures.rest c.restart.ensures.made p in
+    let read = restarted_read _ c.args.now c.args.datagram.now c.in-Ok.rest.now hello c.args.self.now c.feed.new.self c.restart.new.self t from c.requires.whole.sound.handshake c.in-Ok.ensures.ok c.restart.ensures.rest c.restart.ensures.made p in
     let met = c.meet.new.self in
-    (unheard hello c.args.datagram.now met.handshake met.core met.is_connected t (c.in_ok-meet.ensures.hears hello c.args.datagram.now c.args.self.now.handshake t read c.known-known.ensures.is_greeted).0, tt)
+    (unheard g.S.Session.accepts g.S.Session.sealed hello c.args.datagram.now met.handshake met.core met.is_connected t (c.in_ok-meet.ensures.hears g.S.Session.accepts g.S.Session.sealed hello c.args.datagram.now c.args.self.now.handshake t read c.known-known.ensures.is_greeted).0, tt)

@@ -49,54 +49,54 @@ pub returns-in_err-accepted-clause-carries : goal.returns-in_err-accepted-clause
 returns-in_err-accepted-clause-carries g c = λ named hello t p.
     let e = c.handle_datagram.ensures in
     let self = c.args.self.now in
-    let taken = rest_heard g.S.Session.accepts c.args.now hello c.args.rest.now c.args.datagram.now self.handshake self.core c.handle_datagram.new.self self.is_connected t named c.requires.ends c.requires.greeted p
+    let taken = rest_heard g.S.Session.accepts g.S.Session.sealed c.args.now hello c.args.rest.now c.args.datagram.now self.handshake self.core c.handle_datagram.new.self self.is_connected t named c.requires.ends c.requires.greeted p
     c.handle_datagram.result e.ok e.undisturbed e.err e.wanting e.follows e.same_end in
-    either_way c.from_residual.result hello (record self { core = c.handle_datagram.new.self }) _ taken
+    either_way g.S.Session.accepts g.S.Session.sealed c.from_residual.result hello (record self { core = c.handle_datagram.new.self }) _ taken
 
 pub returns-in_default-clause-carries : goal.returns-in_default-clause-carries
 returns-in_default-clause-carries g c = λ named hello t p.
     let e = c.handle_datagram.ensures in
     let self = c.args.self.now in
-    let taken = rest_heard g.S.Session.accepts c.args.now hello c.args.rest.now c.args.datagram.now self.handshake self.core c.handle_datagram.new.self self.is_connected t named c.requires.ends c.requires.greeted p
+    let taken = rest_heard g.S.Session.accepts g.S.Session.sealed c.args.now hello c.args.rest.now c.args.datagram.now self.handshake self.core c.handle_datagram.new.self self.is_connected t named c.requires.ends c.requires.greeted p
     c.handle_datagram.result e.ok e.undisturbed e.err e.wanting e.follows e.same_end in
-    (c.hear_reset.ensures.stands hello _ taken, tt)
+    (c.hear_reset.ensures.stands g.S.Session.accepts g.S.Session.sealed hello _ taken, tt)
 
 pub returns-in_err-be_connected-clause-carries : goal.returns-in_err-be_connected-clause-carries
 returns-in_err-be_connected-clause-carries g c = λ named hello t p.
     let e = c.handle_datagram.ensures in
     let self = c.args.self.now in
-    let taken = rest_heard g.S.Session.accepts c.args.now hello c.args.rest.now c.args.datagram.now self.handshake self.core c.handle_datagram.new.self self.is_connected t named c.requires.ends c.requires.greeted p
+    let taken = rest_heard g.S.Session.accepts g.S.Session.sealed c.args.now hello c.args.rest.now c.args.datagram.now self.handshake self.core c.handle_datagram.new.self self.is_connected t named c.requires.ends c.requires.greeted p
     c.handle_datagram.result e.ok e.undisturbed e.err e.wanting e.follows e.same_end in
     let came = brought_came (g.S.Session.accepts self.core.session) c.args.now c.args.rest.now c.args.datagram.now _ self.core c.handle_datagram.new.self self.handshake.side t named c.requires.ends e.same_end
     c.requires.whole.sound.side_is (rw c.in-Some.is at c.in_ok-accepted.ensures.brings).0 in
-    either_way c.from_residual-in_err-be_connected.result hello c.be_connected.new.self _ (c.be_connected.ensures.carries hello _ came taken)
+    either_way g.S.Session.accepts g.S.Session.sealed c.from_residual-in_err-be_connected.result hello c.be_connected.new.self _ (c.be_connected.ensures.carries g.S.Session.accepts g.S.Session.sealed hello _ came taken)
 
 pub returns-in_err-take_frames-clause-carries : goal.returns-in_err-take_frames-clause-carries
 returns-in_err-take_frames-clause-carries g c = λ named hello t p.
     let e = c.handle_datagram.ensures in
     let self = c.args.self.now in
-    let taken = rest_heard g.S.Session.accepts c.args.now hello c.args.rest.now c.args.datagram.now self.handshake self.core c.handle_datagram.new.self self.is_connected t named c.requires.ends c.requires.greeted p
+    let taken = rest_heard g.S.Session.accepts g.S.Session.sealed c.args.now hello c.args.rest.now c.args.datagram.now self.handshake self.core c.handle_datagram.new.self self.is_connected t named c.requires.ends c.requires.greeted p
     c.handle_datagram.result e.ok e.undisturbed e.err e.wanting e.follows e.same_end in
     let came = brought_came (g.S.Session.accepts self.core.session) c.args.now c.args.rest.now c.args.datagram.now _ self.core c.handle_datagram.new.self self.handshake.side t named c.requires.ends e.same_end
     c.requires.whole.sound.side_is (rw c.in-Some.is at c.in_ok-accepted.ensures.brings).0 in
-    either_way c.from_residual-in_err-take_frames.result hello c.take_frames.new.self _ (c.take_frames.ensures.stands hello _ (c.be_connected.ensures.carries hello _ came taken))
+    either_way g.S.Session.accepts g.S.Session.sealed c.from_residual-in_err-take_frames.result hello c.take_frames.new.self _ (c.take_frames.ensures.stands g.S.Session.accepts g.S.Session.sealed hello _ (c.be_connected.ensures.carries g.S.Session.accepts g.S.Session.sealed hello _ came taken))
 
 pub returns-then-is_closed-clause-carries : goal.returns-then-is_closed-clause-carries
 returns-then-is_closed-clause-carries g c = λ named hello t p.
     let e = c.handle_datagram.ensures in
     let self = c.args.self.now in
-    let taken = rest_heard g.S.Session.accepts c.args.now hello c.args.rest.now c.args.datagram.now self.handshake self.core c.handle_datagram.new.self self.is_connected t named c.requires.ends c.requires.greeted p
+    let taken = rest_heard g.S.Session.accepts g.S.Session.sealed c.args.now hello c.args.rest.now c.args.datagram.now self.handshake self.core c.handle_datagram.new.self self.is_connected t named c.requires.ends c.requires.greeted p
     c.handle_datagram.result e.ok e.undisturbed e.err e.wanting e.follows e.same_end in
     let came = brought_came (g.S.Session.accepts self.core.session) c.args.now c.args.rest.now c.args.datagram.now _ self.core c.handle_datagram.new.self self.handshake.side t named c.requires.ends e.same_end
     c.requires.whole.sound.side_is (rw c.in-Some.is at c.in_ok-accepted.ensures.brings).0 in
-    (c.take_frames.ensures.stands hello _ (c.be_connected.ensures.carries hello _ came taken), tt)
+    (c.take_frames.ensures.stands g.S.Session.accepts g.S.Session.sealed hello _ (c.be_connected.ensures.carries g.S.Session.accepts g.S.Session.sealed hello _ came taken), tt)
 
 pub returns-clause-carries : goal.returns-clause-carries
 returns-clause-carries g c = λ named hello t p.
     let e = c.handle_datagram.ensures in
     let self = c.args.self.now in
-    let taken = rest_heard g.S.Session.accepts c.args.now hello c.args.rest.now c.args.datagram.now self.handshake self.core c.handle_datagram.new.self self.is_connected t named c.requires.ends c.requires.greeted p
+    let taken = rest_heard g.S.Session.accepts g.S.Session.sealed c.args.now hello c.args.rest.now c.args.datagram.now self.handshake self.core c.handle_datagram.new.self self.is_connected t named c.requires.ends c.requires.greeted p
     c.handle_datagram.result e.ok e.undisturbed e.err e.wanting e.follows e.same_end in
     let came = brought_came (g.S.Session.accepts self.core.session) c.args.now c.args.rest.now c.args.datagram.now _ self.core c.handle_datagram.new.self self.handshake.side t named c.requires.ends e.same_end
     c.requires.whole.sound.side_is (rw c.in-Some.is at c.in_ok-accepted.ensures.brings).0 in
-    either_way c.on_lost.result hello (record c.follow_ids.new.self { control = record c.follow_ids.new.self.control { queue = c.on_lost.new.self } }) _ (c.follow_ids.ensures.stands hello _ (c.take_frames.ensures.stands hello _ (c.be_connected.ensures.carries hello _ came taken)))
+    either_way g.S.Session.accepts g.S.Session.sealed c.on_lost.result hello (record c.follow_ids.new.self { control = record c.follow_ids.new.self.control { queue = c.on_lost.new.self } }) _ (c.follow_ids.ensures.stands g.S.Session.accepts g.S.Session.sealed hello _ (c.take_frames.ensures.stands g.S.Session.accepts g.S.Session.sealed hello _ (c.be_connected.ensures.carries g.S.Session.accepts g.S.Session.sealed hello _ came taken)))

@@ -51,10 +51,10 @@ returns-in-Err-Transport-clause-sound g c =
     c.close_by_fault.ensures.same_end (subst (λ (z : TransportError). IsFaulted c.args.now z c.take_control.new.self.core c.close_by_fault.new.self) r.error-is c.close_by_fault.ensures.faulted)
 
 pub returns-in-Err-Transport-clause-stands : goal.returns-in-Err-Transport-clause-stands
-returns-in-Err-Transport-clause-stands g c = λ hello t p.
+returns-in-Err-Transport-clause-stands g c = λ accepts sealed hello t p.
     let r = c.in-Err-Transport in
     let e = c.close_by_fault.ensures in
-    faulted_stands c.args.now r.error hello c.args.self.now c.loop-left.self c.take_control.new.self c.close_by_fault.new.self t (r.ensures.refused (not_wanting r.field-0 r.error r.field-0-is))
+    faulted_stands accepts sealed c.args.now r.error hello c.args.self.now c.loop-left.self c.take_control.new.self c.close_by_fault.new.self t (r.ensures.refused (not_wanting r.field-0 r.error r.field-0-is))
     c.loop-left.invariant.1 c.requires.lives (subst (λ (z : TransportError). IsFaulted c.args.now z c.take_control.new.self.core c.close_by_fault.new.self) r.error-is e.faulted) e.follows e.same_end p
 
 unrefused_by : (f : StreamFault) (refusal : Option Refusal) → f ≡ Wanting → IsRefusedBy f refusal → refusal ≡ None

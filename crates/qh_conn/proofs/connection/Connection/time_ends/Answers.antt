@@ -1,26 +1,21 @@
 use Rattle.std.proofs.Common.{[], refl}
-use Rattle.qh_conn.proofs.OutCarries.{nothing_less}
-use Rattle.qh_conn.proofs.OutKeys.{keys, makes_all, names_all, shut_of}
+use Rattle.qh_conn.proofs.OutKeys.{shut_of}
 use Rattle.qh_conn.proofs.OutWhole.{handshake_whole}
-use Rattle.qh_converse.proofs.MadeOpens.{made_opens}
+use Rattle.qh_converse.proofs.MadeOpens.{locally_opens}
+use Rattle.qh_converse.proofs.MidDatagram.{stays}
 use Rattle.qh_core.proofs.MadeEnds.{timeout_made}
 use Rattle.qh_core.proofs.MadeTogether.{one_step}
 use Rattle.qh_core.specs.Inner.{is_open}
 use Rattle.qh_core.specs.Made.{IsMadeLocally}
-use Rattle.qh_core.specs.Made.IsAnyCall.{local}
-use Rattle.qh_core.specs.Made.IsLocalCall.{timeout}
-use Rattle.qh_packet.specs.Session.{plain_accepts, plain_sealed}
-use Rattle.qh_spec.specs.declared.sides.Space.TheVariants.{Data}
 use Rattle.qh_conn.proofs.connection.Connection.time_ends.Goals as goal
 
 pub returns-clause-stands : goal.returns-clause-stands
-returns-clause-stands g c = λ hello t p.
+returns-clause-stands g c = λ accepts sealed hello t p.
     let mid = c.time_handshake.new.self in
     let new = c.handle_timeout.new.self in
     let e = c.handle_timeout.ensures in
-    nothing_less hello mid.handshake new mid.is_connected t
-    (c.sends.ensures.called (λ _. plain_accepts keys) (λ _. plain_sealed keys) hello mid.handshake mid.core new mid.is_connected [] t names_all (λ from number h. makes_all from Data number h)
-    (one_step IsMadeLocally mid.core new [] (timeout_made c.args.now.0 mid.core new e.done e.kept e.follows e.same_end)) (λ _. refl) (c.time_handshake.ensures.stands hello t p))
+    stays accepts sealed hello mid.handshake mid.core new mid.is_connected t (timeout_made c.args.now.0 mid.core new e.done e.kept e.follows e.same_end)
+    (c.time_handshake.ensures.stands accepts sealed hello t p)
 
 pub returns-clause-whole : goal.returns-clause-whole
 returns-clause-whole g c =
@@ -29,4 +24,5 @@ returns-clause-whole g c =
     let e = c.handle_timeout.ensures in
     let w = c.time_handshake.ensures.whole in
     handshake_whole mid mid.handshake new w w.sound.handshake refl refl refl (λ z. z) e.same_end
-    (shut_of (is_open mid.core.state) (is_open new.state) (made_opens (λ _. plain_accepts keys) (λ _. plain_sealed keys) mid.core new [] (local [] (timeout c.args.now.0 e.done e.kept))))
+    (shut_of (is_open mid.core.state) (is_open new.state)
+    (locally_opens mid.core new [] (one_step IsMadeLocally mid.core new [] (timeout_made c.args.now.0 mid.core new e.done e.kept e.follows e.same_end))))

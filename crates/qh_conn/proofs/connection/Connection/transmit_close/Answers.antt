@@ -2,16 +2,15 @@ use Rattle.std.proofs.Common.{◌≡◌, ◌∷◌, [], List, Option, None, Some
 use Rattle.qh_base.specs.declared.connection_error.ConnectionClose.{ConnectionClose}
 use Rattle.qh_base.specs.declared.path.Transmit.{Transmit}
 use Rattle.qh_base.specs.declared.time.Moment.{Moment}
-use Rattle.qh_conn.proofs.OutCarries.{err_carries, nothing_less, nothing_more}
+use Rattle.qh_conn.proofs.OutCarries.{err_carries, nothing_more}
 use Rattle.qh_conn.proofs.OutWhole.{handshake_whole}
 use Rattle.qh_conn.specs.Outgoing.{IsInitialClose, IsTransmitted, handed_on}
 use Rattle.qh_conn.specs.Outgoing.IsTransmitted.{close}
 use Rattle.qh_conn.specs.declared.connection.Connection.{Connection}
 use Rattle.qh_converse.specs.Converses.{Converses}
+use Rattle.qh_converse.proofs.MidDatagram.{stays}
 use Rattle.qh_core.proofs.MadeEnds.{turned_made}
-use Rattle.qh_core.proofs.MadeTogether.{one_step}
 use Rattle.qh_core.specs.Inner.{counted, is_open}
-use Rattle.qh_core.specs.Made.{IsMadeLocally}
 use Rattle.qh_core.specs.Made.IsTurned.{close_told}
 use Rattle.qh_core.specs.Sending.{without_close_due}
 use Rattle.qh_core.specs.declared.inner.Inner.{Inner}
@@ -23,7 +22,6 @@ use Rattle.qh_handshake.specs.declared.handshake.Handshake.{Handshake}
 use Rattle.qh_handshake.specs.declared.initial_space.InitialSpace.{InitialSpace}
 use Rattle.qh_packet.specs.Session.{SealsTag}
 use Rattle.qh_spec.specs.Transcript.{HandedOut}
-use Rattle.qh_spec.specs.declared.sides.Space.TheVariants.{Data}
 use Rattle.qh_conn.proofs.connection.Connection.transmit_close.Goals as goal
 
 -- the end is closed still
@@ -53,8 +51,8 @@ module _ {S : Type 0} where
 
 pub returns-in_err-sent-clause-carries : goal.returns-in_err-sent-clause-carries
 returns-in_err-sent-clause-carries g c = λ named makes hello t p.
-    err_carries c.args.buf.now.items c.transmit_close.new.buf.items hello c.from_residual.result c.transmit_close.new.self c.args.self.now.core c.args.self.now.is_connected t c.from_residual.ensures.0
-    (c.sends.ensures.close_unsent hello c.args.self.now.handshake c.transmit_close.new.self c.args.self.now.core c.args.self.now.is_connected t c.in_err-sent.ensures.unsent p)
+    err_carries g.S.Session.accepts g.S.Session.sealed c.args.buf.now.items c.transmit_close.new.buf.items hello c.from_residual.result c.transmit_close.new.self c.args.self.now.core c.args.self.now.is_connected t c.from_residual.ensures.0
+    (c.sends.ensures.close_unsent g.S.Session.accepts g.S.Session.sealed hello c.args.self.now.handshake c.transmit_close.new.self c.args.self.now.core c.args.self.now.is_connected t c.in_err-sent.ensures.unsent p)
 
 pub returns-in_default-sent-clause-none : goal.returns-in_default-sent-clause-none
 returns-in_default-sent-clause-none g c = λ _.
@@ -64,8 +62,8 @@ returns-in_default-sent-clause-none g c = λ _.
 pub returns-in_default-sent-clause-carries : goal.returns-in_default-sent-clause-carries
 returns-in_default-sent-clause-carries g c = λ named makes hello t p.
     let n = c.in_ok-sent.ensures.none c.in_default-sent.is in
-    nothing_more hello c.transmit_close.new.self c.args.self.now.core c.args.self.now.is_connected t
-    (subst (λ (z : Handshake). Converses hello z c.args.self.now.core c.args.self.now.is_connected t) (sym n.1) p)
+    nothing_more g.S.Session.accepts g.S.Session.sealed hello c.transmit_close.new.self c.args.self.now.core c.args.self.now.is_connected t
+    (subst (λ (z : Handshake). Converses g.S.Session.accepts g.S.Session.sealed hello z c.args.self.now.core c.args.self.now.is_connected t) (sym n.1) p)
 
 pub returns-clause-some : goal.returns-clause-some
 returns-clause-some g c = λ now.
@@ -79,11 +77,9 @@ returns-clause-carries g c = λ named makes hello t p.
     let made = rw (c.in-Some-sent.is, c.session.ensures) at c.in_ok-sent.ensures.some in
     let after = t ++ HandedOut (drop (length c.args.buf.now.items) c.transmit_close.new.buf.items) ∷ [] in
     let told = turned_made old.core c.close_told.new.self (close_told c.close_told.ensures.value) c.close_told.ensures.follows c.close_told.ensures.same_end in
-    nothing_less hello c.transmit_close.new.self c.close_told.new.self old.is_connected after
-    (c.sends.ensures.called g.S.Session.accepts g.S.Session.sealed hello c.transmit_close.new.self old.core c.close_told.new.self old.is_connected [] after named (λ from number h. makes from Data number h)
-    (one_step IsMadeLocally old.core c.close_told.new.self [] told) (λ _. refl)
-    (c.sends.ensures.close (g.S.Session.sealed old.core.session) c.initial_close-close.result c.args.buf.now.items c.transmit_close.new.buf.items hello old.handshake c.transmit_close.new.self
-    c.in-Some-sent.size old.core old.is_connected t makes c.requires.whole.sound.handshake made p))
+    stays g.S.Session.accepts g.S.Session.sealed hello c.transmit_close.new.self old.core c.close_told.new.self old.is_connected after told
+    (c.sends.ensures.close g.S.Session.accepts g.S.Session.sealed (g.S.Session.sealed old.core.session) c.initial_close-close.result c.args.buf.now.items c.transmit_close.new.buf.items hello old.handshake
+    c.transmit_close.new.self c.in-Some-sent.size old.core old.is_connected t makes c.requires.whole.sound.handshake made p)
 
 pub returns-clause-whole : goal.returns-clause-whole
 returns-clause-whole g c =

@@ -30,7 +30,7 @@ returns-clause-carries g c = λ named makes hello t p.
     let after = c.poll_transmit.new.buf.items in
     let new = c.poll_transmit.new.self in
     let e = c.poll_transmit.ensures in
-    transmit_carries g.S.Session.accepts g.S.Session.sealed before after hello c.poll_transmit.result old.handshake old.core new old.is_connected t
+    transmit_carries g.S.Session.accepts g.S.Session.sealed before after hello c.poll_transmit.result old.handshake old.core new old.is_connected t (c.requires.whole.sound.connected c.requires.connected).0
     (λ acts part made b. c.behaves_on.ensures g.S.Session.accepts g.S.Session.sealed old.core new acts part named (λ from number h. makes from Data number h) made b)
     (λ d made short q. c.sends.ensures.sent g.S.Session.accepts g.S.Session.sealed hello d old.handshake old.core new old.is_connected t named (λ from number h. makes from Data number h) made short
     (c.requires.whole.sound.connected c.requires.connected).0 (λ _. c.requires.connected) q)

@@ -25,8 +25,9 @@ returns-in_err-sent-clause-carries g c = λ named makes hello t p.
     let after = c.transmit_control.new.buf.items in
     let new = c.transmit_control.new.self in
     let e = c.transmit_control.ensures in
-    err_carries before after hello c.from_residual-in_err-sent.result old.handshake new old.is_connected t c.from_residual-in_err-sent.ensures.0
+    err_carries g.S.Session.accepts g.S.Session.sealed before after hello c.from_residual-in_err-sent.result old.handshake new old.is_connected t c.from_residual-in_err-sent.ensures.0
     (failed_carries g.S.Session.accepts g.S.Session.sealed before after hello c.transmit_control.result c.in_err-sent.field-0.0 old.handshake old.core new old.is_connected t c.in_err-sent.was
+    (c.requires.whole.sound.connected c.requires.connected).0
     (λ acts part made b. c.behaves_on.ensures g.S.Session.accepts g.S.Session.sealed old.core new acts part named (λ from number h. makes from Data number h) made b)
     (control_made g.S.Session.accepts g.S.Session.sealed c.args.now before after c.deref.result.now c.transmit_control.result old.core new e.some e.undisturbed e.none e.err e.follows e.same_end) p)
 

@@ -2,16 +2,15 @@ use Rattle.std.proofs.Common.{◌≡◌, ◌∷◌, [], Bool, List, Option, None
 use Rattle.std.specs.Prelude.{if◌then◌else◌}
 use Rattle.qh_base.specs.declared.path.Transmit.{Transmit}
 use Rattle.qh_base.specs.declared.time.Moment.{Moment}
-use Rattle.qh_conn.proofs.OutCarries.{err_carries, nothing_less}
+use Rattle.qh_conn.proofs.OutCarries.{err_carries}
 use Rattle.qh_conn.proofs.OutWhole.{handshake_whole}
 use Rattle.qh_conn.specs.Outgoing.{IsTransmitted, handed_on}
 use Rattle.qh_conn.specs.Outgoing.IsTransmitted.{initial}
 use Rattle.qh_conn.specs.Whole.{IsWhole, Stands}
 use Rattle.qh_conn.specs.declared.connection.Connection.{Connection}
+use Rattle.qh_converse.proofs.MidDatagram.{stays}
 use Rattle.qh_core.proofs.MadeEnds.{turned_made}
-use Rattle.qh_core.proofs.MadeTogether.{one_step}
 use Rattle.qh_core.specs.Inner.{counted, is_open}
-use Rattle.qh_core.specs.Made.{IsMadeLocally}
 use Rattle.qh_core.specs.Made.IsTurned.{packet_sent}
 use Rattle.qh_core.specs.Timers.{sent_at}
 use Rattle.qh_core.specs.declared.inner.Inner.{Inner}
@@ -21,7 +20,6 @@ use Rattle.qh_handshake.specs.declared.handshake.Handshake.{Handshake}
 use Rattle.qh_handshake.specs.declared.initial_space.InitialSpace.{InitialSpace}
 use Rattle.qh_packet.specs.Session.{SealsTag}
 use Rattle.qh_spec.specs.Transcript.{HandedOut}
-use Rattle.qh_spec.specs.declared.sides.Space.TheVariants.{Data}
 use Rattle.qh_conn.proofs.connection.Connection.transmit_initial.Goals as goal
 use Rattle.qh_conn.proofs.connection.Connection.transmit_initial.Goals.{then-sent, else-sent}
 
@@ -59,8 +57,8 @@ noted_is g c = elim c.if-sent.branch [
 
 pub returns-in_err-sent-clause-carries : goal.returns-in_err-sent-clause-carries
 returns-in_err-sent-clause-carries g c = λ named makes hello t p.
-    err_carries c.args.buf.now.items c.poll_transmit.new.buf.items hello c.from_residual.result c.poll_transmit.new.self c.args.self.now.core c.args.self.now.is_connected t c.from_residual.ensures.0
-    (c.sends.ensures.unsent c.args.now hello c.args.self.now.handshake c.poll_transmit.new.self c.args.self.now.core c.args.self.now.is_connected t c.in_err-sent.ensures.unsent p)
+    err_carries g.S.Session.accepts g.S.Session.sealed c.args.buf.now.items c.poll_transmit.new.buf.items hello c.from_residual.result c.poll_transmit.new.self c.args.self.now.core c.args.self.now.is_connected t c.from_residual.ensures.0
+    (c.sends.ensures.unsent g.S.Session.accepts g.S.Session.sealed c.args.now hello c.args.self.now.handshake c.poll_transmit.new.self c.args.self.now.core c.args.self.now.is_connected t c.in_err-sent.ensures.unsent p)
 
 pub returns-in_default-clause-none : goal.returns-in_default-clause-none
 returns-in_default-clause-none g c = λ _.
@@ -78,17 +76,13 @@ returns-clause-carries g c = λ named makes hello t p.
     let old = c.args.self.now in
     let some = rw (c.in-Some.is, c.session.ensures) at c.in_ok-sent.ensures.some in
     let after = t ++ HandedOut (drop (length c.args.buf.now.items) c.poll_transmit.new.buf.items) ∷ [] in
-    let made = c.sends.ensures.made (g.S.Session.sealed old.core.session) c.args.now c.args.buf.now.items c.poll_transmit.new.buf.items hello old.handshake c.poll_transmit.new.self
+    let made = c.sends.ensures.made g.S.Session.accepts g.S.Session.sealed (g.S.Session.sealed old.core.session) c.args.now c.args.buf.now.items c.poll_transmit.new.buf.items hello old.handshake c.poll_transmit.new.self
     c.in-Some.sent.size old.core old.is_connected t makes c.requires.whole.sound.handshake some.0 p in
     elim c.if-sent.branch [
-      | then-sent w ↦ subst (λ (z : Connection _). Stands hello z after) (sym w.self-is)
-          (nothing_less hello c.poll_transmit.new.self w.on_packet_sent.new.self old.is_connected after
-          (c.sends.ensures.called g.S.Session.accepts g.S.Session.sealed hello c.poll_transmit.new.self old.core w.on_packet_sent.new.self old.is_connected [] after named
-          (λ from number h. makes from Data number h)
-          (one_step IsMadeLocally old.core w.on_packet_sent.new.self []
-          (turned_made old.core w.on_packet_sent.new.self (packet_sent c.args.now w.on_packet_sent.ensures.value) w.on_packet_sent.ensures.follows w.on_packet_sent.ensures.same_end))
-          (λ _. refl) made))
-      | else-sent w ↦ subst (λ (z : Connection _). Stands hello z after) (sym w.self-is) made
+      | then-sent w ↦ subst (λ (z : Connection _). Stands g.S.Session.accepts g.S.Session.sealed hello z after) (sym w.self-is)
+          (stays g.S.Session.accepts g.S.Session.sealed hello c.poll_transmit.new.self old.core w.on_packet_sent.new.self old.is_connected after
+          (turned_made old.core w.on_packet_sent.new.self (packet_sent c.args.now w.on_packet_sent.ensures.value) w.on_packet_sent.ensures.follows w.on_packet_sent.ensures.same_end) made)
+      | else-sent w ↦ subst (λ (z : Connection _). Stands g.S.Session.accepts g.S.Session.sealed hello z after) (sym w.self-is) made
     ]
 
 pub returns-clause-whole : goal.returns-clause-whole
