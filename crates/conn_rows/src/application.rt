@@ -1,5 +1,6 @@
 //! Rows of an end by which its application uses streams and datagrams.
 use crate::end::End;
+use crate::items::put_items;
 use crate::say::{dir, find, put_form, put_ok, put_part, put_some, put_text, stream};
 use bytes::Bytes;
 use qh_base::StreamId;
@@ -22,9 +23,11 @@ enum Call {
     Recv,
     Max,
     Space,
+    Log,
+    Items,
 }
 
-const CALLS: [(&str, Call); 10] = [
+const CALLS: [(&str, Call); 12] = [
     ("open", Call::Open),
     ("accept", Call::Accept),
     ("write", Call::Write),
@@ -35,6 +38,8 @@ const CALLS: [(&str, Call); 10] = [
     ("recv", Call::Recv),
     ("max", Call::Max),
     ("space", Call::Space),
+    ("log", Call::Log),
+    ("items", Call::Items),
 ];
 
 /// Answers a row of an end.
@@ -56,6 +61,8 @@ pub(crate) fn answer(
         Some(Call::Recv) => recv(end, out),
         Some(Call::Max) => put_some(out, max_datagram(end)),
         Some(Call::Space) => put_form(out, "#", &[end.datagram_space() as u64]),
+        Some(Call::Log) => log(end, out),
+        Some(Call::Items) => put_items(out, &end.take_items()?),
         None => Err(RowFault::Form),
     }
 }
@@ -162,6 +169,12 @@ fn recv(end: &mut End, out: &mut Vec<u8>) -> Result<(), RowFault> {
         Some(payload) => put_part(out, "", &payload),
         None => put_text(out, "none"),
     }
+}
+
+// Begins a log, at an end that wasn't greeted.
+fn log(end: &mut End, out: &mut Vec<u8>) -> Result<(), RowFault> {
+    end.start_log()?;
+    put_ok(out)
 }
 
 fn max_datagram(end: &End) -> Option<u64> {

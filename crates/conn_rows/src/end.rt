@@ -10,7 +10,8 @@ use qh_base::{
 };
 use qh_buffers::Chunk;
 use qh_conn::{
-    ConnConfig, Connection, ConnectionEvent, DatagramFault, EndpointEvent, Event, IssuedCid,
+    ConnConfig, Connection, ConnectionEvent, ConnectionItem, DatagramFault, EndpointEvent, Event,
+    IssuedCid,
 };
 use qh_core::{ConnectionStats, TakeFault};
 use qh_packet::{PlainSession, Session};
@@ -185,6 +186,20 @@ impl End {
 
 // What an end tells of itself.
 impl End {
+    /// Begins a log, if there is none, at an end that wasn't greeted.
+    pub(crate) fn start_log(&mut self) -> Result<(), RowFault> {
+        if !may_log(&self.connection) {
+            return Err(RowFault::Form);
+        }
+        self.connection.start_log()?;
+        Ok(())
+    }
+
+    /// What came since its log began, or since this was called last, if it has a log.
+    pub(crate) fn take_items(&mut self) -> Result<Option<Vec<ConnectionItem>>, Memory> {
+        self.connection.take_items()
+    }
+
     pub(crate) fn stats(&self) -> ConnectionStats {
         self.connection.stats()
     }
@@ -288,6 +303,14 @@ fn is_fresh(connection: &Connection<PlainSession>) -> bool
         && handshake.retry_id.is_none()
         && handshake.bytes_received == 0
         && handshake.bytes_sent == 0
+}
+
+// It has no log, and its peer's hello wasn't read.
+fn may_log(connection: &Connection<PlainSession>) -> bool
+    ensures off { result ≡ true → connection.now.control.log ≡ None }
+    ensures ungreeted { result ≡ true → connection.now.handshake.peer ≡ None }
+{
+    !connection.control.log.is_on() && connection.handshake.peer.is_none()
 }
 
 // The session of an end, whose tags are made of this id.

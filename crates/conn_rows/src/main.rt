@@ -8,6 +8,7 @@ mod calls;
 mod datagrams;
 mod end;
 mod exchange;
+mod items;
 mod made;
 mod pair;
 mod request;

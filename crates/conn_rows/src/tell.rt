@@ -48,8 +48,8 @@ fn put_next_for_endpoint(out: &mut Vec<u8>, start: usize, end: &mut End) -> Resu
     Ok(true)
 }
 
-// Appends a comma, if anything was appended since the start.
-fn put_comma(out: &mut Vec<u8>, start: usize) -> Result<(), RowFault> {
+/// Appends a comma, if anything was appended since the start.
+pub(crate) fn put_comma(out: &mut Vec<u8>, start: usize) -> Result<(), RowFault> {
     if out.len() > start {
         return put_text(out, ", ");
     }
@@ -99,7 +99,8 @@ fn put_endpoint_event(out: &mut Vec<u8>, event: &EndpointEvent) -> Result<(), Ro
     }
 }
 
-fn put_lost(out: &mut Vec<u8>, reason: &ConnectionError) -> Result<(), RowFault> {
+/// Appends why the connection is lost.
+pub(crate) fn put_lost(out: &mut Vec<u8>, reason: &ConnectionError) -> Result<(), RowFault> {
     put_text(out, "lost ")?;
     put_reason(out, reason)
 }

@@ -1,10 +1,15 @@
 -- A handshake before its first datagram.
-use Rattle.std.proofs.Common.{◌≡◌, inl, inr, ℕ, Bool, List, [], Option, Some, None, refl, sym, subst}
-use Rattle.std.specs.Prelude.{IsSomeAnd}
+use Rattle.std.proofs.Common.{◌≡◌, inl, inr, ℕ, Bool, true, false, List, [], length, Option, Some, None, is_some, refl, sym, ap, subst, ◌∙◌}
+use Rattle.std.specs.Prelude.{IsSomeAnd, not, ◌&&◌}
 use Rattle.qh_base.specs.declared.time.Moment.{Moment}
-use Rattle.qh_converse.proofs.StateKept.{same_begun, same_order}
-use Rattle.qh_converse.specs.Converses.{Converses}
+use Rattle.qh_conn.specs.Parameters.{IsSaid, with_key}
+use Rattle.qh_conn.specs.declared.config.ConnConfig.{ConnConfig}
+use Rattle.qh_converse.proofs.AccordKept.{shake_accorded}
+use Rattle.qh_converse.proofs.OrderSteps.{same_orders}
+use Rattle.qh_converse.specs.Converses.{Converses, progress_of}
 use Rattle.qh_converse.specs.Parts.IsShakeOf.{none as no_shake}
+use Rattle.qh_converse.specs.Settled.{milliseconds}
+use Rattle.qh_core.specs.Inner.{is_client}
 use Rattle.qh_core.specs.Made.{AcceptsTags, MakesTagsOf}
 use Rattle.qh_core.specs.declared.inner.Inner.{Inner}
 use Rattle.qh_handshake.proofs.FollowsOn.{fresh_follows}
@@ -16,6 +21,7 @@ use Rattle.qh_handshake.specs.declared.initial_space.HelloState.{HelloState}
 use Rattle.qh_handshake.specs.declared.initial_space.HelloState.TheVariants.{Held, Waits}
 use Rattle.qh_handshake.specs.declared.initial_space.InitialSpace.{InitialSpace}
 use Rattle.qh_hello.specs.Greetings.{greeting}
+use Rattle.qh_hello.specs.declared.transport_parameters.TransportParameters.{TransportParameters}
 use Rattle.qh_spec.specs.Hello.{IsSayable, hello_bytes, hello_of}
 use Rattle.qh_spec.specs.declared.sides.Side.{Side}
 use Rattle.qh_spec.specs.declared.sides.Side.TheVariants.{Client, Server}
@@ -68,16 +74,38 @@ server_fresh h rtt now side sayable space peer received sent =
       sent = sent;
     }
 
--- a handshake that is made another before its first datagram
-pub refreshed : {S : Type 0} (accepts : AcceptsTags S) (sealed : MakesTagsOf S) (hello own : List ℕ) (h new : Handshake) (c : Inner S) (k : Bool) → IsFresh own new → new.side ≡ h.side → new.local_id ≡ h.local_id → new.peer ≡ h.peer → Converses accepts sealed hello h c k []
-    → Converses accepts sealed own new c k []
-refreshed accepts sealed hello own h new c k fresh side id peer p = record {
-  shake = [];
-  is_shake = no_shake;
-  follows = fresh_follows own new fresh;
-  sends = fresh_sends own new fresh;
-  part = p.part;
-  is_part = p.is_part;
-  begun = same_begun accepts sealed h new c p.part side id peer p.begun;
-  orders = same_order h new c c k [] side peer refl refl p.orders;
-}
+-- a handshake that is made another before its first datagram, and says the same idle time
+pub refreshed : {S : Type 0} (accepts : AcceptsTags S) (sealed : MakesTagsOf S) (hello own : List ℕ) (h new : Handshake) (c : Inner S) (k : Bool) → IsFresh own new → new.side ≡ h.side → new.local_id ≡ h.local_id → new.peer ≡ h.peer
+    → new.parameters.max_idle_timeout ≡ h.parameters.max_idle_timeout → Converses accepts sealed hello h c k [] → Converses accepts sealed own new c k []
+refreshed accepts sealed hello own h new c k fresh side id peer idle p =
+    let none : h.peer ≡ None = sym peer ∙ fresh.ungreeted in
+    record {
+      shake = [];
+      is_shake = no_shake;
+      follows = fresh_follows own new fresh;
+      sends = fresh_sends own new fresh;
+      part = p.part;
+      is_part = p.is_part;
+      begun = record {
+        side_is = p.begun.side_is ∙ sym side;
+        id_is = p.begun.id_is ∙ sym id;
+        behaves = p.begun.behaves;
+        accords = shake_accorded accepts sealed h new c p.part (λ greeted. ap is_some peer ∙ greeted) p.begun.accords;
+        short = p.begun.short;
+        not_yet = λ _. p.begun.not_yet none;
+        settled = λ q e up. let z : None ≡ Some q = sym fresh.ungreeted ∙ e in cc;
+        unsettled = λ _. p.begun.unsettled none ∙ sym idle;
+        runs = p.begun.runs;
+      };
+      orders = λ n _.
+          same_orders (length c.local_id) n (progress_of h k) (progress_of new k) [] side (ap is_some peer) (ap (λ (s : Side). k && not (is_client s)) side)
+          (p.orders n (λ e. let z : true ≡ false = sym e ∙ ap is_some none in cc));
+    }
+
+with_key_idle : (side : Side) (key_id : List ℕ) (p : TransportParameters) → (with_key side key_id p).max_idle_timeout ≡ p.max_idle_timeout
+with_key_idle Client key_id p = refl
+with_key_idle Server key_id p = refl
+
+-- an end says the idle time of its config
+pub said_idle : (c : ConnConfig) (side : Side) (id key_id : List ℕ) (p : TransportParameters) → IsSaid c side id key_id p → p.max_idle_timeout ≡ milliseconds c.idle
+said_idle c side id key_id p s = ap (λ (z : TransportParameters). z.max_idle_timeout) s.is ∙ with_key_idle side key_id _

@@ -7,6 +7,7 @@ use Rattle.qh_base.specs.declared.connection_error.ConnectionError.TheVariants a
 use Rattle.qh_base.specs.declared.memory.Memory.{Memory as OutOfMemory}
 use Rattle.qh_base.specs.declared.time.Moment.{Moment}
 use Rattle.qh_conn.proofs.InHears.{hears_still}
+use Rattle.qh_conn.proofs.Noted.{taken_session}
 use Rattle.qh_conn.specs.Greeting.{connected, with_core}
 use Rattle.qh_conn.specs.Hearing.{FailsTo, HasRead, HearsIt, StandsOrFails}
 use Rattle.qh_conn.specs.Incoming.{IsFed, IsMet}
@@ -203,18 +204,17 @@ module _ {S : Type 0} where
   core_only old new core e = e ∙ ap (λ (z : Connection S). record old { core = z.core }) (sym e)
 
   pub discarded_hears : (accepts : AcceptsTags S) (sealed : MakesTagsOf S) (hello : List ℕ) (c new : Connection S) (t : List Act) (d : List ℕ) → new.handshake ≡ record (dropping c.handshake) { is_validated = true }
-      → new.core ≡ c.core → new.is_connected ≡ true → Hears accepts sealed hello c.handshake c.core true t d → HearsIt accepts sealed hello new t d
-  discarded_hears accepts sealed hello c new t d handshake core connected p =
+      → IsMadeLocally c.core new.core [] → new.is_connected ≡ true → Hears accepts sealed hello c.handshake c.core true t d → HearsIt accepts sealed hello new t d
+  discarded_hears accepts sealed hello c new t d handshake made connected p =
       subst (λ (z : Handshake). Hears accepts sealed hello z new.core new.is_connected t d) (sym handshake)
-      (subst (λ (z : Inner S). Hears accepts sealed hello (record (dropping c.handshake) { is_validated = true }) z new.is_connected t d) (sym core)
-      (subst (λ (z : Bool). Hears accepts sealed hello (record (dropping c.handshake) { is_validated = true }) c.core z t d) (sym connected)
-      (discards accepts sealed hello d c.handshake c.core true t p)))
+      (subst (λ (z : Bool). Hears accepts sealed hello (record (dropping c.handshake) { is_validated = true }) new.core z t d) (sym connected)
+      (hears_still c.core new.core made accepts sealed hello d (record (dropping c.handshake) { is_validated = true }) true t (discards accepts sealed hello d c.handshake c.core true t p)))
 
   -- ---- the whole datagram
 
   greeted_session : (now : Moment) (old : Connection S) (p : TransportParameters) (core : Inner S) (b : Bool)
       → (if b then connected now (with_core old core p) else with_core old core p).core.session ≡ core.session
-  greeted_session now old p core true = refl
+  greeted_session now old p core true = taken_session (with_core old core p).control.log core
   greeted_session now old p core false = refl
 
   -- the session is as it was

@@ -5,7 +5,6 @@ use Rattle.std.proofs.lemmas.List.{append-nil}
 use Rattle.std.specs.Prelude.{OnOk, OnErr}
 use Rattle.qh_base.specs.declared.memory.Memory.{Memory as OutOfMemory}
 use Rattle.qh_base.specs.declared.time.Moment.{Moment}
-use Rattle.qh_conn.specs.Greeting.{connected}
 use Rattle.qh_conn.specs.Hearing.{FailsTo, HearsStill, StandsOrFails}
 use Rattle.qh_conn.specs.Incoming.{IsShutConnected}
 use Rattle.qh_conn.specs.Whole.{Stands}
@@ -27,6 +26,7 @@ use Rattle.qh_core.specs.declared.inner.Inner.{Inner}
 use Rattle.qh_core.specs.declared.state.Close.{Close}
 use Rattle.qh_core.specs.declared.state.State.{State}
 use Rattle.qh_core.specs.declared.state.State.TheVariants.{Closed, Drained, Draining, Established}
+use Rattle.qh_handshake.specs.Handshake.{dropping}
 use Rattle.qh_handshake.specs.declared.handshake.Handshake.{Handshake}
 use Rattle.qh_packet.proofs.Packets.{has_packet}
 use Rattle.qh_packet.specs.Frames.{AreValidFrames}
@@ -160,13 +160,12 @@ module _ {S : Type 0} where
   either_way accepts sealed (Err e) hello c t p = (tt, fails_to accepts sealed hello c t p)
 
   -- a server is connected
-  pub connected_stands : (accepts : AcceptsTags S) (sealed : MakesTagsOf S) (result : Result Unit OutOfMemory) (now : Moment) (hello : List ℕ) (old new : Connection S) (t : List Act) → OnOk result (new ≡ connected now old)
-      → OnErr result (new ≡ record (connected now old) { control = old.control }) → HasPacketOf (length old.core.local_id) (handed_in t) (other old.handshake.side) Data
-      → Stands accepts sealed hello old t → Stands accepts sealed hello new t
-  connected_stands accepts sealed (Ok x) now hello old new t is err has p =
-      subst (λ (z : Connection S). Stands accepts sealed hello z t) (sym is) (connects accepts sealed hello old.handshake old.core old.is_connected t has p)
-  connected_stands accepts sealed (Err e) now hello old new t ok is has p =
-      subst (λ (z : Connection S). Stands accepts sealed hello z t) (sym is) (connects accepts sealed hello old.handshake old.core old.is_connected t has p)
+  pub connected_stands : (accepts : AcceptsTags S) (sealed : MakesTagsOf S) (hello : List ℕ) (old new : Connection S) (t : List Act) → new.handshake ≡ record (dropping old.handshake) { is_validated = true } → new.is_connected ≡ true
+      → IsMadeLocally old.core new.core [] → HasPacketOf (length old.core.local_id) (handed_in t) (other old.handshake.side) Data → Stands accepts sealed hello old t → Stands accepts sealed hello new t
+  connected_stands accepts sealed hello old new t handshake connected made has p =
+      subst (λ (z : Handshake). Converses accepts sealed hello z new.core new.is_connected t) (sym handshake)
+      (subst (λ (z : Bool). Converses accepts sealed hello (record (dropping old.handshake) { is_validated = true }) new.core z t) (sym connected)
+      (stays accepts sealed hello (record (dropping old.handshake) { is_validated = true }) old.core new.core true t made (connects accepts sealed hello old.handshake old.core old.is_connected t has p)))
 
   -- ---- an end that closed
 

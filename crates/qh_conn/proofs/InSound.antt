@@ -3,7 +3,7 @@ use Rattle.std.proofs.Common.{◌≡◌, ◌<◌, take, length, true, false, Boo
 use Rattle.std.specs.Prelude.{OnOk, OnErr}
 use Rattle.qh_conn.specs.Whole.{IsSafe, IsSound, IsWhole}
 use Rattle.qh_conn.specs.declared.connection.Connection.{Connection}
-use Rattle.qh_control.specs.Control.{IsSendable, KeepsSendable, is_next, with_all_issued, with_issued}
+use Rattle.qh_control.specs.Control.{IsSendable, KeepsSendable, may_announce, with_all_issued, with_issued}
 use Rattle.qh_control.specs.declared.event.IssuedCid.{IssuedCid}
 use Rattle.qh_control.specs.declared.control.ControlState.{ControlState}
 use Rattle.qh_base.specs.declared.time.Moment.{Moment}
@@ -141,7 +141,7 @@ if_ids false x y same = refl
 -- ids that are issued leave the peer's as they are
 pub issued_ids : (s : ControlState) (cids : List IssuedCid) → (with_all_issued s cids).ids ≡ s.ids
 issued_ids s [] = refl
-issued_ids s (cid ∷ cids) = issued_ids (with_issued s cid) cids ∙ if_ids (is_next s cid) _ s refl
+issued_ids s (cid ∷ cids) = issued_ids (with_issued s cid) cids ∙ if_ids (may_announce s cid) _ s refl
 
 pub issued_long : {E : Type 0} (result : Result Unit E) (old new : ControlState) (cids : List IssuedCid) → OnOk result (new ≡ with_all_issued old cids)
     → OnErr result ((count : ℕ) × (count < length cids) × (new ≡ with_all_issued old (take count cids))) → length new.ids.active.id ≡ length old.ids.active.id

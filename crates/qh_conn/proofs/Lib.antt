@@ -1,3 +1,4 @@
+pub mod Begun
 mod FirstHandshake
 pub mod InClosed
 pub mod InData
@@ -8,9 +9,12 @@ pub mod InReset
 pub mod InRest
 pub mod InSound
 pub mod InTake
+pub mod Noted
 pub mod OnStreams
 pub mod OutCarries
 pub mod OutKeys
 pub mod OutSent
 pub mod OutStill
 pub mod OutWhole
+pub mod Same
+pub mod SameParts

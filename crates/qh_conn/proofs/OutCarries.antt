@@ -7,6 +7,7 @@ use Rattle.qh_base.specs.declared.memory.Memory.{Memory as OutOfMemory}
 use Rattle.qh_base.specs.declared.path.Transmit.{Transmit}
 use Rattle.qh_conduct.specs.Behaves.{Behaves}
 use Rattle.qh_conn.specs.Outgoing.{made_acts}
+use Rattle.qh_converse.proofs.HandshakeDatagrams.{same_still}
 use Rattle.qh_converse.proofs.StateKept.{quiet_begun, same_order}
 use Rattle.qh_converse.specs.Converses.{Converses}
 use Rattle.qh_core.proofs.MadeTogether.{one_step}
@@ -41,7 +42,7 @@ module _ {S : Type 0} where
         part = p.part;
         is_part = p.is_part;
         begun = quiet_begun accepts sealed h c new p.part greeted made (behaves [] p.part (one_step (IsMade accepts sealed) c new [] made) p.begun.behaves) p.begun;
-        orders = same_order h h c new k t refl refl same.local_id same.remote_length p.orders;
+        orders = same_order h h c new k t (same_still h h refl) same.local_id p.orders;
       }
 
   module _ (accepts : AcceptsTags S) (sealed : MakesTagsOf S) where

@@ -1,11 +1,13 @@
 -- A datagram of frames of a connection's own is sent.
-use Rattle.std.proofs.Common.{◌≡◌, ℕ, ◌+◌, ◌-◌, ◌<◌, ◌≤◌, nat_le, Bool, true, false, List, [], ◌∷◌, ◌++◌, length, map, take, drop, zero, suc, refl, sym, ap, subst, ◌∙◌, arith}
+use Rattle.std.proofs.Common.{◌≡◌, ℕ, ◌+◌, ◌-◌, ◌<◌, ◌≤◌, nat_le, Bool, true, false, List, [], ◌∷◌, ◌++◌, length, map, take, drop, zero, suc, None, refl, sym, ap, subst, ◌∙◌, arith}
 use Rattle.std.specs.Prelude.{◌||◌, if◌then◌else◌}
 use Rattle.qh_base.specs.declared.time.Moment.{Moment}
+use Rattle.qh_conn.specs.Items.{noted_in}
 use Rattle.qh_conn.specs.Outgoing.{AreOutgoing, IsDataTransmitted, handed_on}
 use Rattle.qh_conn.specs.declared.connection.Connection.{Connection}
 use Rattle.qh_control.specs.Queue.{PlainQueue, sent_in}
 use Rattle.qh_control.specs.declared.control.ControlState.{ControlState}
+use Rattle.qh_control.specs.declared.items.ConnectionItem.TheVariants as item
 use Rattle.qh_core.specs.Control.{control_frame, fitting}
 use Rattle.qh_core.specs.Sending.{IsControlSent}
 use Rattle.qh_core.specs.declared.control.ControlFrame.{ControlFrame}
@@ -50,13 +52,17 @@ module _ {S : Type 0} where
       (ap (λ (z : PlainQueue). z.waiting) q_is ∙ ap (λ (z : List ControlFrame). drop sent.count z) waiting)
       (ap (λ (z : PlainQueue). z.sent) q_is ∙ ap (λ (z : PlainQueue). z.sent ++ map (sent_in sent.number) (take sent.count z.waiting)) mid_is) refl
 
-  pub datagrams_out : (sealed : SealsTag) (now : Moment) (old : Connection S) (core : Inner S) (control : ControlState) (frames : List ControlFrame) (before after : List ℕ) (sent : ControlSent)
+  pub datagrams_out : (sealed : SealsTag) (now : Moment) (old new : Connection S) (core : Inner S) (control : ControlState) (frames : List ControlFrame) (before after : List ℕ) (sent : ControlSent)
       → old.control.queue.waiting ≡ [] → AreOutgoing old.control frames → IsControlSent sealed now old.core core before after frames sent
       → control ≡ record old.control {
         datagrams = record old.control.datagrams { outgoing = drop sent.count old.control.datagrams.outgoing; is_send_blocked = false };
         is_unblocked_due = old.control.datagrams.is_send_blocked || old.control.is_unblocked_due;
+        log = None;
       }
-      → IsDataTransmitted sealed now old (handed_on sent.transmit.size (record old { core = core; control = control; is_control_next = false })) before after sent.transmit
-  datagrams_out sealed now old core control frames before after sent none out made_is control_is =
-      subst (λ (z : ControlState). IsDataTransmitted sealed now old (handed_on sent.transmit.size (record old { core = core; control = z; is_control_next = false })) before after sent.transmit)
-      (sym control_is) (IsDataTransmitted.datagrams sent frames none out made_is refl (record { waiting = refl; sent = refl }) refl)
+      → new ≡ noted_in old.control.log (item.DatagramsSent sent.count ∷ []) (record old { core = core; control = control })
+      → IsDataTransmitted sealed now old (handed_on sent.transmit.size (record new { is_control_next = false })) before after sent.transmit
+  datagrams_out sealed now old new core control frames before after sent none out made_is control_is new_is =
+      subst (λ (z : Connection S). IsDataTransmitted sealed now old (handed_on sent.transmit.size (record z { is_control_next = false })) before after sent.transmit) (sym new_is)
+      (subst (λ (z : ControlState). IsDataTransmitted sealed now old (handed_on sent.transmit.size
+      (record (noted_in old.control.log (item.DatagramsSent sent.count ∷ []) (record old { core = core; control = z })) { is_control_next = false })) before after sent.transmit)
+      (sym control_is) (IsDataTransmitted.datagrams sent frames core none out made_is refl (record { waiting = refl; sent = refl }) refl))

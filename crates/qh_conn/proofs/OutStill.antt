@@ -48,8 +48,8 @@ module _ {S : Type 0} where
       (waiting ∙ ap (λ (z : List ControlFrame). drop sent.count z) s.waiting)
       (out ∙ ap (λ (z : List SentControl). z ++ map (sent_in sent.number) (take sent.count q.waiting)) s.sent
       ∙ ap (λ (z : List ControlFrame). old.control.queue.sent ++ map (sent_in sent.number) (take sent.count z)) s.waiting) is
-  still_sent sealed now old new q before after t s (IsDataTransmitted.datagrams sent frames none out control t_is still is) =
-      IsDataTransmitted.datagrams sent frames (sym s.waiting ∙ none) (same_outgoing old.control q frames out) control t_is (record { waiting = still.waiting ∙ s.waiting; sent = still.sent ∙ s.sent }) is
+  still_sent sealed now old new q before after t s (IsDataTransmitted.datagrams sent frames core none out control t_is still is) =
+      IsDataTransmitted.datagrams sent frames core (sym s.waiting ∙ none) (same_outgoing old.control q frames out) control t_is (record { waiting = still.waiting ∙ s.waiting; sent = still.sent ∙ s.sent }) is
 
   still_held : (c : Connection S) (q : PlainQueue) → IsQueueStill c.control.queue q → IsControlHeld (record c { control = record c.control { queue = q } }) → IsControlHeld c
   still_held c q s (IsControlHeld.none none out) = IsControlHeld.none (sym s.waiting ∙ none) out

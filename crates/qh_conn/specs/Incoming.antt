@@ -6,6 +6,7 @@ use Rattle.qh_base.specs.declared.shared.ResetToken.{ResetToken}
 use Rattle.qh_base.specs.declared.time.Moment.{Moment}
 use Rattle.qh_base.specs.declared.transport_error.TransportError.{TransportError}
 use Rattle.qh_conn.specs.Greeting.{IsGreetedNow, connected}
+use Rattle.qh_conn.specs.Items.{noted}
 use Rattle.qh_conn.specs.declared.connection.Connection.{Connection}
 use Rattle.qh_conn.specs.declared.event.ConnectionEvent.{ConnectionEvent}
 use Rattle.qh_conn.specs.declared.event.ConnectionEvent.TheVariants as event
@@ -111,9 +112,9 @@ module _ {S : Type 0} where
 
   -- ---- what is behind them
 
-  -- a server is connected by the first 1-RTT packet that it accepts
+  -- a server is connected by the first 1-RTT packet that it accepts; what came to the streams is in the log, before what is the connection's own
   abbrev pub connected_if : Moment → (old : Connection S) → Connection S
-  connected_if now c = if c.is_connected then c else connected now c
+  connected_if now c = if c.is_connected then noted [] c else connected now c
 
   -- A packet was accepted: the end of the 1-RTT packets took its frames, `mid` is the connection then. The frames of the connection's own are
   -- taken up to one that is refused, by which the end closes, though one behind it closed it, or was the peer's close. If the end is open

@@ -1,7 +1,9 @@
 pub mod Greeting
 pub mod Hearing
 pub mod Incoming
+pub mod Items
 pub mod Outgoing
 pub mod Parameters
+pub mod Same
 pub mod Telling
 pub mod Whole

@@ -4,15 +4,19 @@ use Rattle.qh_base.specs.declared.connection_error.ConnectionClose.{ConnectionCl
 use Rattle.qh_base.specs.declared.memory.Memory.{Memory as OutOfMemory}
 use Rattle.qh_base.specs.declared.path.Transmit.{Transmit}
 use Rattle.qh_base.specs.declared.time.Moment.{Moment}
+use Rattle.qh_conn.specs.Items.{streams_taken}
 use Rattle.qh_conn.specs.declared.connection.Connection.{Connection}
+use Rattle.qh_control.specs.Items.{logged, streamed}
 use Rattle.qh_control.specs.Queue.{PlainQueue, sent_in}
 use Rattle.qh_control.specs.declared.control.ControlState.{ControlState}
+use Rattle.qh_control.specs.declared.items.ConnectionItem.TheVariants as item
 use Rattle.qh_core.specs.Inner.{counted, is_open}
 use Rattle.qh_core.specs.Sending.{BearsNoControl, IsControlKept, IsControlSent, IsDatagramMade as IsCoreMade, IsSilent as IsCoreSilent, is_close_due, without_close_due}
 use Rattle.qh_core.specs.Timers.{sent_at}
 use Rattle.qh_core.specs.declared.control.ControlFrame.{ControlFrame}
 use Rattle.qh_core.specs.declared.control.ControlFrame.TheVariants as sending
 use Rattle.qh_core.specs.declared.control.ControlSent.{ControlSent}
+use Rattle.qh_core.specs.declared.inner.Inner.{Inner}
 use Rattle.qh_core.specs.declared.state.Close.{Close}
 use Rattle.qh_core.specs.declared.state.Close.TheVariants.{Connection as OfTransport, Application}
 use Rattle.qh_core.specs.declared.state.State.TheVariants.{Closed}
@@ -55,7 +59,8 @@ module _ {S : Type 0} where
     pub source : t.src_ip ≡ old.core.addresses.local_ip
 
   -- A 1-RTT packet of an end that is connected was appended to a buffer: one of what its streams and acknowledgements have to send, or of its
-  -- close; or one of the frames of its own that wait, or if none does of datagrams of the application's.
+  -- close; or one of the frames of its own that wait, or if none does of datagrams of the application's, which is logged behind what came to the
+  -- streams by then.
   pub data IsDataTransmitted (sealed : SealsTag) (now : Moment) (old new : Connection S) (before after : List ℕ) (t : Transmit) : Type 0 where
     of_core : IsCoreMade sealed now old.core new.core before after t → BearsNoControl sealed now old.core new.core before after → IsQueueStill old.control.queue new.control.queue
         → new ≡ record old {
@@ -69,14 +74,15 @@ module _ {S : Type 0} where
         → new.control.queue.sent ≡ old.control.queue.sent ++ map (sent_in sent.number) (take sent.count old.control.queue.waiting)
         → new ≡ record old { core = new.core; control = record old.control { queue = new.control.queue }; is_control_next = false; udp_tx = counted t.size old.udp_tx }
         → IsDataTransmitted sealed now old new before after t
-    datagrams : (sent : ControlSent) (frames : List ControlFrame) → old.control.queue.waiting ≡ [] → AreOutgoing old.control frames
-        → IsControlSent sealed now old.core new.core before after frames sent → t ≡ sent.transmit → IsQueueStill old.control.queue new.control.queue
+    datagrams : (sent : ControlSent) (frames : List ControlFrame) (core : Inner S) → old.control.queue.waiting ≡ [] → AreOutgoing old.control frames
+        → IsControlSent sealed now old.core core before after frames sent → t ≡ sent.transmit → IsQueueStill old.control.queue new.control.queue
         → new ≡ record old {
-          core = new.core;
+          core = streams_taken old.control.log core;
           control = record old.control {
             queue = new.control.queue;
             datagrams = record { incoming = old.control.datagrams.incoming; outgoing = drop sent.count old.control.datagrams.outgoing; is_send_blocked = false };
             is_unblocked_due = old.control.datagrams.is_send_blocked || old.control.is_unblocked_due;
+            log = logged old.control.log (streamed core.space.log ++ item.DatagramsSent sent.count ∷ []);
           };
           is_control_next = false;
           udp_tx = counted t.size old.udp_tx;

@@ -1,14 +1,14 @@
--- What an end says of itself, and what it makes of what its peer says (RFC 9000, sections 10.1 and 18.2; RFC 9221, section 3).
-use Rattle.std.specs.Prelude.{◌≡◌, ℕ, ◌-◌, ◌*◌, ◌/◌, ◌^◌, nat_lt, min, true, false, List, [], ◌∷◌, length, Option, Some, None, IsSomeAnd, if◌then◌else◌}
+-- What an end says of itself, and what it begins with (RFC 9000, sections 10.1 and 18.2; RFC 9221, section 3).
+use Rattle.std.specs.Prelude.{◌≡◌, ℕ, ◌^◌, min, true, false, List, [], ◌∷◌, length, Option, Some, None, IsSomeAnd}
 use Rattle.std.specs.Option.{option_map}
 use Rattle.std.specs.declared.net.socket_addr.SocketAddr.{SocketAddr}
 use Rattle.qh_base.specs.declared.shared.ResetToken.{ResetToken}
 use Rattle.qh_base.specs.declared.path.FourTuple.{FourTuple}
 use Rattle.qh_base.specs.declared.time.Moment.{Moment}
-use Rattle.qh_base.specs.declared.time.Span.{Span}
 use Rattle.qh_conn.specs.declared.config.ConnConfig.{ConnConfig}
 use Rattle.qh_control.specs.Control.{first_ids}
 use Rattle.qh_control.specs.declared.control.ControlState.{ControlState}
+use Rattle.qh_converse.specs.Settled.{milliseconds}
 use Rattle.qh_core.specs.Config.{bounded}
 use Rattle.qh_core.specs.Inner.{IsNewSpace, fresh_stats}
 use Rattle.qh_core.specs.declared.config.ConnConfig.{ConnConfig as CoreConfig}
@@ -19,15 +19,10 @@ use Rattle.qh_handshake.specs.declared.handshake.Handshake.{Handshake}
 use Rattle.qh_handshake.specs.declared.initial_space.HelloState.TheVariants.{Held, Waits}
 use Rattle.qh_hello.specs.Greetings.{greeting}
 use Rattle.qh_hello.specs.declared.transport_parameters.TransportParameters.{TransportParameters}
-use Rattle.qh_spec.specs.Hello.{hello_bytes, hello_of, idle_in_force}
+use Rattle.qh_spec.specs.Hello.{hello_bytes, hello_of}
 use Rattle.qh_spec.specs.declared.sides.Side.{Side}
 use Rattle.qh_spec.specs.declared.sides.Side.TheVariants.{Client, Server}
 use Rattle.qh_token.specs.Reset.{reset_token_of}
-
--- whole milliseconds of the idle time, 0 for none
-abbrev pub milliseconds : Option Span → ℕ
-milliseconds None = 0
-milliseconds (Some span) = span.0 / 1000000
 
 -- a server alone says the token of its stateless resets
 abbrev pub token_if_server : Side → ResetToken → Option ResetToken
@@ -96,16 +91,6 @@ pub record IsFirstCore {S : Type 0} (c : ConnConfig) (side : Side) (session : S)
     udp_rx = fresh_stats;
   }
 
--- the idle time in force, of the milliseconds that this end and its peer say
-abbrev pub idle_of : (own peer : ℕ) → Option Span
-idle_of own peer = option_map (λ (n : ℕ). record { 0 = min (2 ^ 64 - 1) (n * 1000000) }) (idle_in_force own peer)
-
--- the longest payload of a DATAGRAM frame that a peer takes, which says so: with the three bytes of its type and length it is no greater
--- than the peer says, and it has room in each packet (own); none if not even an empty one may be sent, with two bytes
-abbrev pub datagram_of : Option ℕ → Option ℕ
-datagram_of None = None
-datagram_of (Some size) = if nat_lt size 2 then None else Some (min (size - 3) 1140)
-
 -- A handshake before its first datagram. A client's hello waits to be sent, with the name that is asked for, to the id that it chose; a server
 -- holds its own back, and sends to the id from which the client's first packet came. Nothing is known of the round-trip time but the config's.
 pub data IsFirstHandshake (c : ConnConfig) (name key_id remote_id : List ℕ) (now : Moment) (h : Handshake) : Side → Type 0 where
@@ -114,7 +99,7 @@ pub data IsFirstHandshake (c : ConnConfig) (name key_id remote_id : List ℕ) (n
   server : h.remote_id ≡ remote_id → h.knows_peer ≡ true → h.is_validated ≡ false → h.stats ≡ first_stats c.initial_rtt.0
       → IsSomeAnd h.space (IsUnused [] Held c.initial_rtt.0 now) → IsFirstHandshake c name key_id remote_id now h Server
 
--- the frames of its own before anything came or waits; there is memory for so many more that are out
+-- the frames of its own before anything came or waits; there is memory for so many more that are out; the log is off
 abbrev pub first_control : ConnConfig → (local_id remote_id : List ℕ) → (remote : SocketAddr) → (room : ℕ) → ControlState
 first_control c local_id remote_id remote room = record {
   remote = remote;
@@ -130,4 +115,5 @@ first_control c local_id remote_id remote room = record {
   is_datagram_due = false;
   is_unblocked_due = false;
   endpoint_events = [];
+  log = None;
 }

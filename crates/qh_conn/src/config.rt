@@ -1,7 +1,7 @@
 ghost use Rattle.std.specs.Prelude.{◌≡◌, ◌≤◌, ◌^◌, ℕ, [], List, Some, min, length, IfSome};
 ghost use Rattle.qh_base.specs.declared.shared.ResetToken.{ResetToken as AToken};
-ghost use Rattle.qh_conn.specs.Parameters.{core_config, datagram_of, idle_of, milliseconds, parameters_of, token_if_server};
-ghost use Rattle.qh_converse.specs.Converses.{peer_limits};
+ghost use Rattle.qh_conn.specs.Parameters.{core_config, parameters_of, token_if_server};
+ghost use Rattle.qh_converse.specs.Settled.{datagram_of, idle_of, milliseconds, peer_limits};
 ghost use Rattle.qh_hello.specs.Greetings.{greeting};
 ghost use Rattle.qh_spec.specs.Hello.{IsSayable};
 ghost use Rattle.qh_spec.specs.declared.sides.Side.TheVariants.{Client, Server};

@@ -2,6 +2,7 @@ ghost use Rattle.std.specs.Prelude.{◌≡◌, ◌≤◌, ◌+◌, ◌-◌, ◌^
 ghost use Rattle.qh_base.specs.declared.connection_error.ConnectionError.TheVariants.{LocallyClosed};
 ghost use Rattle.qh_conn.specs.Greeting.{no_early};
 ghost use Rattle.qh_conn.specs.Parameters.{IsFirstCore, IsFirstHandshake, IsSaid, first_control};
+ghost use Rattle.qh_conn.specs.Same.{IsSameConnection};
 ghost use Rattle.qh_conn.specs.Telling.{IsEndpointTold};
 ghost use Rattle.qh_conn.specs.Whole.{IsWhole, Stands, StandsStill};
 ghost use Rattle.qh_control.specs.declared.control.ControlState.{ControlState as AControlState};
@@ -61,6 +62,8 @@ pub struct Connection<S> {
     /// Whether a packet of frames of its own goes next, if there is one: each second packet may be one.
     pub is_control_next: bool,
     pub early: EarlyLimits,
+    /// Whether it was put into the log that the connection is lost.
+    pub is_lost_logged: bool,
     /// The datagrams that were handed out.
     pub udp_tx: UdpStats,
     /// The datagrams that were handed in.
@@ -90,7 +93,7 @@ impl<S: Session> Connection<S> {
         ensures begins { IfOk result (λ c. IsFirstHandshake config (S.name session) key_id remote_id now c.handshake side) }
         ensures said { IfOk result (λ c. IsSaid config side local_id key_id c.handshake.parameters) }
         ensures core { IfOk result (λ c. IsFirstCore config side session local_id remote_id addresses now c.core) }
-        ensures parts { IfOk result (λ c. (c.config ≡ config) × (c.is_connected ≡ false) × (c.is_data_due ≡ false) × (c.is_connected_due ≡ false) × (c.is_control_next ≡ false) × (c.early ≡ no_early) × (c.udp_tx ≡ fresh_stats) × (c.udp_rx ≡ fresh_stats)) }
+        ensures parts { IfOk result (λ c. (c.config ≡ config) × (c.is_connected ≡ false) × (c.is_data_due ≡ false) × (c.is_connected_due ≡ false) × (c.is_control_next ≡ false) × (c.early ≡ no_early) × (c.is_lost_logged ≡ false) × (c.udp_tx ≡ fresh_stats) × (c.udp_rx ≡ fresh_stats)) }
         ensures control { IfOk result (λ c. c.control ≡ first_control config local_id remote_id addresses.remote c.control.queue.room) }
     {
         hears::<S>();
@@ -126,6 +129,7 @@ impl<S: Session> Connection<S> {
             is_connected_due: false,
             is_control_next: false,
             early: no_early(),
+            is_lost_logged: false,
             udp_tx: no_datagrams(),
             udp_rx: no_datagrams(),
         })
@@ -195,6 +199,7 @@ impl<S> Connection<S> {
         ensures rest { self.new ≡ record self.old { core = self.new.core } }
         ensures stands { StandsStill self.old self.new }
         ensures whole { IsWhole self.new }
+        ensures same { (key : S → List ℕ) → IsSameConnection key self.old self.new }
     {
         still::<S>();
         made::<S>();
@@ -207,6 +212,7 @@ impl<S> Connection<S> {
         ensures told { IsEndpointTold self.old self.new result }
         ensures stands { StandsStill self.old self.new }
         ensures whole { IsWhole self.new }
+        ensures same { (key : S → List ℕ) → IsSameConnection key self.old self.new }
     {
         if let Some(event) = self.control.poll_endpoint_event() {
             return Some(event);

@@ -39,7 +39,8 @@ impl<S> Connection<S> {
         self.control.recv_datagram()
     }
 
-    /// The longest payload that may be sent. None exactly if no hello of the peer's was read that says that it takes datagrams.
+    /// The longest payload that the peer takes. None exactly if no hello of the peer's was read that says that it takes datagram frames of two
+    /// bytes or more (own). An end that takes no datagrams itself sends none (own).
     pub fn max_datagram_size(&self) -> Option<usize>
         ensures { result ≡ self.now.control.peer_datagram }
     {

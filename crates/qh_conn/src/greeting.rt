@@ -1,19 +1,22 @@
-ghost use Rattle.std.specs.Prelude.{◌≡◌, ◌++◌, ◌∷◌, ℕ, Bool, true, false, List, [], None, Some, is_some, OnOk, OnErr, if◌then◌else◌};
+ghost use Rattle.std.specs.Prelude.{◌≡◌, ◌⊎◌, ◌++◌, ◌∷◌, ℕ, Bool, true, false, List, [], None, Some, is_some, OnOk, OnErr, if◌then◌else◌};
 ghost use Rattle.qh_conn.specs.Greeting.{IsBegunBy, IsGreetedNow, connected, with_core, early_concurrent, or_set, with_concurrent, with_count, with_early};
 ghost use Rattle.qh_conn.specs.Hearing.{FailsTo, HasRead, HearsIt, HearsStill};
+ghost use Rattle.qh_conn.specs.Same.{IsSameConnection};
 ghost use Rattle.qh_conn.specs.Whole.{IsSound, IsWhole, StandsStill};
+ghost use Rattle.qh_conn.specs.declared.connection.Connection.{Connection as AConnection};
 ghost use Rattle.qh_control.specs.Control.{IsSendable};
 ghost use Rattle.qh_converse.specs.Converses.{Hears};
 ghost use Rattle.qh_core.specs.Inner.{is_open, with_streams};
-ghost use Rattle.qh_core.specs.Made.{AcceptsTags, MakesTagsOf};
+ghost use Rattle.qh_core.specs.Made.{AcceptsTags, IsMadeLocally, MakesTagsOf};
+ghost use Rattle.qh_handshake.specs.Handshake.{dropping};
 ghost use Rattle.qh_handshake.specs.declared.handshake.Handshake.{Handshake as AHandshake};
 ghost use Rattle.qh_spec.specs.Transcript.{Act, HandedIn};
 ghost use Rattle.qh_spec.specs.declared.sides.Side.TheVariants.{Client};
 
-use crate::Connection;
 use crate::config::{datagram_payload, idle_in_force, peer_limits};
 use crate::connection::EarlyLimits;
 use crate::laws::still;
+use crate::{Connection, ConnectionItem};
 use qh_base::{Dir, Memory, Moment, Side, VarInt};
 use qh_core::made;
 use qh_hello::TransportParameters;
@@ -32,6 +35,7 @@ impl<S: Session> Connection<S> {
         ensures hears { (accepts : AcceptsTags S) (sealed : MakesTagsOf S) (hello d : List ℕ) (before : AHandshake) (t : List Act) → HasRead accepts sealed hello before self.old t d → before.peer ≡ None
             → OnOk result (HearsIt accepts sealed hello self.new t d) × OnErr result (FailsTo accepts sealed hello self.new (t ++ HandedIn d ∷ [])) }
         ensures err { OnErr result (self.new ≡ record self.old { handshake = self.new.handshake; core = self.new.core; control = self.new.control; is_connected = self.new.is_connected; is_data_due = self.new.is_data_due; is_connected_due = self.new.is_connected_due }) }
+        ensures same { (before : AConnection S) → before.handshake.peer ≡ None → IsSameConnection S.key before self.old → IsSameConnection S.key before self.new }
     {
         let Some(peer) = self.handshake.peer else {
             return Ok(());
@@ -44,19 +48,22 @@ impl<S: Session> Connection<S> {
         Ok(())
     }
 
-    // The end of the 1-RTT packets begins with what the peer's hello says. For want of memory nothing changes.
+    // The end of the 1-RTT packets begins with what the peer's hello says.
     fn begin(&mut self, peer: TransportParameters) -> Result<(), Memory>
         requires sound { IsSound self.old }
         requires open { is_open self.old.core.state ≡ true }
         requires first { (self.old.is_connected ≡ false) × IsSendable self.old.core.side None self.old.control }
         requires greeted { self.old.handshake.peer ≡ Some peer }
-        ensures core { OnOk result (IsBegunBy peer self.old.handshake self.old.early self.old.core self.new.core) }
+        ensures core { OnOk result (IsBegunBy peer self.old.handshake self.old.early self.old.control.log self.old.core self.new.core) }
         ensures rest { OnOk result (self.new ≡ with_core self.old self.new.core peer) }
         ensures hears { OnOk result ((accepts : AcceptsTags S) (sealed : MakesTagsOf S) (m : Bool) → (m ≡ true → self.old.handshake.side ≡ Client) → (hello d : List ℕ) (before : AHandshake) (t : List Act)
             → HasRead accepts sealed hello before self.old t d → before.peer ≡ None
             → Hears accepts sealed hello self.old.handshake self.new.core m t d) }
+        ensures fails { OnErr result ((accepts : AcceptsTags S) (sealed : MakesTagsOf S) (hello d : List ℕ) (before : AHandshake) (t : List Act) → HasRead accepts sealed hello before self.old t d → before.peer ≡ None
+            → FailsTo accepts sealed hello self.new (t ++ HandedIn d ∷ [])) }
         ensures sound { IsSound self.new }
-        ensures err { OnErr result (self.new ≡ self.old) }
+        ensures err { OnErr result (self.new ≡ record self.old { core = self.new.core; control = self.new.control }) }
+        ensures same { (before : AConnection S) → before.handshake.peer ≡ None → IsSameConnection S.key before self.old → IsSameConnection S.key before self.new }
     {
         let remote_id = self.handshake.remote_id;
         let datagram = peer.max_datagram_frame_size.and_then(datagram_payload);
@@ -67,23 +74,30 @@ impl<S: Session> Connection<S> {
         let idle = idle_in_force(own, peer.max_idle_timeout);
         self.core
             .greet(peer_limits(&peer), datagram, remote_id, idle);
+        self.log_streams()?;
         self.set_early();
         self.is_data_due = true;
         Ok(())
     }
 
-    /// The handshake is complete: further ids are asked for, if the connection isn't over already.
+    /// The handshake is complete, which is logged: further ids are asked for, if the connection isn't over already.
     pub(crate) fn connect(&mut self, now: Moment) -> Result<(), Memory>
         requires sound { IsSound self.old }
         requires greeted { is_some self.old.handshake.peer ≡ true }
         ensures ok { OnOk result (self.new ≡ connected now self.old) }
-        ensures err { OnErr result (self.new ≡ record (connected now self.old) { control = self.old.control }) }
-        ensures wanting { OnErr result (is_open self.old.core.state ≡ true) }
+        ensures err { OnErr result (self.new ≡ record (connected now self.old) { core = self.new.core; control = self.new.control }) }
+        ensures wanting { OnErr result ((is_open self.old.core.state ≡ true) ⊎ (is_some self.old.control.log ≡ true)) }
+        ensures handshake { self.new.handshake ≡ record (dropping self.old.handshake) { is_validated = true } }
+        ensures connected { self.new.is_connected ≡ true }
+        ensures state { self.new.core.state ≡ self.old.core.state }
+        ensures made { IsMadeLocally self.old.core self.new.core [] }
         ensures sound { IsSound self.new }
+        ensures same { IsSameConnection S.key self.old self.new }
     {
         self.handshake.discard_space();
         self.is_connected = true;
         self.is_connected_due = true;
+        self.note(Some(ConnectionItem::Connected))?;
         if self.core.is_closed() {
             return Ok(());
         }

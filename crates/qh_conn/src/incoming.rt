@@ -2,7 +2,9 @@ ghost use Rattle.std.specs.Prelude.{◌≡◌, ◌⊎◌, ◌∷◌, ◌++◌, [
 ghost use Rattle.qh_base.specs.declared.connection_error.ConnectionError.TheVariants.{Memory as OutOfMemory, Reset};
 ghost use Rattle.qh_conn.specs.Hearing.{FailsTo, HasRead, HearsIt, StandsOrFails};
 ghost use Rattle.qh_conn.specs.Incoming.{AreFramesDone, BeginsWithFrames, BringsData, EndsBy, HasHeard, IsClosingHeard, IsDatagramHandled, IsEventHandled, IsFed, IsKnownOf, IsMet, IsOpenHandled, IsOver, IsRestTaken, IsRestarted, IsShutConnected, acts_of, connected_if, is_reset_by, takes_memory};
+ghost use Rattle.qh_conn.specs.Same.{IsSameConnection, IsSameControl, dropped};
 ghost use Rattle.qh_conn.specs.Whole.{CarriesOnBy, IsSafe, IsSound, IsWhole, Stands, StandsStill};
+ghost use Rattle.qh_conn.specs.declared.connection.Connection.{Connection as AConnection};
 ghost use Rattle.qh_control.specs.Control.{IsControlTaken, IsSendable, control_refusal, keeps};
 ghost use Rattle.qh_core.specs.Inner.{IsFailedBy, IsSameEnd, is_open};
 ghost use Rattle.qh_core.specs.Event.{is_drained};
@@ -46,6 +48,7 @@ impl<S: Session> Connection<S> {
         ensures calm { takes_memory event ≡ false → IsOk result }
         ensures carries { NamesTags (S.accepts self.old.core.session) → CarriesOnBy S.accepts S.sealed self.old self.new (acts_of event) }
         ensures whole { IsWhole self.new }
+        ensures same { IsSameConnection S.key self.old self.new }
     {
         match event {
             ConnectionEvent::Datagram { now, payload, .. } => {
@@ -78,6 +81,7 @@ impl<S: Session> Connection<S> {
         ensures wanting { OnErr result (is_open self.old.core.state ≡ true) }
         ensures carries { NamesTags (S.accepts self.old.core.session) → CarriesOnBy S.accepts S.sealed self.old self.new (HandedIn datagram.now ∷ []) }
         ensures whole { IsWhole self.new }
+        ensures same { IsSameConnection S.key self.old self.new }
     {
         count(&mut self.udp_rx, datagram.len());
         if self.core.is_closed() {
@@ -98,6 +102,7 @@ impl<S: Session> Connection<S> {
         ensures fails { OnErr taken ((accepts : AcceptsTags S) (sealed : MakesTagsOf S) (hello : List ℕ) (t : List Act) → FailsTo accepts sealed hello self.old t → Stands accepts sealed hello self.new t) }
         ensures stands { StandsStill self.old self.new }
         ensures whole { IsWhole self.new }
+        ensures same { OnErr taken (IsSameConnection S.key (dropped self.old) self.new) }
     {
         if taken.is_err() {
             self.fail();
@@ -113,6 +118,8 @@ impl<S: Session> Connection<S> {
         ensures carries { NamesTags (S.accepts self.old.core.session) → (hello : List ℕ) (t : List Act) → Stands S.accepts S.sealed hello self.old t → StandsOrFails S.accepts S.sealed result hello self.new (t ++ HandedIn datagram.now ∷ []) }
         ensures safe { IsSafe self.new }
         ensures whole { OnOk result (IsWhole self.new) }
+        ensures same { OnOk result (IsSameConnection S.key self.old self.new) }
+        ensures lost { OnErr result (IsSameConnection S.key self.old (dropped self.new)) }
     {
         let known = self.known();
         let rest = match self.feed(now, datagram) {
@@ -143,6 +150,7 @@ impl<S: Session> Connection<S> {
         ensures sound { IsSound self.new }
         ensures whole { OnOk result (IsWhole self.new) }
         ensures open { OnOk result (is_open self.new.core.state ≡ true) }
+        ensures same { (before : AConnection S) → was_greeted ≡ is_some before.handshake.peer → IsSameConnection S.key before self.old → IsSameConnection S.key before self.new }
     {
         if was_greeted {
             return Ok(());
@@ -180,6 +188,7 @@ impl<S: Session> Connection<S> {
         ensures ok { OnOk result (IsRestTaken (S.accepts self.old.core.session) now datagram.now rest.now self.old self.new) }
         ensures safe { IsSafe self.new }
         ensures whole { OnOk result (IsWhole self.new) }
+        ensures same { IsSameConnection S.key self.old self.new }
     {
         let Some(accepted) = self.core.handle_datagram(now, rest)? else {
             self.hear_reset(now, datagram);
@@ -194,19 +203,22 @@ impl<S: Session> Connection<S> {
         self.control.queue.on_lost(&self.core)
     }
 
-    // A server is connected by the first 1-RTT packet that it accepts.
+    // A server is connected by the first 1-RTT packet that it accepts. What came to the streams is moved into the log.
     fn be_connected(&mut self, now: Moment) -> Result<(), Memory>
         requires sound { IsSound self.old }
         requires greeted { is_some self.old.handshake.peer ≡ true }
         ensures ok { OnOk result (self.new ≡ connected_if now self.old) }
         ensures connected { self.new.is_connected ≡ true }
-        ensures core { self.new.core ≡ self.old.core }
+        ensures free { self.old.control.log ≡ None → self.old.is_connected ≡ true → IsOk result }
+        ensures made { IsMadeLocally self.old.core self.new.core [] }
+        ensures state { self.new.core.state ≡ self.old.core.state }
         ensures carries { (accepts : AcceptsTags S) (sealed : MakesTagsOf S) (hello : List ℕ) (t : List Act) → HasPacketOf (length self.old.core.local_id) (handed_in t) (other self.old.handshake.side) Data
             → Stands accepts sealed hello self.old t → Stands accepts sealed hello self.new t }
         ensures sound { IsSound self.new }
+        ensures same { IsSameConnection S.key self.old self.new }
     {
         if self.is_connected {
-            return Ok(());
+            return self.note(None);
         }
         self.connect(now)
     }
@@ -223,6 +235,7 @@ impl<S: Session> Connection<S> {
         ensures rest { self.new ≡ record self.old { core = self.new.core; control = self.new.control } }
         ensures wanting { OnErr result (is_open self.new.core.state ≡ true) }
         ensures done { OnOk result ((taken : List AFrame) → BeginsWithFrames accepted.now.frames.now taken → accepted.now.taken ≡ length taken → (read : List AFrame) × BeginsWithFrames accepted.now.frames.now read × (length read ≡ length taken) × AreFramesDone now read self.old self.new) }
+        ensures same { IsSameConnection S.key self.old self.new }
     {
         let mut rest = accepted.frames;
         let mut left = accepted.taken;
@@ -256,6 +269,7 @@ impl<S: Session> Connection<S> {
         ensures refused { IfErr result (λ e. (e ≡ Wanting → ⊥) → self.new ≡ self.old) }
         ensures rest { self.new ≡ record self.old { control = self.new.control } }
         ensures sound { IsSound self.new }
+        ensures stays { IsSameControl true self.old.control self.new.control }
     {
         self.control.take_frame(self.alloc, now, frame)
     }
@@ -426,6 +440,7 @@ impl<S> Connection<S> {
         ensures fails { (accepts : AcceptsTags S) (sealed : MakesTagsOf S) (hello : List ℕ) (t : List Act) → FailsTo accepts sealed hello self.old t → Stands accepts sealed hello self.new t }
         ensures stands { StandsStill self.old self.new }
         ensures whole { IsWhole self.new }
+        ensures same { (key : S → List ℕ) → IsSameConnection key (dropped self.old) self.new }
     {
         qh_converse::sends::<S>();
         self.core.fail();

@@ -2,14 +2,15 @@ ghost use Rattle.std.specs.Prelude.{◌≡◌, ◌⊎◌, ◌∷◌, [], None, S
 ghost use Rattle.qh_base.specs.declared.time.Moment.{Moment as AMoment};
 ghost use Rattle.qh_conn.specs.Incoming.{IsOver};
 ghost use Rattle.qh_conn.specs.Outgoing.{IsControlHeld, IsDataTransmitted, IsInitialClose, IsSilent, IsStill, IsTransmitted, TakesTurns, handed_on, made_acts};
+ghost use Rattle.qh_conn.specs.Same.{IsSameConnection};
 ghost use Rattle.qh_conn.specs.Whole.{CarriesOnBy, IsWhole};
 ghost use Rattle.qh_core.specs.Inner.{IsFailedBy, is_open};
 ghost use Rattle.qh_core.specs.Sending.{BearsNoControl, IsDatagramMade as IsCoreMade, IsSilent as IsCoreSilent, is_close_due};
 ghost use Rattle.qh_handshake.specs.Outgoing.{IsCloseKept, IsSilent as IsSilentHandshake};
 ghost use Rattle.qh_packet.specs.Session.{MakesTags, NamesTags};
 
-use crate::Connection;
 use crate::connection::count;
+use crate::{Connection, ConnectionItem};
 use qh_base::{ConnectionClose, Memory, Moment, Reason, Transmit, TransportErrorCode};
 use qh_conduct::behaves_on;
 use qh_converse::sends;
@@ -31,6 +32,7 @@ impl<S: Session> Connection<S> {
         ensures err { OnErr result ((buf.new.items ≡ buf.old.items) × IsOver self.new) }
         ensures carries { NamesTags (S.accepts self.old.core.session) → MakesTags (S.sealed self.old.core.session) → CarriesOnBy S.accepts S.sealed self.old self.new (made_acts buf.old.items buf.new.items result) }
         ensures whole { IsWhole self.new }
+        ensures same { IsSameConnection S.key self.old self.new }
     {
         let Ok(made) = self.transmit(now, buf) else {
             self.fail();
@@ -50,6 +52,7 @@ impl<S: Session> Connection<S> {
         ensures err { OnErr result (buf.new.items ≡ buf.old.items) }
         ensures carries { NamesTags (S.accepts self.old.core.session) → MakesTags (S.sealed self.old.core.session) → CarriesOnBy S.accepts S.sealed self.old self.new (made_acts buf.old.items buf.new.items result) }
         ensures whole { IsWhole self.new }
+        ensures same { IsSameConnection S.key self.old self.new }
     {
         if self.core.is_closed() {
             return if self.is_connected {
@@ -74,6 +77,7 @@ impl<S: Session> Connection<S> {
         ensures err { OnErr result (buf.new.items ≡ buf.old.items) }
         ensures carries { NamesTags (S.accepts self.old.core.session) → MakesTags (S.sealed self.old.core.session) → CarriesOnBy S.accepts S.sealed self.old self.new (made_acts buf.old.items buf.new.items result) }
         ensures whole { IsWhole self.new }
+        ensures same { IsSameConnection S.key self.old self.new }
     {
         sends::<S>();
         let Some(close) = self.core.close_due() else {
@@ -103,6 +107,7 @@ impl<S: Session> Connection<S> {
         ensures err { OnErr result (buf.new.items ≡ buf.old.items) }
         ensures carries { NamesTags (S.accepts self.old.core.session) → MakesTags (S.sealed self.old.core.session) → CarriesOnBy S.accepts S.sealed self.old self.new (made_acts buf.old.items buf.new.items result) }
         ensures whole { IsWhole self.new }
+        ensures same { IsSameConnection S.key self.old self.new }
     {
         sends::<S>();
         let sent = self
@@ -128,6 +133,7 @@ impl<S: Session> Connection<S> {
         ensures err { OnErr result (buf.new.items ≡ buf.old.items) }
         ensures carries { NamesTags (S.accepts self.old.core.session) → MakesTags (S.sealed self.old.core.session) → CarriesOnBy S.accepts S.sealed self.old self.new (made_acts buf.old.items buf.new.items result) }
         ensures whole { IsWhole self.new }
+        ensures same { IsSameConnection S.key self.old self.new }
     {
         if !self.is_control_next {
             return self.transmit_in_turn(now, buf);
@@ -153,6 +159,7 @@ impl<S: Session> Connection<S> {
         ensures err { OnErr result (buf.new.items ≡ buf.old.items) }
         ensures carries { NamesTags (S.accepts self.old.core.session) → MakesTags (S.sealed self.old.core.session) → CarriesOnBy S.accepts S.sealed self.old self.new (made_acts buf.old.items buf.new.items result) }
         ensures whole { IsWhole self.new }
+        ensures same { IsSameConnection S.key self.old self.new }
     {
         if let Some(transmit) = self.transmit_core(now, buf)? {
             self.is_control_next = true;
@@ -171,6 +178,7 @@ impl<S: Session> Connection<S> {
         ensures rest { self.new ≡ record self.old { core = self.new.core } }
         ensures carries { NamesTags (S.accepts self.old.core.session) → MakesTags (S.sealed self.old.core.session) → CarriesOnBy S.accepts S.sealed self.old self.new (made_acts buf.old.items buf.new.items result) }
         ensures whole { IsWhole self.new }
+        ensures same { IsSameConnection S.key self.old self.new }
     {
         sends::<S>();
         behaves_on::<S>();
@@ -191,6 +199,7 @@ impl<S: Session> Connection<S> {
         ensures err { OnErr result (buf.new.items ≡ buf.old.items) }
         ensures carries { NamesTags (S.accepts self.old.core.session) → MakesTags (S.sealed self.old.core.session) → CarriesOnBy S.accepts S.sealed self.old self.new (made_acts buf.old.items buf.new.items result) }
         ensures whole { IsWhole self.new }
+        ensures same { IsSameConnection S.key self.old self.new }
     {
         if self.control.queue.waiting().is_empty() {
             self.transmit_datagrams(now, buf)
@@ -214,6 +223,7 @@ impl<S: Session> Connection<S> {
         ensures err { OnErr result (buf.new.items ≡ buf.old.items) }
         ensures carries { NamesTags (S.accepts self.old.core.session) → MakesTags (S.sealed self.old.core.session) → CarriesOnBy S.accepts S.sealed self.old self.new (made_acts buf.old.items buf.new.items result) }
         ensures whole { IsWhole self.new }
+        ensures same { IsSameConnection S.key self.old self.new }
     {
         sends::<S>();
         behaves_on::<S>();
@@ -221,10 +231,18 @@ impl<S: Session> Connection<S> {
         if frames.is_empty() {
             return Ok(None);
         }
-        let Some(sent) = self.core.transmit_control(now, &frames, buf)? else {
+        let entries = self.control.log.lend()?;
+        let Ok(sent) = self.core.transmit_control(now, &frames, buf) else {
+            self.control.log.give_back(entries);
+            return Err(Memory);
+        };
+        let Some(sent) = sent else {
+            self.control.log.give_back(entries);
             return Ok(None);
         };
         self.control.datagrams_sent(sent.count);
+        let item = ConnectionItem::DatagramsSent(sent.count);
+        self.note_in(entries, Some(item));
         self.is_control_next = false;
         Ok(Some(sent.transmit))
     }
@@ -244,6 +262,7 @@ impl<S: Session> Connection<S> {
         ensures err { OnErr result (buf.new.items ≡ buf.old.items) }
         ensures carries { NamesTags (S.accepts self.old.core.session) → MakesTags (S.sealed self.old.core.session) → CarriesOnBy S.accepts S.sealed self.old self.new (made_acts buf.old.items buf.new.items result) }
         ensures whole { IsWhole self.new }
+        ensures same { IsSameConnection S.key self.old self.new }
     {
         sends::<S>();
         behaves_on::<S>();

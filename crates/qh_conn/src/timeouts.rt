@@ -1,6 +1,7 @@
-ghost use Rattle.std.specs.Prelude.{◌≡◌, ℕ, Option, true, MatchOption, OnOk, OnErr};
+ghost use Rattle.std.specs.Prelude.{◌≡◌, ℕ, List, Option, true, MatchOption, OnOk, OnErr};
 ghost use Rattle.std.specs.Option.{option_map};
 ghost use Rattle.qh_conn.specs.Incoming.{IsOver};
+ghost use Rattle.qh_conn.specs.Same.{IsSameConnection};
 ghost use Rattle.qh_conn.specs.Telling.{IsDueAt, IsFirstDue, IsHandshakeTimed, IsTimedOut, IsTold, event_of};
 ghost use Rattle.qh_conn.specs.Whole.{IsWhole, StandsStill};
 ghost use Rattle.qh_core.specs.Event.{IsPolledEvent};
@@ -23,6 +24,7 @@ impl<S: Session> Connection<S> {
         ensures wanting { OnErr result ((is_open self.old.core.state ≡ true) × (IsIdleDue now.0 self.old.core → ⊥)) }
         ensures stands { StandsStill self.old self.new }
         ensures whole { IsWhole self.new }
+        ensures same { IsSameConnection S.key self.old self.new }
     {
         self.time_ends(now);
         if self.core.is_closed() {
@@ -55,6 +57,7 @@ impl<S> Connection<S> {
         ensures told { IsTold self.old self.new result }
         ensures stands { StandsStill self.old self.new }
         ensures whole { IsWhole self.new }
+        ensures same { (key : S → List ℕ) → IsSameConnection key self.old self.new }
     {
         if self.is_data_due {
             self.is_data_due = false;

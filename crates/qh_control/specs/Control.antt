@@ -8,11 +8,13 @@ use Rattle.qh_base.specs.declared.time.Moment.{Moment}
 use Rattle.qh_cids.specs.CidQueue.{Handled, PlainCids, held, handled, limit}
 use Rattle.qh_cids.specs.CidState.{without}
 use Rattle.qh_cids.specs.declared.cid_queue.RemoteCid.{RemoteCid}
+use Rattle.qh_control.specs.Items.{logged}
 use Rattle.qh_control.specs.Queue.{AreAcknowledged, AreSendable, retires}
 use Rattle.qh_control.specs.declared.control.ControlState.{ControlState}
 use Rattle.qh_control.specs.declared.event.EndpointEvent.{EndpointEvent}
 use Rattle.qh_control.specs.declared.event.EndpointEvent.TheVariants as event
 use Rattle.qh_control.specs.declared.event.IssuedCid.{IssuedCid}
+use Rattle.qh_control.specs.declared.items.ConnectionItem.TheVariants as item
 use Rattle.qh_core.specs.declared.control.ControlFrame.{ControlFrame}
 use Rattle.qh_core.specs.declared.control.ControlFrame.TheVariants as sending
 use Rattle.qh_datagrams.specs.Datagrams.{newest}
@@ -81,11 +83,12 @@ retired_events now s sequence =
     if length (without sequence s.own_ids.active) == length s.own_ids.active then []
     else event.RetireConnectionId now sequence (nat_lt (length (without sequence s.own_ids.active)) s.id_limit) ∷ []
 
--- a payload came; it waits to be read, and as few of the oldest as must go are dropped for it
+-- a payload came; it waits to be read, and as few of the oldest as must go are dropped for it; and it is logged
 abbrev pub with_datagram : (most : ℕ) → ControlState → (payload : List ℕ) → ControlState
 with_datagram most s payload = record s {
   datagrams = record s.datagrams { incoming = newest most (s.datagrams.incoming ++ payload ∷ []) };
   is_datagram_due = (length s.datagrams.incoming == 0) || s.is_datagram_due;
+  log = logged s.log (item.Datagram payload ∷ []);
 }
 
 -- the frames that change nothing
@@ -133,18 +136,20 @@ first_ids id token = record { active = record { sequence = 0; id = id; reset_tok
 abbrev pub asked_events : Moment → ControlState → List EndpointEvent
 asked_events now s = if (s.id_limit - 1 == 0) || (s.own_ids.id_len == 0) then [] else event.NeedIdentifiers now (s.id_limit - 1) ∷ []
 
--- an id that is the next by its sequence, which fits into a frame, and that isn't empty
-abbrev pub is_next : ControlState → IssuedCid → Bool
-is_next s cid = (cid.sequence == s.own_ids.issued) && (nat_lt cid.sequence (2 ^ 62) && not (length cid.id == 0))
+-- an id that is the next by its sequence, which fits into a frame, and that is as long as this end's others, which aren't empty (own); and the
+-- peer keeps one more than are active (section 5.1.1)
+abbrev pub may_announce : ControlState → IssuedCid → Bool
+may_announce s cid =
+    (cid.sequence == s.own_ids.issued) && (nat_lt cid.sequence (2 ^ 62) && (not (length cid.id == 0) && ((length cid.id == s.own_ids.id_len) && nat_lt (length s.own_ids.active) s.id_limit)))
 
 -- the frame that announces an id, and retires none (section 19.15)
 abbrev pub announced : IssuedCid → ControlFrame
 announced cid = sending.NewConnectionId cid.sequence 0 cid.id cid.reset_token
 
--- one that is the next becomes active and is announced; any other changes nothing
+-- one that may be announced becomes active and is; any other changes nothing
 abbrev pub with_issued : ControlState → IssuedCid → ControlState
 with_issued s cid =
-    if is_next s cid then record s {
+    if may_announce s cid then record s {
       own_ids = record s.own_ids { issued = s.own_ids.issued + 1; active = s.own_ids.active ++ cid.sequence ∷ [] };
       queue = record s.queue { waiting = s.queue.waiting ++ announced cid ∷ [] };
     } else s

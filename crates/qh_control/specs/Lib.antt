@@ -1,3 +1,4 @@
 pub mod Control
 pub mod Datagrams
+pub mod Items
 pub mod Queue

@@ -1,7 +1,9 @@
-ghost use Rattle.std.specs.Prelude.{◌≡◌, ◌+◌, ◌<◌, ◌≤◌, ◌^◌, ◌++◌, ◌∷◌, ◌==◌, [], ℕ, true, false, length, map, min, take, nat_lt, None, Some, IsSome, IfOk, IfErr, IfSome, OnOk, OnErr, All};
+ghost use Rattle.std.specs.Prelude.{◌≡◌, ◌⊎◌, ◌+◌, ◌<◌, ◌≤◌, ◌^◌, ◌++◌, ◌∷◌, ◌==◌, ◌&&◌, [], ℕ, true, false, not, length, map, min, take, nat_lt, None, Some, IsSome, IfOk, IfErr, IfSome, OnOk, OnErr, All};
 ghost use Rattle.qh_cids.specs.CidState.{without};
 ghost use Rattle.qh_control.specs.Control.{IsControlTaken, IsSendable, KeepsSendable, asked_events, control_refusal, first_ids, keeps, new_id_refusal, renewed, retire_refusal, retired_events, retiring, token_event, token_events, with_all_issued, with_datagram, with_issued};
+ghost use Rattle.qh_control.specs.Items.{logged};
 ghost use Rattle.qh_control.specs.Queue.{AreSendable, StaySendable};
+ghost use Rattle.qh_control.specs.declared.items.ConnectionItem.TheVariants as item;
 ghost use Rattle.qh_core.specs.declared.control.ControlFrame.TheVariants as sending;
 ghost use Rattle.qh_spec.specs.declared.sides.Side.{Side as ASide};
 ghost use Rattle.qh_spec.specs.declared.sides.Side.TheVariants.{Server};
@@ -9,7 +11,9 @@ ghost use Rattle.qh_spec.specs.FrameTypes as frame_types;
 ghost use Rattle.qh_streams.specs.Streams.{IsRefusal, IsRefusedBy, refused};
 ghost use Rattle.qh_streams.specs.declared.fault.StreamFault.TheVariants.{Memory as Wanting};
 
-use crate::{ControlQueue, EndpointEvent, EndpointEvents, IssuedCid};
+use crate::{
+    ConnectionItem, ConnectionLog, ControlQueue, EndpointEvent, EndpointEvents, IssuedCid,
+};
 use bytes::Bytes;
 use qh_base::{
     ConnectionId, FrameType, Memory, Moment, Reason, ResetToken, TransportError,
@@ -56,10 +60,12 @@ pub struct ControlState {
     pub is_unblocked_due: bool,
     /// What the endpoint wasn't told yet.
     pub endpoint_events: EndpointEvents,
+    /// What an application can see of the connection, if it is on.
+    pub log: ConnectionLog,
 }
 
 impl ControlState {
-    /// Before anything came: packets go to `remote_id`, and the own id with sequence 0 has this length.
+    /// Before anything came: packets go to `remote_id`, and the own id with sequence 0 has this length. The log is off.
     pub fn new(
         alloc: Global,
         remote: SocketAddr,
@@ -82,6 +88,7 @@ impl ControlState {
           is_datagram_due = false;
           is_unblocked_due = false;
           endpoint_events = [];
+          log = None;
         }) }
         ensures sendable { IfOk result (λ s. (side : ASide) → IsSendable side None s) }
     {
@@ -99,12 +106,13 @@ impl ControlState {
             is_datagram_due: false,
             is_unblocked_due: false,
             endpoint_events: EndpointEvents::new(alloc),
+            log: ConnectionLog::off(),
         })
     }
 
     /// The peer's hello was read: its id, with the token of its stateless resets if it said one, which the endpoint learns; how many ids it
-    /// keeps, of which at most 8 are used (own); and the longest payload that it takes, None if it takes none. For want of memory, only if
-    /// there is a token, nothing changes.
+    /// keeps, of which at most 8 are used (own); and the longest payload that it takes, None if it takes none, which is logged. For want of
+    /// memory, only if there is a token or the log is on, nothing changes.
     pub fn greet(
         &mut self,
         remote_id: ConnectionId,
@@ -112,12 +120,18 @@ impl ControlState {
         id_limit: u64,
         peer_datagram: Option<u64>,
     ) -> Result<(), Memory>
-        ensures ok { OnOk result (self.new ≡ record self.old { ids = first_ids remote_id reset_token; id_limit = min id_limit 8; peer_datagram = peer_datagram; endpoint_events = self.old.endpoint_events ++ token_event self.old reset_token }) }
+        ensures ok { OnOk result (self.new ≡ record self.old { ids = first_ids remote_id reset_token; id_limit = min id_limit 8; peer_datagram = peer_datagram; endpoint_events = self.old.endpoint_events ++ token_event self.old reset_token; log = logged self.old.log (item.MaxDatagramSize peer_datagram ∷ []) }) }
         ensures err { OnErr result (self.new ≡ self.old) }
-        ensures wanting { OnErr result (IsSome reset_token) }
+        ensures wanting { OnErr result (IsSome reset_token ⊎ IsSome self.old.log) }
         ensures sendable { OnOk result ((side : ASide) → IsSendable side None self.old → IfSome peer_datagram (λ most. most ≤ 1140) → IsSendable side peer_datagram self.new) }
     {
-        self.tell_token(reset_token)?;
+        let entries = self.log.lend()?;
+        let Ok(()) = self.tell_token(reset_token) else {
+            self.log.give_back(entries);
+            return Err(Memory);
+        };
+        let item = ConnectionItem::MaxDatagramSize(peer_datagram);
+        self.log.give_back_with(entries, None, Some(item));
         self.ids = CidQueue::new(remote_id, reset_token);
         self.id_limit = id_limit.min(LIMIT as u64);
         self.peer_datagram = peer_datagram;
@@ -140,7 +154,8 @@ impl ControlState {
     }
 
     /// The endpoint issued these ids: each is announced by a NEW_CONNECTION_ID frame that retires none. One that isn't the next by its
-    /// sequence, or that is empty, is dropped (own): the endpoint issues none such. For want of memory those before it are announced.
+    /// sequence, that is empty or not as long as this end's others, or with which more ids would be active than the peer keeps (RFC 9000,
+    /// section 5.1.1), as before its hello, is dropped (own): the endpoint issues none such. For want of memory those before it are announced.
     pub fn issue(&mut self, ids: &[IssuedCid]) -> Result<(), Memory>
         ensures ok { OnOk result (self.new ≡ with_all_issued self.old ids.now) }
         ensures err { OnErr result ((count : ℕ) × (count < length ids.now) × (self.new ≡ with_all_issued self.old (take count ids.now))) }
@@ -152,7 +167,7 @@ impl ControlState {
         Ok(())
     }
 
-    // Announces an id, if it is the next and isn't empty. For want of memory nothing changes.
+    // Announces an id, if it may be. For want of memory nothing changes.
     fn issue_one(&mut self, cid: &IssuedCid) -> Result<(), Memory>
         ensures ok { OnOk result (self.new ≡ with_issued self.old cid.now) }
         ensures err { OnErr result (self.new ≡ self.old) }
@@ -161,7 +176,7 @@ impl ControlState {
         let Some(sequence) = VarInt::from_u64(cid.sequence) else {
             return Ok(());
         };
-        if cid.id.len() == 0 || cid.sequence != self.own_ids.issued() {
+        if cid.sequence != self.own_ids.issued() || !self.has_place(cid.id.len()) {
             return Ok(());
         }
         self.queue.push(ControlFrame::NewConnectionId {
@@ -177,9 +192,19 @@ impl ControlState {
         Ok(())
     }
 
+    // Whether the peer keeps an id more, and one of this length is like the others.
+    fn has_place(&self, id_len: usize) -> bool
+        ensures { result ≡ (not (id_len == 0) && ((id_len == self.now.own_ids.id_len) && nat_lt (length self.now.own_ids.active) self.now.id_limit)) }
+    {
+        id_len != 0
+            && id_len == self.own_ids.id_len()
+            && (self.own_ids.active() as u64) < self.id_limit
+    }
+
     /// Takes a frame of a packet that was accepted. A fault says why it is refused, with its code and the type of the frame; nothing
     /// changed then. Memory is answered only for a frame that isn't at fault, of which something is to be kept; of an id's frame the ids
-    /// and the frames that wait may have changed then. The peer's id in use stays as long as it is.
+    /// and the frames that wait may have changed then. The peer's id in use stays as long as it is, and this end's ids too. A datagram that
+    /// is kept is logged.
     pub fn take_frame(
         &mut self,
         alloc: Global,
@@ -194,6 +219,7 @@ impl ControlState {
         ensures rest { IfErr result (λ e. self.new ≡ record self.old { ids = self.new.ids; own_ids = self.new.own_ids; queue = self.new.queue }) }
         ensures sendable { (side : ASide) → KeepsSendable side self.old self.new }
         ensures as_long { length self.new.ids.active.id ≡ length self.old.ids.active.id }
+        ensures id_len { self.new.own_ids.id_len ≡ self.old.own_ids.id_len }
     {
         match frame {
             Frame::NewConnectionId {
@@ -296,6 +322,7 @@ impl ControlState {
         ensures refused { IfErr result (λ e. (e ≡ Wanting → ⊥) → self.new ≡ self.old) }
         ensures rest { self.new ≡ record self.old { own_ids = self.new.own_ids; endpoint_events = self.new.endpoint_events } }
         ensures wanting { IfErr result (λ e. self.new ≡ record self.old { own_ids = self.new.own_ids }) }
+        ensures id_len { self.new.own_ids.id_len ≡ self.old.own_ids.id_len }
     {
         let active = self.own_ids.active();
         let Ok(may_issue) = self.own_ids.on_cid_retirement(sequence, self.id_limit) else {
@@ -322,11 +349,11 @@ impl ControlState {
         Ok(())
     }
 
-    // DATAGRAM came (RFC 9221, section 5). One that is longer than this end takes was refused before.
+    // DATAGRAM came (RFC 9221, section 5). One that is longer than this end takes was refused before; one that is kept is logged.
     fn take_datagram(&mut self, alloc: Global, payload: &[u8]) -> Result<(), StreamFault>
         ensures due { (most : ℕ) → self.old.datagram_receive ≡ Some most → length payload.now ≤ most → OnOk result (self.new ≡ with_datagram most self.old payload.now) }
         ensures undue { ((most : ℕ) → self.old.datagram_receive ≡ Some most → most < length payload.now) → self.new ≡ self.old }
-        ensures rest { self.new ≡ record self.old { datagrams = record self.old.datagrams { incoming = self.new.datagrams.incoming }; is_datagram_due = self.new.is_datagram_due } }
+        ensures rest { self.new ≡ record self.old { datagrams = record self.old.datagrams { incoming = self.new.datagrams.incoming }; is_datagram_due = self.new.is_datagram_due; log = self.new.log } }
         ensures err { IfErr result (λ e. (e ≡ Wanting) × (self.new ≡ self.old)) }
     {
         let Some(most) = self.datagram_receive else {
@@ -338,7 +365,14 @@ impl ControlState {
         let Ok(payload) = Bytes::copy_from_slice(alloc, payload) else {
             return Err(StreamFault::Memory);
         };
-        if self.datagrams.received(payload, most)? {
+        let item = self.log.datagram_item(&payload)?;
+        let entries = self.log.lend()?;
+        let Ok(is_first) = self.datagrams.received(payload, most) else {
+            self.log.give_back(entries);
+            return Err(StreamFault::Memory);
+        };
+        self.log.give_back_with(entries, None, item);
+        if is_first {
             self.is_datagram_due = true;
         }
         Ok(())

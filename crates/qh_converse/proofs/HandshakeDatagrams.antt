@@ -1,5 +1,5 @@
 -- A datagram of a handshake is one Initial packet, and no datagram that begins with a short header ends a handshake.
-use Rattle.std.proofs.Common.{◌≡◌, ℕ, ◌+◌, List, [], ◌++◌, length, get_or, Option, Some, None, refl, sym, ap, subst, ◌∙◌, arith, append-nil}
+use Rattle.std.proofs.Common.{◌≡◌, ℕ, ◌+◌, true, false, List, [], ◌++◌, length, get_or, Option, Some, None, is_some, refl, sym, ap, subst, ◌∙◌, arith, append-nil}
 use Rattle.qh_base.specs.declared.connection_error.ConnectionError.{ConnectionError}
 use Rattle.qh_base.specs.declared.time.Moment.{Moment}
 use Rattle.qh_converse.proofs.ShakeLaws.{short_behind}
@@ -7,6 +7,7 @@ use Rattle.qh_handshake.specs.Incoming.{ArePacketsTaken, IsBehind, IsDatagramTak
 use Rattle.qh_handshake.specs.Incoming.ArePacketsTaken.{done, more, ended}
 use Rattle.qh_handshake.specs.Incoming.IsDatagramTaken.{retry, mismatch, packets}
 use Rattle.qh_handshake.specs.Follows.{Follows}
+use Rattle.qh_handshake.specs.GoesOn.{GoesOn}
 use Rattle.qh_handshake.specs.Handshake.{dropping}
 use Rattle.qh_handshake.specs.Moments.{IsTimedOut}
 use Rattle.qh_handshake.specs.Moments.IsTimedOut.{gone, recovery}
@@ -15,6 +16,7 @@ use Rattle.qh_handshake.specs.Outgoing.IsCloseUnsent.{same as close_unchanged, u
 use Rattle.qh_handshake.specs.Outgoing.IsUnsent.{same as unchanged, lost}
 use Rattle.qh_handshake.specs.Sends.{IsHonestDatagram, Sends}
 use Rattle.qh_handshake.specs.declared.handshake.Handshake.{Handshake}
+use Rattle.qh_hello.specs.declared.transport_parameters.TransportParameters.{TransportParameters}
 use Rattle.qh_packet.specs.Session.{AcceptsTag}
 use Rattle.qh_packet.specs.VersionNegotiation.{IsVersionNegotiation}
 use Rattle.qh_spec.specs.Datagram.{Packet, HasPacket, IsInitialForm, one_rtt, initial, later}
@@ -76,26 +78,51 @@ short_ends_none accepts now d rest old new retried learned e s taken = not_ended
 
 -- ---- steps without a datagram
 
--- it is the same end, and knows the same of its peer
+known : (o : Option TransportParameters) → is_some o ≡ true → (p : TransportParameters) × (o ≡ Some p)
+known None some = let z : false ≡ true = some in cc
+known (Some p) some = (p, refl)
+
+-- it is the same end, says the same, and knows the same of its peer; since it was greeted its packets go to the same id
 pub record IsStill (old new : Handshake) : Type 0 where
   pub side : new.side ≡ old.side
   pub id : new.local_id ≡ old.local_id
+  pub parameters : new.parameters ≡ old.parameters
   pub peer : new.peer ≡ old.peer
+  pub remote : is_some old.peer ≡ true → new.remote_id ≡ old.remote_id
 
-still_by : (old new h : Handshake) → new ≡ h → IsStill old h → IsStill old new
+pub same_still : (h new : Handshake) → new ≡ h → IsStill h new
+same_still h new is = record {
+  side = ap (λ (z : Handshake). z.side) is;
+  id = ap (λ (z : Handshake). z.local_id) is;
+  parameters = ap (λ (z : Handshake). z.parameters) is;
+  peer = ap (λ (z : Handshake). z.peer) is;
+  remote = λ _. ap (λ (z : Handshake). z.remote_id) is;
+}
+
+pub still_by : (old new h : Handshake) → new ≡ h → IsStill old h → IsStill old new
 still_by old new h is s = subst (λ (z : Handshake). IsStill old z) (sym is) s
 
+-- a handshake that goes on from one that was greeted knows its peer by the same id
+pub goes_still : (hello : List ℕ) (old new : Handshake) (t : List Act) → Follows hello old t → GoesOn old new → new.peer ≡ old.peer → IsStill old new
+goes_still hello old new t f on peer = record {
+  side = on.side;
+  id = on.local_id;
+  parameters = on.parameters;
+  peer = peer;
+  remote = λ greeted. let p = known old.peer greeted in (on.known (f.sourced p.0 p.1).1).1;
+}
+
 pub unsent_still : (now : Moment) (old new : Handshake) → IsUnsent now old new → IsStill old new
-unsent_still now old new (unchanged is) = still_by old new old is (record { side = refl; id = refl; peer = refl })
-unsent_still now old new (lost _ _ _ _ _ _ _ _ is) = still_by old new _ is (record { side = refl; id = refl; peer = refl })
+unsent_still now old new (unchanged is) = still_by old new old is (record { side = refl; id = refl; parameters = refl; peer = refl; remote = λ _. refl })
+unsent_still now old new (lost _ _ _ _ _ _ _ _ is) = still_by old new _ is (record { side = refl; id = refl; parameters = refl; peer = refl; remote = λ _. refl })
 
 pub close_unsent_still : (old new : Handshake) → IsCloseUnsent old new → IsStill old new
-close_unsent_still old new (close_unchanged is) = still_by old new old is (record { side = refl; id = refl; peer = refl })
-close_unsent_still old new (used _ _ _ _ is) = still_by old new _ is (record { side = refl; id = refl; peer = refl })
+close_unsent_still old new (close_unchanged is) = still_by old new old is (record { side = refl; id = refl; parameters = refl; peer = refl; remote = λ _. refl })
+close_unsent_still old new (used _ _ _ _ is) = still_by old new _ is (record { side = refl; id = refl; parameters = refl; peer = refl; remote = λ _. refl })
 
 pub timed_still : (now : ℕ) (old new : Handshake) → IsTimedOut now old new → IsStill old new
-timed_still now old new (gone _ is) = still_by old new old is (record { side = refl; id = refl; peer = refl })
-timed_still now old new (recovery _ _ _ _ _ _ is) = still_by old new _ is (record { side = refl; id = refl; peer = refl })
+timed_still now old new (gone _ is) = still_by old new old is (record { side = refl; id = refl; parameters = refl; peer = refl; remote = λ _. refl })
+timed_still now old new (recovery _ _ _ _ _ _ is) = still_by old new _ is (record { side = refl; id = refl; parameters = refl; peer = refl; remote = λ _. refl })
 
 -- the space is given up
 pub dropped_follows : (hello : List ℕ) (h : Handshake) (t : List Act) → Follows hello h t → Follows hello (dropping h) t
@@ -107,6 +134,7 @@ dropped_follows hello h t f = record {
   sourced = f.sourced;
   says = f.says;
   answers = f.answers;
+  unsaid = f.unsaid;
   once = f.once;
   numbers = λ s id_length number e. let z : None ≡ Some s = e in cc;
   accepted = λ s e. let z : None ≡ Some s = e in cc;

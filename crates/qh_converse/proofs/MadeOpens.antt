@@ -124,7 +124,7 @@ module _ {S : Type 0} where
   turned_opens old new (log_started _ _ _ is) = by old new _ is (λ up. up)
   turned_opens old new (items_taken is) = by old new _ is (λ up. up)
 
-  local_opens : (old new : Inner S) (acts : List Act) → IsLocalCall old new acts → Opens old new
+  pub local_opens : (old new : Inner S) (acts : List Act) → IsLocalCall old new acts → Opens old new
   local_opens old new _ (timeout now is _) = timed_opens now old new is
   local_opens old new _ (closed _ _ _ _ stays) = close_opens old new stays
   local_opens old new _ (polled told is) = polled_opens told old new is

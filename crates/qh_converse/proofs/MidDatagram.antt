@@ -14,11 +14,13 @@ use Rattle.qh_conduct.proofs.TurnedAside.{IsAside}
 use Rattle.qh_conduct.specs.Behaves.{Behaves}
 use Rattle.qh_conduct.specs.Reached.{AreNamed}
 use Rattle.qh_converse.proofs.AccordKept.{IsBeside, came_any, fresh_accorded, keys, makes_all}
+use Rattle.qh_converse.proofs.HandshakeDatagrams.{IsStill, goes_still, same_still}
 use Rattle.qh_converse.proofs.ShakeLaws.{shake_in, short_in}
 use Rattle.qh_converse.proofs.StateKept.{acted_begun, beside_begun, called_begun, greeted_begun, greeted_order, same_begun, same_order}
 use Rattle.qh_converse.proofs.Steps.{comes, ends}
-use Rattle.qh_converse.specs.Converses.{Converses, Hears, IsBegun, peer_limits, progress_of}
+use Rattle.qh_converse.specs.Converses.{Converses, Hears, IsBegun, progress_of}
 use Rattle.qh_converse.specs.Parts.IsShakeOf.{none as no_shake, came}
+use Rattle.qh_converse.specs.Settled.{IsSettledBy, milliseconds}
 use Rattle.qh_core.proofs.Followed.{unchanged}
 use Rattle.qh_core.proofs.MadeTogether.{one_step}
 use Rattle.qh_core.specs.Follows.{Follows}
@@ -98,15 +100,24 @@ module _ {S : Type 0} where
     drained = λ is. (a.drained is, ap (λ (z : Inner S). z.error) a.rest_is);
   }
 
+same_count : (h : Handshake) (size : ℕ) → IsStill h (received size h)
+same_count h size = record { side = refl; id = refl; parameters = refl; peer = refl; remote = λ _. refl }
+
+dropped_still : (h : Handshake) → IsStill h (dropping h)
+dropped_still h = record { side = refl; id = refl; parameters = refl; peer = refl; remote = λ _. refl }
+
+discarded_still : (h : Handshake) → IsStill h (record (dropping h) { is_validated = true })
+discarded_still h = record { side = refl; id = refl; parameters = refl; peer = refl; remote = λ _. refl }
+
 module _ {S : Type 0} (accepts : AcceptsTags S) (sealed : MakesTagsOf S) where
   pub counts : (hello d : List ℕ) (h : Handshake) (c : Inner S) (k : Bool) (t : List Act) → Converses accepts sealed hello h c k t → Hears accepts sealed hello (received (length d) h) c k t d
-  counts hello d h c k t p = comes accepts sealed hello h (received (length d) h) c k t d refl refl refl p (heard_follows hello h p.shake d p.follows) (counted_sends hello h p.shake d p.sends)
+  counts hello d h c k t p = comes accepts sealed hello h (received (length d) h) c k t d (same_count h (length d)) p (heard_follows hello h p.shake d p.follows) (counted_sends hello h p.shake d p.sends)
 
   -- ---- a datagram comes
 
   pub fresh : (hello : List ℕ) (h : Handshake) (c : Inner S) → IsFresh hello h → c.side ≡ h.side → c.local_id ≡ h.local_id → IsNewSpace c.config c.side c.space → Follows c []
-      → Converses accepts sealed hello h c false []
-  fresh hello h c new side id space follows = record {
+      → milliseconds c.config.idle ≡ h.parameters.max_idle_timeout → (is_open c.state ≡ true → c.idle.timeout ≡ c.config.idle) → Converses accepts sealed hello h c false []
+  fresh hello h c new side id space follows unsettled runs = record {
     shake = [];
     is_shake = no_shake;
     follows = fresh_follows hello h new;
@@ -120,7 +131,9 @@ module _ {S : Type 0} (accepts : AcceptsTags S) (sealed : MakesTagsOf S) where
       accords = fresh_accorded accepts sealed h c space follows;
       short = λ d i. absurd i;
       not_yet = λ _. refl;
-      limits = λ p e up. let z : None ≡ Some p = sym new.ungreeted ∙ e in cc;
+      settled = λ p e up. let z : None ≡ Some p = sym new.ungreeted ∙ e in cc;
+      unsettled = λ _. unsettled;
+      runs = runs;
     };
     orders = λ n _. fresh_orders (length c.local_id) n (progress_of h false) (ap is_some new.ungreeted) refl;
   }
@@ -130,13 +143,13 @@ module _ {S : Type 0} (accepts : AcceptsTags S) (sealed : MakesTagsOf S) where
         → IsDatagramTaken takes now d old new rest retried learned end → new.peer ≡ old.peer → Converses accepts sealed hello old c k t → Hears accepts sealed hello new c k t d
     hears_it d rest hello old new retried learned end c k t named taken peer p =
         let on = taken_goes takes now d rest old new retried learned end taken in
-        comes accepts sealed hello old new c k t d on.side on.local_id peer p (taken_follows takes now d rest hello old new retried learned end p.shake named taken p.follows)
+        comes accepts sealed hello old new c k t d (goes_still hello old new p.shake p.follows on peer) p (taken_follows takes now d rest hello old new retried learned end p.shake named taken p.follows)
         (taken_sends takes now d rest hello old new retried learned end p.shake named taken p.sends)
 
     pub greets : (d rest hello : List ℕ) (old new : Handshake) (retried learned : Option (List ℕ)) (end : Option ConnectionError) (c next : Inner S) (k m : Bool) (t : List Act) (p : TransportParameters)
         → NamesTags takes → IsDatagramTaken takes now d old new rest retried learned end → old.peer ≡ None → new.peer ≡ Some p → IsNewSpace next.config next.side next.space → Follows next []
-        → next.config.peer ≡ peer_limits p → next.side ≡ c.side → next.local_id ≡ c.local_id → (m ≡ true → new.side ≡ Client) → Converses accepts sealed hello old c k t → Hears accepts sealed hello new next m t d
-    greets d rest hello old new retried learned end c next k m t p named taken none some space core limits side id client q =
+        → IsSettledBy new p next → next.idle.timeout ≡ next.config.idle → next.side ≡ c.side → next.local_id ≡ c.local_id → (m ≡ true → new.side ≡ Client) → Converses accepts sealed hello old c k t → Hears accepts sealed hello new next m t d
+    greets d rest hello old new retried learned end c next k m t p named taken none some space core settled runs side id client q =
         let on = taken_goes takes now d rest old new retried learned end taken in
         let follows : FollowsShake hello new (q.shake ++ HandedIn d ∷ []) = taken_follows takes now d rest hello old new retried learned end q.shake named taken q.follows in
         let is_shake = came q.shake t d q.is_shake in
@@ -150,7 +163,7 @@ module _ {S : Type 0} (accepts : AcceptsTags S) (sealed : MakesTagsOf S) where
           sends = taken_sends takes now d rest hello old new retried learned end q.shake named taken q.sends;
           part = [];
           is_part = subst (λ (z : List Act). IsPartOf z t) (q.begun.not_yet none) q.is_part;
-          begun = greeted_begun accepts sealed new next p (side ∙ q.begun.side_is ∙ sym on.side) (id ∙ q.begun.id_is ∙ sym on.local_id) some limits space core;
+          begun = greeted_begun accepts sealed new next p (side ∙ q.begun.side_is ∙ sym on.side) (id ∙ q.begun.id_is ∙ sym on.local_id) some settled runs space core;
           orders = greeted_order old new c next k m t d on.side none client id greeted q.orders;
         }
 
@@ -158,7 +171,7 @@ module _ {S : Type 0} (accepts : AcceptsTags S) (sealed : MakesTagsOf S) where
         → Converses accepts sealed hello old c k t → Hears accepts sealed hello (dropping new) c k t d
     lost d hello old new learned c k t named taken peer p =
         let on = lost_goes takes now d old new learned taken in
-        comes accepts sealed hello old (dropping new) c k t d on.side on.local_id peer p (lost_follows takes now d hello old new learned p.shake named taken p.follows)
+        comes accepts sealed hello old (dropping new) c k t d (goes_still hello old (dropping new) p.shake p.follows on peer) p (lost_follows takes now d hello old new learned p.shake named taken p.follows)
         (lost_sends takes now d hello old new learned p.shake named taken p.sends)
 
     -- the connection ends as it is greeted
@@ -178,25 +191,25 @@ module _ {S : Type 0} (accepts : AcceptsTags S) (sealed : MakesTagsOf S) where
 
   -- ---- the Initial space is given up
 
-  left : (hello d : List ℕ) (h new : Handshake) (c : Inner S) (k : Bool) (t : List Act) → new.side ≡ h.side → new.local_id ≡ h.local_id → new.peer ≡ h.peer → (p : Hears accepts sealed hello h c k t d)
+  left : (hello d : List ℕ) (h new : Handshake) (c : Inner S) (k : Bool) (t : List Act) → IsStill h new → (p : Hears accepts sealed hello h c k t d)
       → FollowsShake hello new p.shake → Sends hello new p.shake → Hears accepts sealed hello new c k t d
-  left hello d h new c k t side id peer p follows sends = record {
+  left hello d h new c k t s p follows sends = record {
     shake = p.shake;
     is_shake = p.is_shake;
     follows = follows;
     sends = sends;
     part = p.part;
     is_part = p.is_part;
-    begun = same_begun accepts sealed h new c p.part side id peer p.begun;
-    orders = same_order h new c c k (t ++ HandedIn d ∷ []) side peer refl refl p.orders;
+    begun = same_begun accepts sealed h new c p.part s p.begun;
+    orders = same_order h new c c k (t ++ HandedIn d ∷ []) s refl p.orders;
   }
 
   pub drops : (hello d : List ℕ) (h : Handshake) (c : Inner S) (k : Bool) (t : List Act) → Hears accepts sealed hello h c k t d → Hears accepts sealed hello (dropping h) c k t d
-  drops hello d h c k t p = left hello d h (dropping h) c k t refl refl refl p (dropped_follows hello h p.shake p.follows) (dropped_sends hello h p.shake p.sends)
+  drops hello d h c k t p = left hello d h (dropping h) c k t (dropped_still h) p (dropped_follows hello h p.shake p.follows) (dropped_sends hello h p.shake p.sends)
 
   pub discards : (hello d : List ℕ) (h : Handshake) (c : Inner S) (k : Bool) (t : List Act) → Hears accepts sealed hello h c k t d → Hears accepts sealed hello (record (dropping h) { is_validated = true }) c k t d
   discards hello d h c k t p =
-      left hello d h (record (dropping h) { is_validated = true }) c k t refl refl refl p (discarded_follows hello h p.shake p.follows) (discarded_sends hello h p.shake p.sends)
+      left hello d h (record (dropping h) { is_validated = true }) c k t (discarded_still h) p (discarded_follows hello h p.shake p.follows) (discarded_sends hello h p.shake p.sends)
 
   pub dropped : (hello : List ℕ) (h : Handshake) (c : Inner S) (k : Bool) (t : List Act) → Converses accepts sealed hello h c k t → Converses accepts sealed hello (dropping h) c k t
   dropped hello h c k t p = record {
@@ -206,8 +219,8 @@ module _ {S : Type 0} (accepts : AcceptsTags S) (sealed : MakesTagsOf S) where
     sends = dropped_sends hello h p.shake p.sends;
     part = p.part;
     is_part = p.is_part;
-    begun = same_begun accepts sealed h (dropping h) c p.part refl refl refl p.begun;
-    orders = same_order h (dropping h) c c k t refl refl refl refl p.orders;
+    begun = same_begun accepts sealed h (dropping h) c p.part (dropped_still h) p.begun;
+    orders = same_order h (dropping h) c c k t (dropped_still h) refl p.orders;
   }
 
   -- a server is connected by a 1-RTT packet of the client's
@@ -220,7 +233,7 @@ module _ {S : Type 0} (accepts : AcceptsTags S) (sealed : MakesTagsOf S) where
     sends = discarded_sends hello h p.shake p.sends;
     part = p.part;
     is_part = p.is_part;
-    begun = same_begun accepts sealed h (record (dropping h) { is_validated = true }) c p.part refl refl refl p.begun;
+    begun = same_begun accepts sealed h (record (dropping h) { is_validated = true }) c p.part (discarded_still h) p.begun;
     orders = λ n is. let o = p.orders n is in record { greeted = o.greeted; heard = λ _. has; order = o.order };
   }
 
@@ -254,7 +267,7 @@ module _ {S : Type 0} (accepts : AcceptsTags S) (sealed : MakesTagsOf S) where
         part = p.part ++ HandedIn tail ∷ [];
         is_part = rest_act p.part t tail d ends short p.is_part;
         begun = acted_begun accepts sealed h c new p.part (HandedIn tail) greeted made behaves (short_in p.part tail p.begun.short) p.begun;
-        orders = same_order h h c new k (t ++ HandedIn d ∷ []) refl refl same.local_id same.remote_length p.orders;
+        orders = same_order h h c new k (t ++ HandedIn d ∷ []) (same_still h h refl) same.local_id p.orders;
       }
 
   -- ---- another session, other counters, or a close that is to be told again
@@ -286,7 +299,7 @@ module _ {S : Type 0} (accepts : AcceptsTags S) (sealed : MakesTagsOf S) where
         part = p.part;
         is_part = p.is_part;
         begun = beside_begun accepts sealed h old new p.part a tags (apart_behaves old new p.part a p.begun.behaves) p.begun;
-        orders = same_order h h old new k t refl refl same.local_id same.remote_length p.orders;
+        orders = same_order h h old new k t (same_still h h refl) same.local_id p.orders;
       }
 
   -- ---- a call that hands no datagram in or out
@@ -305,7 +318,7 @@ module _ {S : Type 0} (accepts : AcceptsTags S) (sealed : MakesTagsOf S) where
     part = p.part;
     is_part = p.is_part;
     begun = still_begun h c new p.part made p.begun;
-    orders = same_order h h c new k (t ++ HandedIn d ∷ []) refl refl made.1.same_end.local_id made.1.same_end.remote_length p.orders;
+    orders = same_order h h c new k (t ++ HandedIn d ∷ []) (same_still h h refl) made.1.same_end.local_id p.orders;
   }
 
   pub stays : (hello : List ℕ) (h : Handshake) (c new : Inner S) (k : Bool) (t : List Act) → IsMadeLocally c new [] → Converses accepts sealed hello h c k t → Converses accepts sealed hello h new k t
@@ -317,5 +330,5 @@ module _ {S : Type 0} (accepts : AcceptsTags S) (sealed : MakesTagsOf S) where
     part = p.part;
     is_part = p.is_part;
     begun = still_begun h c new p.part made p.begun;
-    orders = same_order h h c new k t refl refl made.1.same_end.local_id made.1.same_end.remote_length p.orders;
+    orders = same_order h h c new k t (same_still h h refl) made.1.same_end.local_id p.orders;
   }

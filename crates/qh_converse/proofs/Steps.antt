@@ -1,7 +1,7 @@
 -- The steps of a handshake carry on how the end stands to all that was done with it.
 use Rattle.std.proofs.Common.{◌≡◌, ℕ, Bool, false, List, [], ◌∷◌, ◌++◌, length, Some, None, refl, ap, subst, inl, inr}
 use Rattle.std.specs.Prelude.{is_some}
-use Rattle.qh_converse.proofs.HandshakeDatagrams.{honest_alone}
+use Rattle.qh_converse.proofs.HandshakeDatagrams.{IsStill, honest_alone}
 use Rattle.qh_converse.proofs.ShakeLaws.{shake_in, shake_out, short_behind}
 use Rattle.qh_converse.proofs.StateKept.{alone_order, came_order, greeted_order, same_begun, same_order, shut_begun}
 use Rattle.qh_converse.specs.Converses.{Converses, Hears}
@@ -24,17 +24,16 @@ use Rattle.qh_spec.specs.Transcript.{Act, HandedIn, HandedOut, handed_in}
 
 module _ {S : Type 0} (accepts : AcceptsTags S) (sealed : MakesTagsOf S) where
   -- a datagram came, by which the end isn't greeted
-  pub comes : (hello : List ℕ) (old new : Handshake) (c : Inner S) (k : Bool) (t : List Act) (d : List ℕ) → new.side ≡ old.side → new.local_id ≡ old.local_id → new.peer ≡ old.peer
-      → (p : Converses accepts sealed hello old c k t) → Follows hello new (p.shake ++ HandedIn d ∷ []) → Sends hello new (p.shake ++ HandedIn d ∷ []) → Hears accepts sealed hello new c k t d
-  comes hello old new c k t d side id peer p follows sends = record {
+  pub comes : (hello : List ℕ) (old new : Handshake) (c : Inner S) (k : Bool) (t : List Act) (d : List ℕ) → IsStill old new → (p : Converses accepts sealed hello old c k t) → Follows hello new (p.shake ++ HandedIn d ∷ []) → Sends hello new (p.shake ++ HandedIn d ∷ []) → Hears accepts sealed hello new c k t d
+  comes hello old new c k t d s p follows sends = record {
     shake = p.shake ++ HandedIn d ∷ [];
     is_shake = came p.shake t d p.is_shake;
     follows = follows;
     sends = sends;
     part = p.part;
     is_part = p.is_part;
-    begun = same_begun accepts sealed old new c p.part side id peer p.begun;
-    orders = came_order old new c k t d side peer p.orders;
+    begun = same_begun accepts sealed old new c p.part s p.begun;
+    orders = came_order old new c k t d s p.orders;
   }
 
   -- a datagram came, by which the end is greeted as its connection ends
@@ -58,9 +57,8 @@ module _ {S : Type 0} (accepts : AcceptsTags S) (sealed : MakesTagsOf S) where
       }
 
   -- the handshake handed out a datagram
-  pub goes : (hello : List ℕ) (old new : Handshake) (c : Inner S) (k : Bool) (t : List Act) (d : List ℕ) → new.side ≡ old.side → new.local_id ≡ old.local_id → new.peer ≡ old.peer
-      → (p : Converses accepts sealed hello old c k t) → Follows hello new (p.shake ++ HandedOut d ∷ []) → Sends hello new (p.shake ++ HandedOut d ∷ []) → Converses accepts sealed hello new c k (t ++ HandedOut d ∷ [])
-  goes hello old new c k t d side id peer p follows sends =
+  pub goes : (hello : List ℕ) (old new : Handshake) (c : Inner S) (k : Bool) (t : List Act) (d : List ℕ) → IsStill old new → (p : Converses accepts sealed hello old c k t) → Follows hello new (p.shake ++ HandedOut d ∷ []) → Sends hello new (p.shake ++ HandedOut d ∷ []) → Converses accepts sealed hello new c k (t ++ HandedOut d ∷ [])
+  goes hello old new c k t d s p follows sends =
       let alone = honest_alone hello _ new d (sends.each p.shake [] d refl) in
       record {
         shake = p.shake ++ HandedOut d ∷ [];
@@ -69,22 +67,21 @@ module _ {S : Type 0} (accepts : AcceptsTags S) (sealed : MakesTagsOf S) where
         sends = sends;
         part = p.part;
         is_part = alone_act p.part t d alone p.is_part;
-        begun = same_begun accepts sealed old new c p.part side id peer p.begun;
-        orders = alone_order hello old new c k p.shake t d side peer alone p.is_shake follows p.orders;
+        begun = same_begun accepts sealed old new c p.part s p.begun;
+        orders = alone_order hello old new c k p.shake t d s alone p.is_shake follows p.orders;
       }
 
   -- nothing came or went
-  pub stays : (hello : List ℕ) (old new : Handshake) (c : Inner S) (k : Bool) (t : List Act) → new.side ≡ old.side → new.local_id ≡ old.local_id → new.peer ≡ old.peer
-      → (p : Converses accepts sealed hello old c k t) → Follows hello new p.shake → Sends hello new p.shake → Converses accepts sealed hello new c k t
-  stays hello old new c k t side id peer p follows sends = record {
+  pub stays : (hello : List ℕ) (old new : Handshake) (c : Inner S) (k : Bool) (t : List Act) → IsStill old new → (p : Converses accepts sealed hello old c k t) → Follows hello new p.shake → Sends hello new p.shake → Converses accepts sealed hello new c k t
+  stays hello old new c k t s p follows sends = record {
     shake = p.shake;
     is_shake = p.is_shake;
     follows = follows;
     sends = sends;
     part = p.part;
     is_part = p.is_part;
-    begun = same_begun accepts sealed old new c p.part side id peer p.begun;
-    orders = same_order old new c c k t side peer refl refl p.orders;
+    begun = same_begun accepts sealed old new c p.part s p.begun;
+    orders = same_order old new c c k t s refl p.orders;
   }
 
   -- over a link that gives each end only what the other handed out their handshakes are those of two ends

@@ -4,6 +4,7 @@ use Rattle.std.specs.Prelude.{◌≡◌, ◌⊎◌, ℕ, Bool, true, not, ◌&&�
 use Rattle.qh_arrival.specs.Accord.{Accords, AreTags, IsInAccord}
 use Rattle.qh_conduct.specs.Behaves.{Behaves}
 use Rattle.qh_converse.specs.Parts.{IsShakeOf}
+use Rattle.qh_converse.specs.Settled.{IsSettledBy, milliseconds}
 use Rattle.qh_core.specs.Inner.{is_client, is_open}
 use Rattle.qh_core.specs.Made.{AcceptsTags, MakesTagsOf}
 use Rattle.qh_core.specs.declared.inner.Inner.{Inner}
@@ -16,27 +17,19 @@ use Rattle.qh_spec.specs.HandshakeOrder.{Progress, Orders}
 use Rattle.qh_spec.specs.Lists.{In}
 use Rattle.qh_spec.specs.Parted.{IsPartOf, AreShort, EndsWith, IsInitialAlone}
 use Rattle.qh_spec.specs.Transcript.{Act, HandedIn, handed_in, handed_out, written, finished, read}
-use Rattle.qh_streams.specs.declared.frames.PeerLimits.{PeerLimits}
-
--- the first limits that a hello with these parameters says (section 18.2)
-abbrev pub peer_limits : TransportParameters → PeerLimits
-peer_limits p = record {
-  max_data = p.initial_max_data;
-  bidi_local = p.initial_max_stream_data_bidi_local;
-  bidi_remote = p.initial_max_stream_data_bidi_remote;
-  uni = p.initial_max_stream_data_uni;
-  max_bidi = p.initial_max_streams_bidi;
-  max_uni = p.initial_max_streams_uni;
-}
 
 -- how far the handshake is: a server is connected from the first 1-RTT packet on that it accepted
 abbrev pub progress_of : Handshake → (is_connected : Bool) → Progress
 progress_of h is_connected = record { side = h.side; is_greeted = is_some h.peer; has_heard = is_connected && not (is_client h.side) }
 
--- its datagrams were sent in the order of a handshake; before it was greeted whatever the length of its peer's ids is
+-- so long are the ids of its peer, as far as it knows: any length may be theirs before it was greeted
+abbrev pub IsPeerLength : Handshake → ℕ → Type 0
+IsPeerLength h n = is_some h.peer ≡ true → n ≡ length h.remote_id
+
+-- its datagrams were sent in the order of a handshake
 abbrev pub IsInOrder : {S : Type 0} → Handshake → Inner S → (is_connected : Bool) → List Act → Type 0
 IsInOrder h c is_connected t =
-    (peer_length : ℕ) → (is_some h.peer ≡ true → peer_length ≡ length c.remote_id) → Orders (length c.local_id) peer_length (progress_of h is_connected) t
+    (peer_length : ℕ) → IsPeerLength h peer_length → Orders (length c.local_id) peer_length (progress_of h is_connected) t
 
 -- it came as what stands behind the Initial packets of one of these datagrams
 pub record IsBehindOne (tail : List ℕ) (datagrams : List (List ℕ)) : Type 0 where
@@ -63,7 +56,8 @@ module _ {S : Type 0} (accepts : AcceptsTags S) (sealed : MakesTagsOf S) where
       → Accords takes makes c part
 
   -- The end of the 1-RTT packets: it behaves as by its part of what was done, which is nothing before the end was greeted, and owes what it
-  -- owes by that; since it was greeted it knows the first limits that the peer's hello says.
+  -- owes by that; since it was greeted it has what the peer's hello settles, if it is open, and before that its own idle time, and its idle
+  -- timer is as long.
   pub record IsBegun (h : Handshake) (c : Inner S) (part : List Act) : Type 0 where
     pub side_is : c.side ≡ h.side
     pub id_is : c.local_id ≡ h.local_id
@@ -71,7 +65,9 @@ module _ {S : Type 0} (accepts : AcceptsTags S) (sealed : MakesTagsOf S) where
     pub accords : AccordsByTags h c part
     pub short : AreShort part
     pub not_yet : h.peer ≡ None → part ≡ []
-    pub limits : (p : TransportParameters) → h.peer ≡ Some p → is_open c.state ≡ true → c.config.peer ≡ peer_limits p
+    pub settled : (p : TransportParameters) → h.peer ≡ Some p → is_open c.state ≡ true → IsSettledBy h p c
+    pub unsettled : h.peer ≡ None → milliseconds c.config.idle ≡ h.parameters.max_idle_timeout
+    pub runs : is_open c.state ≡ true → c.idle.timeout ≡ c.config.idle
 
   -- The end stands so to all that was done with it.
   pub record Converses (hello : List ℕ) (h : Handshake) (c : Inner S) (is_connected : Bool) (t : List Act) : Type 0 where

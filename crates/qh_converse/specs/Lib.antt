@@ -1,2 +1,3 @@
 pub mod Converses
 pub mod Parts
+pub mod Settled

@@ -2,7 +2,8 @@ ghost use Rattle.std.specs.Prelude.{◌≡◌, ◌++◌, ◌∷◌, ℕ, Bool, t
 ghost use Rattle.qh_base.specs.declared.connection_error.ConnectionError.{ConnectionError as AnError};
 ghost use Rattle.qh_base.specs.declared.time.Moment.{Moment as AMoment};
 ghost use Rattle.qh_conduct.specs.Reached.{AreNamed};
-ghost use Rattle.qh_converse.specs.Converses.{Converses, Hears, peer_limits};
+ghost use Rattle.qh_converse.specs.Converses.{Converses, Hears};
+ghost use Rattle.qh_converse.specs.Settled.{IsSettledBy, milliseconds};
 ghost use Rattle.qh_core.specs.Follows.{Follows as CoreFollows};
 ghost use Rattle.qh_core.specs.Inner.{IsNewSpace, is_open};
 ghost use Rattle.qh_core.specs.Made.{AcceptsTags, MakesTagsOf, IsMade};
@@ -26,12 +27,12 @@ ghost use Rattle.qh_spec.specs.declared.sides.Space.TheVariants.{Data};
 /// (`unheard`), or takes it (`heard`), and a server is connected by that (`connects`).
 pub fn hears<S>()
     ensures fresh { (accepts : AcceptsTags S) (sealed : MakesTagsOf S) (hello : List ℕ) (h : AHandshake) (c : AnInner S) → IsFresh hello h → c.side ≡ h.side → c.local_id ≡ h.local_id → IsNewSpace c.config c.side c.space → CoreFollows c []
-        → Converses accepts sealed hello h c false [] }
+        → milliseconds c.config.idle ≡ h.parameters.max_idle_timeout → (is_open c.state ≡ true → c.idle.timeout ≡ c.config.idle) → Converses accepts sealed hello h c false [] }
     ensures hears { (accepts : AcceptsTags S) (sealed : MakesTagsOf S) (takes : AcceptsTag) (now : AMoment) (d rest hello : List ℕ) (old new : AHandshake) (retried learned : Option (List ℕ)) (end : Option AnError) (c : AnInner S) (k : Bool) (t : List Act)
         → NamesTags takes → IsDatagramTaken takes now d old new rest retried learned end → new.peer ≡ old.peer → Converses accepts sealed hello old c k t → Hears accepts sealed hello new c k t d }
     ensures greets { (accepts : AcceptsTags S) (sealed : MakesTagsOf S) (takes : AcceptsTag) (now : AMoment) (d rest hello : List ℕ) (old new : AHandshake) (retried learned : Option (List ℕ)) (end : Option AnError) (c next : AnInner S) (k m : Bool) (t : List Act) (p : Parameters)
         → NamesTags takes → IsDatagramTaken takes now d old new rest retried learned end → old.peer ≡ None → new.peer ≡ Some p
-        → IsNewSpace next.config next.side next.space → CoreFollows next [] → next.config.peer ≡ peer_limits p → next.side ≡ c.side → next.local_id ≡ c.local_id
+        → IsNewSpace next.config next.side next.space → CoreFollows next [] → IsSettledBy new p next → next.idle.timeout ≡ next.config.idle → next.side ≡ c.side → next.local_id ≡ c.local_id
         → (m ≡ true → new.side ≡ Client) → Converses accepts sealed hello old c k t → Hears accepts sealed hello new next m t d }
     ensures lost { (accepts : AcceptsTags S) (sealed : MakesTagsOf S) (takes : AcceptsTag) (now : AMoment) (d hello : List ℕ) (old new : AHandshake) (learned : Option (List ℕ)) (c : AnInner S) (k : Bool) (t : List Act)
         → NamesTags takes → IsLost takes now d old new learned → new.peer ≡ old.peer → Converses accepts sealed hello old c k t → Hears accepts sealed hello (dropping new) c k t d }

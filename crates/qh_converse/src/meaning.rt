@@ -6,7 +6,8 @@ ghost use Rattle.qh_base.specs.declared.time.Moment.{Moment as AMoment};
 ghost use Rattle.qh_base.specs.declared.transport_error.TransportError.{TransportError as ATransportError};
 ghost use Rattle.qh_conduct.specs.Peers.{ArePeers};
 ghost use Rattle.qh_conduct.specs.Reached.{AreNamed};
-ghost use Rattle.qh_converse.specs.Converses.{Converses, HasAccord, IsInAccordBehind};
+ghost use Rattle.qh_converse.specs.Converses.{Converses, HasAccord, IsInAccordBehind, IsPeerLength};
+ghost use Rattle.qh_converse.specs.Settled.{peer_limits};
 ghost use Rattle.qh_core.specs.Follows.{IsWithinLimits};
 ghost use Rattle.qh_core.specs.Inner.{is_open};
 ghost use Rattle.qh_core.specs.Made.{AcceptsTags, MakesTagsOf};
@@ -35,18 +36,23 @@ use qh_core::lawful;
 use qh_handshake::peers;
 use qh_spec::laws::greetings::parts;
 
-/// What that means of all that was done with an end: it keeps the laws of an end; it greeted in order; each datagram is one Initial packet,
-/// or keeps within the limits that the peer had given before; the limits that it began with are those of the hello that came. If the tags of
-/// its session are tags, it accords with the part of all that concerns 1-RTT packets (`accords`): so what it owes, while it is open, waits or
-/// is out, and the datagrams tell which packets it sent and which it accepted (`in_accord`). And between two ends over a link that gives each
-/// only what the other handed out neither refuses what comes: not its handshake (`faults`, `versions`), nor the end of its 1-RTT packets
-/// (`open`).
+/// What that means of all that was done with an end: it keeps the laws of an end (`lawful`, `lawful_open`); it greeted in order (`order`); each
+/// datagram is one Initial packet, or keeps within the limits that the peer had given before (`within`); the hello that came says the limits
+/// that the handshake knows (`announced`), and an open end goes by these (`within_open`). If the tags of its session are tags, it accords with
+/// the part of all that concerns 1-RTT packets (`accords`): so what it owes of streams, while it is open, waits or is out, and the datagrams of
+/// that part tell which packets it sent and which it accepted (`in_accord`). And between two ends over a link that gives each only what the
+/// other handed out neither refuses what comes: not its handshake (`faults`, `versions`), nor the end of its 1-RTT packets (`open`).
 pub fn converses<S>()
     ensures lawful { (accepts : AcceptsTags S) (sealed : MakesTagsOf S) (hello : List ℕ) (h : AHandshake) (c : AnInner S) (k : Bool) (t : List Act) → Converses accepts sealed hello h c k t → Lawful c.side (length c.local_id) (length c.remote_id) t }
+    ensures lawful_open { (accepts : AcceptsTags S) (sealed : MakesTagsOf S) (hello : List ℕ) (h : AHandshake) (c : AnInner S) (k : Bool) (t : List Act) → is_open c.state ≡ true → Converses accepts sealed hello h c k t
+        → (n : ℕ) → IsPeerLength h n → Lawful c.side (length c.local_id) n t }
     ensures order { (accepts : AcceptsTags S) (sealed : MakesTagsOf S) (hello : List ℕ) (h : AHandshake) (c : AnInner S) (k : Bool) (t : List Act) → Converses accepts sealed hello h c k t
-        → HasGreetedInOrder (length c.local_id) (length c.remote_id) c.side t }
+        → (n : ℕ) → IsPeerLength h n → HasGreetedInOrder (length c.local_id) n c.side t }
     ensures within { (accepts : AcceptsTags S) (sealed : MakesTagsOf S) (hello : List ℕ) (h : AHandshake) (c : AnInner S) (k : Bool) (t before after : List Act) (d : List ℕ) → Converses accepts sealed hello h c k t → t ≡ before ++ HandedOut d ∷ after
         → IsInitialAlone d ⊎ IsWithinLimits (length c.local_id) (length c.remote_id) c.side c.config before d }
+    ensures within_open { (accepts : AcceptsTags S) (sealed : MakesTagsOf S) (hello : List ℕ) (h : AHandshake) (c : AnInner S) (k : Bool) (t before after : List Act) (d : List ℕ) → is_open c.state ≡ true → Converses accepts sealed hello h c k t
+        → t ≡ before ++ HandedOut d ∷ after → IsInitialAlone d
+        ⊎ ((p : Parameters) × (h.peer ≡ Some p) × (c.config.peer ≡ peer_limits p) × IsWithinLimits (length c.local_id) (length h.remote_id) c.side c.config before d) }
     ensures announced { (accepts : AcceptsTags S) (sealed : MakesTagsOf S) (hello : List ℕ) (h : AHandshake) (c : AnInner S) (k : Bool) (t : List Act) (p : Parameters) → Converses accepts sealed hello h c k t → h.peer ≡ Some p
         → AreAnnouncedFirst (length c.local_id) (handed_in t) (other c.side) (limits_of p) }
     ensures faults { (accepts : AcceptsTags S) (sealed : MakesTagsOf S) (takes : AcceptsTag) (now : AMoment) (datagram rest own_hello peer_hello : List ℕ) (own new peer : AHandshake) (c p : AnInner S) (k m : Bool) (retried learned : Option (List ℕ)) (e : ATransportError) (tc tp : List Act)

@@ -98,6 +98,7 @@ heard_follows hello h t d p =
         | inl last ↦ absurd (not_out d datagram last.1)
         | inr earlier ↦ p.answers front earlier.0 datagram earlier.1
       ];
+      unsaid = λ server none id_length from payload has. p.unsaid server none id_length from payload (subst (λ (z : List (List ℕ)). HasCrypto id_length z h.side from payload) out has);
       once = λ front back datagram e. elim (last_or_before t front back (HandedIn d) (HandedOut datagram) e) [
         | inl last ↦ absurd (not_out d datagram last.1)
         | inr earlier ↦ p.once front earlier.0 datagram earlier.1
@@ -301,6 +302,7 @@ hello_in hello old new learned end u knows (at_client name q there client e) p =
   sourced = λ r is. sourced_by old name q r there knows is;
   says = p.says;
   answers = p.answers;
+  unsaid = λ _ none. let z : Some q ≡ None = none in cc;
   once = p.once;
   numbers = λ s id_length number is has. absurd (none-some s is);
   accepted = λ s is. absurd (none-some s is);
@@ -318,6 +320,7 @@ hello_in hello old new learned end u knows (at_server s name q there server is e
       sourced = λ r is. sourced_by old name q r there knows is;
       says = p.says;
       answers = p.answers;
+      unsaid = λ _ none. let z : Some q ≡ None = none in cc;
       once = p.once;
       numbers = λ x id_length number at has. subst (λ (z : InitialSpace). number < z.next_number) (one _ x at) (p.numbers s id_length number is has);
       accepted = λ x at. let a = p.accepted s is in (a.0, subst (λ (z : InitialSpace). Remembers a.0 z.dedup) (one _ x at) a.1, a.2);

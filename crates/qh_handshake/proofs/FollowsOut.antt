@@ -174,6 +174,12 @@ module _ (sealed : Side → Space → ℕ → List ℕ) (old : Handshake) (s : I
       | inr h ↦ p.answers before h.0 d h.1 server id_length from payload has own_length
     ]
 
+    unsaid_it : old.side ≡ Server → old.peer ≡ None → (id_length from : ℕ) (payload : List ℕ) → HasCrypto id_length (handed_out later) old.side from payload → ⊥
+    unsaid_it server none id_length from payload has = elim (out_or_last t datagram has.of.datagram has.of.among) [
+      | inl before ↦ p.unsaid server none id_length from payload (crypto_among id_length (handed_out later) old.side from payload has (handed_out t) before)
+      | inr last ↦ not_held (crypto_here id_length old.side from payload (crypto_among id_length (handed_out later) old.side from payload has (datagram ∷ []) last)).2 (server, none)
+    ]
+
     once_it : (before after : List Act) (d : List ℕ) → later ≡ before ++ HandedOut d ∷ after
         → (first_length id_length m n : ℕ) → HasInitial first_length (handed_out before) old.side m → HasInitial id_length (d ∷ []) old.side n → m < n
     once_it before after d e first_length id_length m n earlier has = elim (last_or_before t before after (HandedOut datagram) (HandedOut d) e) [
@@ -222,6 +228,7 @@ module _ (sealed : Side → Space → ℕ → List ℕ) (old : Handshake) (s : I
           sourced = p.sourced;
           says = says_it;
           answers = answers_it;
+          unsaid = unsaid_it;
           once = once_it;
           numbers = λ x id_length number there has. subst (λ (z : InitialSpace). number < z.next_number) (is x there) (below next number_is id_length number has);
           accepted = λ x there.

@@ -60,13 +60,15 @@ pub record Follows (hello : List ℕ) (h : Handshake) (t : List Act) : Type 0 wh
   pub came : (s : InitialSpace) (k byte id_length : ℕ) → h.space ≡ Some s → came_at s.crypto k ≡ Some byte → CarriesHello id_length (handed_in t) (other h.side) k byte
   -- what it knows of its peer was carried to it, in a whole hello
   pub greeted : (p : TransportParameters) (id_length : ℕ) → h.peer ≡ Some p → IsGreetedWith id_length (handed_in t) (other h.side) p
-  -- its peer said the id that the peer's packets come from (section 7.3)
+  -- its peer said the id that it knows the peer's packets by (section 7.3)
   pub sourced : (p : TransportParameters) → h.peer ≡ Some p → (p.initial_source_connection_id ≡ h.remote_id) × (h.knows_peer ≡ true)
   -- what it sends in CRYPTO frames is its hello, whole
   pub says : (id_length from : ℕ) (payload : List ℕ) → HasCrypto id_length (handed_out t) h.side from payload → (from ≡ 0) × (payload ≡ hello)
   -- a server does so only after it was greeted
   pub answers : (before after : List Act) (datagram : List ℕ) → t ≡ before ++ HandedOut datagram ∷ after → h.side ≡ Server
       → (id_length from : ℕ) (payload : List ℕ) → HasCrypto id_length (datagram ∷ []) h.side from payload → (own_length : ℕ) → IsGreeted own_length (handed_in before) (other h.side)
+  -- and one that wasn't greeted handed out nothing of it
+  pub unsaid : h.side ≡ Server → h.peer ≡ None → (id_length from : ℕ) (payload : List ℕ) → HasCrypto id_length (handed_out t) h.side from payload → ⊥
   -- no number is used again: a packet has a greater one than those of the datagrams that were handed out before it
   pub once : (before after : List Act) (datagram : List ℕ) → t ≡ before ++ HandedOut datagram ∷ after
       → (first_length id_length m n : ℕ) → HasInitial first_length (handed_out before) h.side m → HasInitial id_length (datagram ∷ []) h.side n → m < n

@@ -16,10 +16,11 @@ ghost use Rattle.qh_spec.specs.Hello.{hello_bytes, hello_of};
 ghost use Rattle.qh_spec.specs.Lists.{In};
 ghost use Rattle.qh_spec.specs.Transcript.{Act, handed_out};
 
-/// Two honest handshakes that are the ends of one connection, over an honest link, with a Retry packet between them too: each knows of the
-/// other just the parameters that the other says, and the id that the other says is the one that its packets come from; a session learns
-/// the name that the other's hello bears. No datagram that one hands out is a fault of the transport to the other, or tells it of other
-/// versions; if it never closes, none ends the connection (RFC 9000, sections 6.2, 7.3, 12.4 and 19.19).
+/// Two honest handshakes that are the ends of one connection, over an honest link, with a Retry packet between them too: what one knows of
+/// the other's parameters is what the other says, and the id that the other says is the one that this one knows its packets by; where memory
+/// isn't wanting, a session learns the name that the other's hello bears. No datagram that one hands out is a fault of the transport to the
+/// other, or tells it of other versions; if its Initial packets never close, none ends the other's handshake, but for want of memory (RFC
+/// 9000, sections 6.2, 7.3, 12.4 and 19.19).
 pub fn peers()
     ensures parameters { (own_hello peer_hello : List ℕ) (own peer : AHandshake) (p : Parameters) (t u : List Act) → IsPeer own_hello peer_hello own peer t u → own.peer ≡ Some p
         → p ≡ peer.parameters }

@@ -18,7 +18,7 @@ ghost use Rattle.qh_spec.specs.Transcript.{Act, HandedIn, HandedOut};
 ghost use Rattle.qh_spec.specs.declared.sides.Side.{Side as ASide};
 ghost use Rattle.qh_spec.specs.declared.sides.Space.{Space as ASpaceOf};
 
-/// A handshake follows all that was done with it: what it knows of the peer came, with the id that the peer's packets come from, what it
+/// A handshake follows all that was done with it: what it knows of the peer came, with the id that it knows the peer's packets by, what it
 /// hands out of its hello is its hello, a server's only after the client's whole hello came, and before the client's address is validated
 /// at most three times as many bytes go as came (RFC 9000, sections 7, 7.3 and 8.1). One that begins does so, also behind `set_origin` and `bear`, and each call carries it on, also one that
 /// returns for want of memory: for a datagram that came, with the space dropped.

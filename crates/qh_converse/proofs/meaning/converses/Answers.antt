@@ -1,7 +1,8 @@
-use Rattle.std.proofs.Common.{ℕ, List, length, refl, sym, subst, inl, inr}
+use Rattle.std.proofs.Common.{ℕ, List, length, sym, subst, inl, inr, refl}
 use Rattle.qh_base.specs.declared.connection_error.ConnectionError.TheVariants.{TransportError as Fault, VersionMismatch}
 use Rattle.qh_conduct.specs.Peers.{AreLinked}
 use Rattle.qh_converse.proofs.HandshakeDatagrams.{short_ends_none}
+use Rattle.qh_converse.proofs.LawfulParts.{part_lawful, within_hello}
 use Rattle.qh_converse.proofs.ShakeLaws.{shake_in, shake_out}
 use Rattle.qh_converse.proofs.Steps.{are_peers}
 use Rattle.qh_converse.proofs.WithinParts.{data_part, within_whole}
@@ -15,14 +16,25 @@ use Rattle.qh_converse.proofs.meaning.converses.Goals as goal
 pub returns-clause-lawful : goal.returns-clause-lawful
 returns-clause-lawful g c = λ accepts sealed hello h x k t p. c.parts.ensures.lawful _ _ _ p.part t p.is_part (c.lawful.ensures.faithful x p.part p.begun.behaves.follows)
 
+pub returns-clause-lawful_open : goal.returns-clause-lawful_open
+returns-clause-lawful_open g c = λ accepts sealed hello h x k t up p n long.
+    c.parts.ensures.lawful _ _ n p.part t p.is_part (part_lawful accepts sealed h x p.part up p.begun n long (c.lawful.ensures.faithful x p.part p.begun.behaves.follows))
+
 pub returns-clause-order : goal.returns-clause-order
-returns-clause-order g c = λ accepts sealed hello h x k t p.
-    subst (λ (s : Side). HasGreetedInOrder (length x.local_id) (length x.remote_id) s t) (sym p.begun.side_is) (p.orders (length x.remote_id) (λ _. refl)).order
+returns-clause-order g c = λ accepts sealed hello h x k t p n long.
+    subst (λ (s : Side). HasGreetedInOrder (length x.local_id) n s t) (sym p.begun.side_is) (p.orders n long).order
 
 pub returns-clause-within : goal.returns-clause-within
 returns-clause-within g c = λ accepts sealed hello h x k t before after d p e. elim (c.parts.ensures.split p.part t before after d p.is_part e) [
   | inl alone ↦ inl alone
   | inr s ↦ inr (within_whole _ _ _ _ s.front before d s.so_far (c.lawful.ensures.within x p.part s.front s.back d p.begun.behaves.follows s.is))
+]
+
+pub returns-clause-within_open : goal.returns-clause-within_open
+returns-clause-within_open g c = λ accepts sealed hello h x k t before after d up p e. elim (c.parts.ensures.split p.part t before after d p.is_part e) [
+  | inl alone ↦ inl alone
+  | inr s ↦ inr (within_hello accepts sealed h x p.part up p.begun s.front s.back before d s.is
+      (within_whole _ _ _ _ s.front before d s.so_far (c.lawful.ensures.within x p.part s.front s.back d p.begun.behaves.follows s.is)))
 ]
 
 pub returns-clause-announced : goal.returns-clause-announced

@@ -11,4 +11,4 @@ returns-clause-stands g c = λ hello fresh.
     let new = c.bear.new.self in
     let is = c.bear.ensures.token in
     let now : IsFresh hello new = subst (λ (z : Handshake). IsFresh hello z) (sym is) (borne_fresh hello c.args.token self.handshake fresh) in
-    (now, λ accepts sealed p. refreshed accepts sealed hello hello self.handshake new self.core self.is_connected now (ap (λ (z : Handshake). z.side) is) (ap (λ (z : Handshake). z.local_id) is) (ap (λ (z : Handshake). z.peer) is) p)
+    (now, λ accepts sealed p. refreshed accepts sealed hello hello self.handshake new self.core self.is_connected now (ap (λ (z : Handshake). z.side) is) (ap (λ (z : Handshake). z.local_id) is) (ap (λ (z : Handshake). z.peer) is) (ap (λ (z : Handshake). z.parameters.max_idle_timeout) is) p)

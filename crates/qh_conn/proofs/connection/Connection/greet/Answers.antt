@@ -1,4 +1,4 @@
-use Rattle.std.proofs.Common.{◌≡◌, ℕ, Bool, true, false, List, [], ◌∷◌, ◌++◌, Some, if◌then◌else◌, sym, ap, subst, ◌∙◌}
+use Rattle.std.proofs.Common.{◌≡◌, ℕ, Bool, true, false, List, Some, if◌then◌else◌, sym, ap, subst, ◌∙◌}
 use Rattle.qh_base.specs.declared.time.Moment.{Moment}
 use Rattle.qh_conn.specs.Greeting.{IsBegunBy, IsGreetedNow, connected, with_core}
 use Rattle.qh_conn.specs.declared.connection.Connection.{Connection}
@@ -8,18 +8,18 @@ use Rattle.qh_hello.specs.declared.transport_parameters.TransportParameters.{Tra
 use Rattle.qh_core.specs.Inner.{is_client}
 use Rattle.qh_spec.specs.declared.sides.Side.{Side}
 use Rattle.qh_spec.specs.declared.sides.Side.TheVariants.{Client, Server}
-use Rattle.qh_conn.proofs.InFed.{discarded_hears, failing, hears_fails, read_fails, read_unknown}
-use Rattle.qh_conn.specs.Hearing.{FailsTo}
+use Rattle.qh_conn.proofs.InFed.{discarded_hears, failing, hears_fails, read_unknown}
 use Rattle.qh_converse.specs.Converses.{Hears}
 use Rattle.qh_handshake.specs.declared.handshake.Handshake.{Handshake}
-use Rattle.qh_spec.specs.Transcript.{Act, HandedIn}
+use Rattle.qh_spec.specs.Transcript.{Act}
+use Rattle.qh_conn.proofs.Same.{both_same}
 use Rattle.qh_conn.proofs.connection.Connection.greet.Goals as goal
 
 module _ {S : Type 0} where
   abbrev behind : Moment → (old : Connection S) → Inner S → TransportParameters → Side → Connection S
   behind now old core peer side = if is_client side then connected now (with_core old core peer) else with_core old core peer
 
-  greeted : (now : Moment) (old begun new : Connection S) (peer : TransportParameters) (side : Side) → old.handshake.peer ≡ Some peer → IsBegunBy peer old.handshake old.early old.core begun.core
+  greeted : (now : Moment) (old begun new : Connection S) (peer : TransportParameters) (side : Side) → old.handshake.peer ≡ Some peer → IsBegunBy peer old.handshake old.early old.control.log old.core begun.core
       → begun ≡ with_core old begun.core peer → begun.handshake.side ≡ side → new ≡ behind now old begun.core peer side → IsGreetedNow now old new
   greeted now old begun new peer side is core rest side_is new_is = record {
     peer = peer;
@@ -51,28 +51,41 @@ pub returns-in_default-clause-hears : goal.returns-in_default-clause-hears
 returns-in_default-clause-hears g c = λ accepts sealed hello d before t r none. (read_unknown accepts sealed hello before t d c.args.self.now none c.in_default.is r, tt)
 
 pub returns-in_err-begin-clause-hears : goal.returns-in_err-begin-clause-hears
-returns-in_err-begin-clause-hears g c = λ accepts sealed hello d before t r none.
-    failing _ _ c.from_residual.result c.from_residual.ensures.0
-    (subst (λ (z : Connection _). FailsTo accepts sealed hello z (t ++ HandedIn d ∷ [])) (sym c.in_err-begin.ensures.err) (read_fails accepts sealed hello before t d c.args.self.now (λ _. c.requires.first.0) r))
+returns-in_err-begin-clause-hears g c = λ accepts sealed hello d before t r none. failing _ _ c.from_residual.result c.from_residual.ensures.0 (c.in_err-begin.ensures.fails accepts sealed hello d before t r none)
 
 pub returns-in_err-connect-in-Client-clause-hears : goal.returns-in_err-connect-in-Client-clause-hears
 returns-in_err-connect-in-Client-clause-hears g c = λ accepts sealed hello d before t r none.
     let new = c.connect.new.self in
-    let is = c.in_err-connect-in-Client.ensures.err in
+    let is = c.connect.ensures in
     let hears = begun_hears accepts sealed c.args.self.now c.begin.new.self hello t d true c.in-Some.peer c.in_ok-begin.ensures.rest (c.in_ok-begin.ensures.hears accepts sealed true (λ _. side_of c.args.self.now c.begin.new.self c.in-Some.peer c.in_ok-begin.ensures.rest ∙ c.in-Client.is) hello d before t r none) in
     failing _ _ c.from_residual-in_err-connect-in-Client.result c.from_residual-in_err-connect-in-Client.ensures.0
     (hears_fails accepts sealed hello new t d
-    (discarded_hears accepts sealed hello c.begin.new.self new t d (ap (λ (z : Connection _). z.handshake) is) (ap (λ (z : Connection _). z.core) is) (ap (λ (z : Connection _). z.is_connected) is) hears))
+    (discarded_hears accepts sealed hello c.begin.new.self new t d is.handshake is.made is.connected hears))
 
 pub returns-in_ok-connect-in-Client-clause-hears : goal.returns-in_ok-connect-in-Client-clause-hears
 returns-in_ok-connect-in-Client-clause-hears g c = λ accepts sealed hello d before t r none.
     let new = c.connect.new.self in
-    let is = c.in_ok-connect-in-Client.ensures.ok in
+    let is = c.connect.ensures in
     let hears = begun_hears accepts sealed c.args.self.now c.begin.new.self hello t d true c.in-Some.peer c.in_ok-begin.ensures.rest (c.in_ok-begin.ensures.hears accepts sealed true (λ _. side_of c.args.self.now c.begin.new.self c.in-Some.peer c.in_ok-begin.ensures.rest ∙ c.in-Client.is) hello d before t r none) in
-    (discarded_hears accepts sealed hello c.begin.new.self new t d (ap (λ (z : Connection _). z.handshake) is) (ap (λ (z : Connection _). z.core) is) (ap (λ (z : Connection _). z.is_connected) is) hears, tt)
+    (discarded_hears accepts sealed hello c.begin.new.self new t d is.handshake is.made is.connected hears, tt)
 
 pub returns-in-Server-clause-hears : goal.returns-in-Server-clause-hears
 returns-in-Server-clause-hears g c = λ accepts sealed hello d before t r none.
     let e = c.in_ok-begin.ensures in
     let hears = begun_hears accepts sealed c.args.self.now c.begin.new.self hello t d false c.in-Some.peer e.rest (e.hears accepts sealed false (λ k. let z : false ≡ true = k in cc) hello d before t r none) in
     (subst (λ (z : Bool). Hears accepts sealed hello c.begin.new.self.handshake c.begin.new.self.core z t d) (sym (ap (λ (z : Connection _). z.is_connected) e.rest ∙ c.requires.first.0)) hears, tt)
+
+pub returns-in_default-clause-same : goal.returns-in_default-clause-same
+returns-in_default-clause-same g c = λ before none p. p
+
+pub returns-in_err-begin-clause-same : goal.returns-in_err-begin-clause-same
+returns-in_err-begin-clause-same g c = λ before none p. c.begin.ensures.same before none p
+
+pub returns-in_err-connect-in-Client-clause-same : goal.returns-in_err-connect-in-Client-clause-same
+returns-in_err-connect-in-Client-clause-same g c = λ before none p. both_same g.S.Session.key before c.begin.new.self c.connect.new.self (c.begin.ensures.same before none p) c.connect.ensures.same
+
+pub returns-in_ok-connect-in-Client-clause-same : goal.returns-in_ok-connect-in-Client-clause-same
+returns-in_ok-connect-in-Client-clause-same g c = λ before none p. both_same g.S.Session.key before c.begin.new.self c.connect.new.self (c.begin.ensures.same before none p) c.connect.ensures.same
+
+pub returns-in-Server-clause-same : goal.returns-in-Server-clause-same
+returns-in-Server-clause-same g c = λ before none p. c.begin.ensures.same before none p

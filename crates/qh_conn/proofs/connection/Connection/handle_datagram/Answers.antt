@@ -2,6 +2,9 @@ use Rattle.std.proofs.Common.{◌≡◌, false, rules, true}
 use Rattle.qh_conn.proofs.InFed.{settled_stands}
 use Rattle.qh_conn.proofs.InTake.{closed_by, opened_by}
 use Rattle.qh_core.specs.Inner.{is_open}
+use Rattle.qh_conn.proofs.SameParts.{closing_same, settled_same}
+use Rattle.qh_conn.proofs.Same.{both_same, same_counted}
+use Rattle.qh_conn.specs.declared.connection.Connection.{Connection}
 use Rattle.qh_conn.proofs.connection.Connection.handle_datagram.Goals as goal
 
 pub returns-then-is_closed-clause-ok : goal.returns-then-is_closed-clause-ok
@@ -20,3 +23,17 @@ returns-then-is_closed-clause-carries g c = λ named hello t p. c.hear_closed.en
 pub returns-clause-carries : goal.returns-clause-carries
 returns-clause-carries g c = λ named hello t p.
     settled_stands g.S.Session.accepts g.S.Session.sealed c.take-taken.result hello c.take-taken.new.self c.settled.new.self _ (c.take-taken.ensures.carries named hello t p) c.settled.ensures.ok c.settled.ensures.fails
+
+pub returns-then-is_closed-clause-same : goal.returns-then-is_closed-clause-same
+returns-then-is_closed-clause-same g c =
+    let self = c.args.self.now in
+    let counted : Connection _ = record self { udp_rx = c.count.new.stats } in
+    both_same g.S.Session.key self counted c.hear_closed.new.self (same_counted g.S.Session.key self self.udp_tx c.count.new.stats)
+    (closing_same _ c.args.now c.args.datagram.now counted c.hear_closed.new.self c.hear_closed.ensures.heard)
+
+pub returns-clause-same : goal.returns-clause-same
+returns-clause-same g c =
+    let self = c.args.self.now in
+    let counted : Connection _ = record self { udp_rx = c.count.new.stats } in
+    both_same g.S.Session.key self counted c.settled.new.self (same_counted g.S.Session.key self self.udp_tx c.count.new.stats)
+    (settled_same g.S.Session.key c.take-taken.result counted c.take-taken.new.self c.settled.new.self c.take-taken.ensures.same c.take-taken.ensures.lost c.settled.ensures.ok c.settled.ensures.same)

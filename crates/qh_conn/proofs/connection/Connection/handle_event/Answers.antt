@@ -4,6 +4,8 @@ use Rattle.qh_conn.proofs.OutCarries.{nothing_more}
 use Rattle.qh_conn.specs.Incoming.{acts_of}
 use Rattle.qh_conn.specs.declared.event.ConnectionEvent.{ConnectionEvent}
 use Rattle.qh_converse.specs.Converses.{Converses}
+use Rattle.qh_conn.proofs.SameParts.{issued_stay, settled_after}
+use Rattle.qh_conn.proofs.Same.{same_control, same_self}
 use Rattle.qh_conn.proofs.connection.Connection.handle_event.Goals as goal
 
 pub settled-requires-clause-safe : goal.settled-requires-clause-safe
@@ -23,3 +25,16 @@ returns-else-is_closed-clause-carries g c = λ named hello t p.
     let new = c.settled.new.self in
     subst (λ (z : ConnectionEvent). Converses g.S.Session.accepts g.S.Session.sealed hello new.handshake new.core new.is_connected (t ++ acts_of z)) (sym c.in-NewIdentifiers.is)
     (nothing_more g.S.Session.accepts g.S.Session.sealed hello new.handshake new.core new.is_connected t (c.settled.ensures.stands g.S.Session.accepts g.S.Session.sealed hello t p))
+
+pub returns-then-is_closed-clause-same : goal.returns-then-is_closed-clause-same
+returns-then-is_closed-clause-same g c = same_self g.S.Session.key c.args.self.now
+
+pub returns-else-is_closed-clause-same : goal.returns-else-is_closed-clause-same
+returns-else-is_closed-clause-same g c =
+    let self = c.args.self.now in
+    let issued = c.issue-issued in
+    settled_after g.S.Session.key issued.result self (record self { control = issued.new.self }) c.settled.new.self
+    (same_control g.S.Session.key self issued.new.self (issued_stay issued.result self.control issued.new.self c.as_slice-in-NewIdentifiers.result.now issued.ensures.ok issued.ensures.err)) c.settled.ensures.ok c.settled.ensures.same
+
+pub returns-in-Rebind-clause-same : goal.returns-in-Rebind-clause-same
+returns-in-Rebind-clause-same g c = same_self g.S.Session.key c.args.self.now

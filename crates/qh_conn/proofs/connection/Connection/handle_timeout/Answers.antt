@@ -9,6 +9,8 @@ use Rattle.qh_control.specs.Queue.{AreLost, PlainQueue, StaySendable}
 use Rattle.qh_core.specs.Inner.{is_open}
 use Rattle.qh_core.specs.Timers.{IsTimedOut as IsCoreTimedOut}
 use Rattle.qh_recovery.specs.SentPackets.{packet_at}
+use Rattle.qh_conn.proofs.SameParts.{timed_same}
+use Rattle.qh_conn.proofs.Same.{both_same, control_kept, same_control, same_dropped}
 use Rattle.qh_conn.proofs.connection.Connection.handle_timeout.Goals as goal
 
 pick_shut : (A B : Type 0) (b : Bool) → b ≡ false → B → MatchBool b A B
@@ -50,3 +52,24 @@ returns-clause-ok g c =
 
 pub returns-clause-whole : goal.returns-clause-whole
 returns-clause-whole g c = queue_whole c.time_ends.new.self c.on_lost.new.self c.time_ends.ensures.whole c.on_lost.ensures.sendable
+
+pub returns-then-is_closed-clause-same : goal.returns-then-is_closed-clause-same
+returns-then-is_closed-clause-same g c =
+    let e = c.time_ends.ensures in
+    timed_same g.S.Session.key c.args.now.0 c.args.self.now c.time_ends.new.self e.handshake e.core e.rest
+
+pub returns-clause-same : goal.returns-clause-same
+returns-clause-same g c =
+    let e = c.time_ends.ensures in
+    let mid = c.time_ends.new.self in
+    both_same g.S.Session.key c.args.self.now mid _ (timed_same g.S.Session.key c.args.now.0 c.args.self.now mid e.handshake e.core e.rest)
+    (same_control g.S.Session.key mid (record mid.control { queue = c.on_lost.new.self }) (control_kept mid.control refl))
+
+pub returns-in_default-clause-same : goal.returns-in_default-clause-same
+returns-in_default-clause-same g c =
+    let e = c.time_ends.ensures in
+    let mid = c.time_ends.new.self in
+    let lost : Connection _ = record mid { control = record mid.control { queue = c.on_lost.new.self } } in
+    let timed = both_same g.S.Session.key c.args.self.now mid lost (timed_same g.S.Session.key c.args.now.0 c.args.self.now mid e.handshake e.core e.rest)
+    (same_control g.S.Session.key mid (record mid.control { queue = c.on_lost.new.self }) (control_kept mid.control refl)) in
+    both_same g.S.Session.key c.args.self.now _ c.fail.new.self (both_same g.S.Session.key c.args.self.now lost _ timed (same_dropped g.S.Session.key lost)) (c.fail.ensures.same g.S.Session.key)

@@ -8,3 +8,9 @@ returns-then-was_greeted-clause-hears g c = λ accepts sealed hello d before t r
 
 pub returns-clause-hears : goal.returns-clause-hears
 returns-clause-hears g c = λ accepts sealed hello d before t r was. c.greet.ensures.hears accepts sealed hello d before t r (none_when before.peer (sym was ∙ c.if-was_greeted.false))
+
+pub returns-then-was_greeted-clause-same : goal.returns-then-was_greeted-clause-same
+returns-then-was_greeted-clause-same g c = λ before was p. p
+
+pub returns-clause-same : goal.returns-clause-same
+returns-clause-same g c = λ before was p. c.greet.ensures.same before (none_when before.handshake.peer (sym was ∙ c.if-was_greeted.false)) p

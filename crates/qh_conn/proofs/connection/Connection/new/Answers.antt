@@ -1,7 +1,9 @@
 use Rattle.std.proofs.Common.{◌≡◌, ℕ, true, false, length, Option, None, sym, ap, subst, ◌∙◌}
 use Rattle.std.specs.Prelude.{is_some}
+use Rattle.qh_conn.proofs.FirstHandshake.{said_idle}
 use Rattle.qh_control.specs.Control.{IsSendable}
 use Rattle.qh_control.specs.declared.control.ControlState.{ControlState}
+use Rattle.qh_converse.specs.Settled.{milliseconds}
 use Rattle.qh_core.specs.Inner.{IsNewSpace}
 use Rattle.qh_core.specs.declared.config.ConnConfig.{ConnConfig as CoreConfig}
 use Rattle.qh_core.specs.declared.inner.Inner.{Inner}
@@ -18,7 +20,11 @@ returns-clause-stands g c =
     let config : core.config ≡ c.core.result = ap (λ (z : Inner _). z.config) is in
     let space : IsNewSpace core.config core.side core.space =
     subst (λ (z : CoreConfig). IsNewSpace z core.side core.space) (sym config) (subst (λ (z : Side). IsNewSpace c.core.result z core.space) (sym side) c.new-core.ensures.space) in
-    (fresh.0, fresh.1, λ accepts sealed. c.hears.ensures.fresh accepts sealed fresh.0 c.in_ok-handshake.handshake core fresh.1 (side ∙ sym ids.0) (ap (λ (z : Inner _). z.local_id) is ∙ sym ids.1) space c.new-core.ensures.follows)
+    let own = ap (λ (z : CoreConfig). z.idle) (config ∙ c.core.ensures) in
+    let unsettled : milliseconds core.config.idle ≡ c.in_ok-handshake.handshake.parameters.max_idle_timeout = ap milliseconds own
+    ∙ sym (said_idle c.args.config c.args.side c.args.local_id c.args.key_id c.in_ok-handshake.handshake.parameters c.in_ok-handshake.ensures.said) in
+    let runs : core.idle.timeout ≡ core.config.idle = ap (λ (z : Inner _). z.idle.timeout) is ∙ sym (ap (λ (z : CoreConfig). z.idle) config) in
+    (fresh.0, fresh.1, λ accepts sealed. c.hears.ensures.fresh accepts sealed fresh.0 c.in_ok-handshake.handshake core fresh.1 (side ∙ sym ids.0) (ap (λ (z : Inner _). z.local_id) is ∙ sym ids.1) space c.new-core.ensures.follows unsettled (λ _. runs))
 
 pub returns-clause-whole : goal.returns-clause-whole
 returns-clause-whole g c =

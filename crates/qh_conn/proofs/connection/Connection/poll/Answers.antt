@@ -2,6 +2,7 @@ use Rattle.std.proofs.Common.{◌≡◌, Option, Bool, false, refl, sym, ap, sub
 use Rattle.qh_conn.specs.Telling.{IsTold}
 use Rattle.qh_conn.specs.declared.event.Event.{Event}
 use Rattle.qh_control.specs.declared.control.ControlState.{ControlState}
+use Rattle.qh_conn.proofs.SameParts.{told_same}
 use Rattle.qh_conn.proofs.connection.Connection.poll.Goals as goal
 
 quiet_news : (s : ControlState) → s.is_datagram_due ≡ false → record s { is_datagram_due = false } ≡ s
@@ -41,3 +42,18 @@ returns-clause-told g c =
     subst (λ (z : Option Event). IsTold old c.poll_core.new.self z) (sym told.1)
     (IsTold.of_core told.0 c.if-self.false c.if-self-2.false no_news no_room told.2
     (c.poll_core.ensures.rest ∙ ap (λ (z : ControlState). record old { control = z; core = c.poll_core.new.self.core }) kept))
+
+pub returns-then-self-clause-same : goal.returns-then-self-clause-same
+returns-then-self-clause-same g c = λ key. told_same key c.args.self.now _ _ (returns-then-self-clause-told g c)
+
+pub returns-then-self-2-clause-same : goal.returns-then-self-2-clause-same
+returns-then-self-2-clause-same g c = λ key. told_same key c.args.self.now _ _ (returns-then-self-2-clause-told g c)
+
+pub returns-then-take_datagram_news-clause-same : goal.returns-then-take_datagram_news-clause-same
+returns-then-take_datagram_news-clause-same g c = λ key. told_same key c.args.self.now _ _ (returns-then-take_datagram_news-clause-told g c)
+
+pub returns-then-take_unblocked_news-clause-same : goal.returns-then-take_unblocked_news-clause-same
+returns-then-take_unblocked_news-clause-same g c = λ key. told_same key c.args.self.now _ _ (returns-then-take_unblocked_news-clause-told g c)
+
+pub returns-clause-same : goal.returns-clause-same
+returns-clause-same g c = λ key. told_same key c.args.self.now c.poll_core.new.self _ (returns-clause-told g c)

@@ -1,6 +1,7 @@
 use Rattle.std.proofs.Common.{Some, None, refl, ap}
 use Rattle.qh_conn.specs.Telling.IsEndpointTold.{control, of_core}
 use Rattle.qh_control.specs.declared.control.ControlState.{ControlState}
+use Rattle.qh_conn.proofs.SameParts.{endpoint_told_same}
 use Rattle.qh_conn.proofs.connection.Connection.poll_endpoint_events.Goals as goal
 
 pub returns-in-Some-clause-told : goal.returns-in-Some-clause-told
@@ -29,3 +30,12 @@ returns-in-None-clause-whole g c =
     let nothing = c.poll_endpoint_event.ensures.none c.in_default.is in
     c.still.ensures.whole c.args.self.now _ (record { handshake = refl; control = nothing.1; is_connected = refl })
     (c.made.ensures.endpoint _ c.args.self.now.core c.poll_endpoint_events.new.self c.poll_endpoint_events.ensures.told c.poll_endpoint_events.ensures.follows c.poll_endpoint_events.ensures.same_end) c.requires
+
+pub returns-in-Some-clause-same : goal.returns-in-Some-clause-same
+returns-in-Some-clause-same g c = λ key. endpoint_told_same key c.args.self.now _ _ (returns-in-Some-clause-told g c)
+
+pub returns-in-Some-Drained-clause-same : goal.returns-in-Some-Drained-clause-same
+returns-in-Some-Drained-clause-same g c = λ key. endpoint_told_same key c.args.self.now _ _ (returns-in-Some-Drained-clause-told g c)
+
+pub returns-in-None-clause-same : goal.returns-in-None-clause-same
+returns-in-None-clause-same g c = λ key. endpoint_told_same key c.args.self.now _ _ (returns-in-None-clause-told g c)

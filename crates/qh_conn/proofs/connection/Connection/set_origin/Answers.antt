@@ -18,4 +18,4 @@ returns-clause-stands g c = λ hello fresh.
     let own = hello_bytes (hello_of (greeting Server [] h.parameters)) in
     let now : IsFresh own new = subst (λ (z : Handshake). IsFresh own z) (sym is)
     (origin_fresh hello c.args.original_id c.args.retry_id c.args.validated self.handshake c.requires.server fresh (subst (λ (z : Handshake). IsHandshake z) is c.set_origin.ensures.whole)) in
-    (own, now, λ accepts sealed p. refreshed accepts sealed hello own self.handshake new self.core self.is_connected now (ap (λ (z : Handshake). z.side) is) (ap (λ (z : Handshake). z.local_id) is) (ap (λ (z : Handshake). z.peer) is) p)
+    (own, now, λ accepts sealed p. refreshed accepts sealed hello own self.handshake new self.core self.is_connected now (ap (λ (z : Handshake). z.side) is) (ap (λ (z : Handshake). z.local_id) is) (ap (λ (z : Handshake). z.peer) is) (ap (λ (z : Handshake). z.parameters.max_idle_timeout) is) p)

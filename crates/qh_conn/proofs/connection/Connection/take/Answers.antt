@@ -8,6 +8,9 @@ use Rattle.qh_conn.specs.Incoming.{IsRestTaken}
 use Rattle.qh_converse.proofs.MidDatagram.{unheard}
 use Rattle.qh_packet.proofs.Surveys.{is_empty}
 use Rattle.qh_conn.specs.Whole.{IsWhole}
+use Rattle.qh_conn.proofs.SameParts.{ended_same, lost_same, met_same}
+use Rattle.qh_conn.proofs.Same.{both_same, local_stays, same_dropped, same_rest}
+use Rattle.qh_conn.proofs.Noted.{any_err}
 use Rattle.qh_conn.proofs.connection.Connection.take.Goals as goal
 use Rattle.qh_conn.proofs.connection.Connection.take.Goals.{else-is_greeted-via-then-is_greeted+else-not-is_empty, else-is_greeted-via-else-is_greeted}
 
@@ -24,6 +27,9 @@ returns-in-Err g c =
       );
       safe = safe_of _ whole.sound;
       whole = whole;
+      same = both_same g.S.Session.key c.args.self.now c.feed.new.self c.end_by.new.self (ended_same _ c.args.now c.args.datagram.now c.args.self.now c.feed.new.self c.in-Err.error Memory c.in-Err.ensures.err named)
+          (same_rest g.S.Session.key c.feed.new.self c.end_by.new.self c.end_by.ensures.rest (local_stays c.feed.new.self.core c.end_by.new.self.core [] c.end_by.ensures.made.0));
+      lost = tt;
     }
 
 pub meet-requires-clause-sound : goal.meet-requires-clause-sound
@@ -93,3 +99,34 @@ returns-else-is_greeted-clause-carries g c = λ from hello t p.
     let read = restarted_read _ c.args.now c.args.datagram.now c.in-Ok.rest.now hello c.args.self.now c.feed.new.self c.restart.new.self t from c.requires.whole.sound.handshake c.in-Ok.ensures.ok c.restart.ensures.rest c.restart.ensures.made p in
     let met = c.meet.new.self in
     (unheard g.S.Session.accepts g.S.Session.sealed hello c.args.datagram.now met.handshake met.core met.is_connected t (c.in_ok-meet.ensures.hears g.S.Session.accepts g.S.Session.sealed hello c.args.datagram.now c.args.self.now.handshake t read c.known-known.ensures.is_greeted).0, tt)
+
+pub returns-in-Err-Memory-clause-lost : goal.returns-in-Err-Memory-clause-lost
+returns-in-Err-Memory-clause-lost g c =
+    let l = c.in-Err-Memory.ensures.lost c.in-Err-Memory.field-0-is in
+    lost_same (record { name = g.S.Session.name; knows = g.S.Session.knows; key = g.S.Session.key; sealed = g.S.Session.sealed; accepts = g.S.Session.accepts }) c.args.now c.args.datagram.now
+    c.args.self.now c.feed.new.self l.0 l.1 l.2 c.feed.ensures.rest
+
+pub returns-in_err-meet-clause-lost : goal.returns-in_err-meet-clause-lost
+returns-in_err-meet-clause-lost g c =
+    let met = met_same _ c.args.now c.args.datagram.now c.in-Ok.rest.now c.args.self.now c.feed.new.self c.restart.new.self c.meet.new.self c.known-known.result.is_greeted c.in-Ok.ensures.ok c.restart.ensures.rest
+    c.known-known.ensures.is_greeted c.meet.ensures.same in
+    any_err _ c.from_residual.result (both_same g.S.Session.key c.args.self.now c.meet.new.self _ met (same_dropped g.S.Session.key c.meet.new.self))
+
+pub returns-in_err-take_data-clause-lost : goal.returns-in_err-take_data-clause-lost
+returns-in_err-take_data-clause-lost g c =
+    let met = met_same _ c.args.now c.args.datagram.now c.in-Ok.rest.now c.args.self.now c.feed.new.self c.restart.new.self c.meet.new.self c.known-known.result.is_greeted c.in-Ok.ensures.ok c.restart.ensures.rest
+    c.known-known.ensures.is_greeted c.meet.ensures.same in
+    let new = c.take_data.new.self in
+    any_err _ c.from_residual-in_err-take_data.result
+    (both_same g.S.Session.key c.args.self.now new _ (both_same g.S.Session.key c.args.self.now c.meet.new.self new met c.take_data.ensures.same) (same_dropped g.S.Session.key new))
+
+pub returns-in_ok-take_data-clause-same : goal.returns-in_ok-take_data-clause-same
+returns-in_ok-take_data-clause-same g c =
+    let met = met_same _ c.args.now c.args.datagram.now c.in-Ok.rest.now c.args.self.now c.feed.new.self c.restart.new.self c.meet.new.self c.known-known.result.is_greeted c.in-Ok.ensures.ok c.restart.ensures.rest
+    c.known-known.ensures.is_greeted c.meet.ensures.same in
+    both_same g.S.Session.key c.args.self.now c.meet.new.self c.take_data.new.self met c.take_data.ensures.same
+
+pub returns-else-is_greeted-clause-same : goal.returns-else-is_greeted-clause-same
+returns-else-is_greeted-clause-same g c =
+    met_same _ c.args.now c.args.datagram.now c.in-Ok.rest.now c.args.self.now c.feed.new.self c.restart.new.self c.meet.new.self c.known-known.result.is_greeted c.in-Ok.ensures.ok c.restart.ensures.rest
+    c.known-known.ensures.is_greeted c.meet.ensures.same

@@ -1,10 +1,14 @@
-use Rattle.std.proofs.Common.{ap, ◌∙◌}
+use Rattle.std.proofs.Common.{ap, refl, sym, ◌∙◌}
 use Rattle.qh_conn.proofs.InFrames.{rest_closed, rest_open}
 use Rattle.qh_conn.proofs.InRest.{rest_unaccepted}
 use Rattle.qh_conn.proofs.InSound.{on_ok, safe_of, sound_core, sound_queue, whole_core, whole_queue}
 use Rattle.qh_conn.proofs.OutKeys.{closed_of, open_of}
 use Rattle.qh_core.specs.Inner.{is_open}
 use Rattle.qh_conn.proofs.InHears.{brought_came, either_way, rest_heard}
+use Rattle.qh_conn.proofs.SameParts.{datagram_stays, reset_same}
+use Rattle.qh_conn.proofs.Same.{both_same, control_kept, renamed_stays, same_control, same_core, same_then}
+use Rattle.qh_core.specs.declared.inner.Inner.{Inner}
+use Rattle.qh_conn.specs.declared.connection.Connection.{Connection}
 use Rattle.qh_conn.proofs.connection.Connection.take_data.Goals as goal
 
 pub returns-in_default-clause-ok : goal.returns-in_default-clause-ok
@@ -100,3 +104,67 @@ returns-clause-carries g c = λ named hello t p.
     let came = brought_came (g.S.Session.accepts self.core.session) c.args.now c.args.rest.now c.args.datagram.now _ self.core c.handle_datagram.new.self self.handshake.side t named c.requires.ends e.same_end
     c.requires.whole.sound.side_is (rw c.in-Some.is at c.in_ok-accepted.ensures.brings).0 in
     either_way g.S.Session.accepts g.S.Session.sealed c.on_lost.result hello (record c.follow_ids.new.self { control = record c.follow_ids.new.self.control { queue = c.on_lost.new.self } }) _ (c.follow_ids.ensures.stands g.S.Session.accepts g.S.Session.sealed hello _ (c.take_frames.ensures.stands g.S.Session.accepts g.S.Session.sealed hello _ (c.be_connected.ensures.carries g.S.Session.accepts g.S.Session.sealed hello _ came taken)))
+
+pub returns-in_err-accepted-clause-same : goal.returns-in_err-accepted-clause-same
+returns-in_err-accepted-clause-same g c =
+    let self = c.args.self.now in
+    let e = c.handle_datagram.ensures in
+    same_core g.S.Session.key self c.handle_datagram.new.self (datagram_stays _ c.args.now c.args.rest.now _ self.core c.handle_datagram.new.self c.handle_datagram.result e.ok e.err)
+
+pub returns-in_default-clause-same : goal.returns-in_default-clause-same
+returns-in_default-clause-same g c =
+    let self = c.args.self.now in
+    let e = c.handle_datagram.ensures in
+    let mid : Connection _ = record self { core = c.handle_datagram.new.self } in
+    both_same g.S.Session.key self mid c.hear_reset.new.self
+    (same_core g.S.Session.key self c.handle_datagram.new.self (datagram_stays _ c.args.now c.args.rest.now _ self.core c.handle_datagram.new.self c.handle_datagram.result e.ok e.err))
+    (reset_same g.S.Session.key c.args.now _ mid c.hear_reset.new.self c.hear_reset.ensures.heard)
+
+pub returns-in_err-be_connected-clause-same : goal.returns-in_err-be_connected-clause-same
+returns-in_err-be_connected-clause-same g c =
+    let self = c.args.self.now in
+    let e = c.handle_datagram.ensures in
+    let mid : Connection _ = record self { core = c.handle_datagram.new.self } in
+    both_same g.S.Session.key self mid c.be_connected.new.self
+    (same_core g.S.Session.key self c.handle_datagram.new.self (datagram_stays _ c.args.now c.args.rest.now _ self.core c.handle_datagram.new.self c.handle_datagram.result e.ok e.err))
+    c.be_connected.ensures.same
+
+pub returns-in_err-take_frames-clause-same : goal.returns-in_err-take_frames-clause-same
+returns-in_err-take_frames-clause-same g c =
+    let self = c.args.self.now in
+    let e = c.handle_datagram.ensures in
+    let mid : Connection _ = record self { core = c.handle_datagram.new.self } in
+    both_same g.S.Session.key self c.be_connected.new.self c.take_frames.new.self
+    (both_same g.S.Session.key self mid c.be_connected.new.self
+    (same_core g.S.Session.key self c.handle_datagram.new.self (datagram_stays _ c.args.now c.args.rest.now _ self.core c.handle_datagram.new.self c.handle_datagram.result e.ok e.err))
+    c.be_connected.ensures.same)
+    c.take_frames.ensures.same
+
+pub returns-then-is_closed-clause-same : goal.returns-then-is_closed-clause-same
+returns-then-is_closed-clause-same g c =
+    let self = c.args.self.now in
+    let e = c.handle_datagram.ensures in
+    let mid : Connection _ = record self { core = c.handle_datagram.new.self } in
+    both_same g.S.Session.key self c.be_connected.new.self c.take_frames.new.self
+    (both_same g.S.Session.key self mid c.be_connected.new.self
+    (same_core g.S.Session.key self c.handle_datagram.new.self (datagram_stays _ c.args.now c.args.rest.now _ self.core c.handle_datagram.new.self c.handle_datagram.result e.ok e.err))
+    c.be_connected.ensures.same)
+    c.take_frames.ensures.same
+
+pub returns-clause-same : goal.returns-clause-same
+returns-clause-same g c =
+    let self = c.args.self.now in
+    let e = c.handle_datagram.ensures in
+    let mid : Connection _ = record self { core = c.handle_datagram.new.self } in
+    let frames = c.take_frames.new.self in
+    let followed = c.follow_ids.new.self in
+    let core : Inner _ = record frames.core { remote_id = frames.control.ids.active.id } in
+    let taken = both_same g.S.Session.key self c.be_connected.new.self frames
+    (both_same g.S.Session.key self mid c.be_connected.new.self
+    (same_core g.S.Session.key self c.handle_datagram.new.self (datagram_stays _ c.args.now c.args.rest.now _ self.core c.handle_datagram.new.self c.handle_datagram.result e.ok e.err))
+    c.be_connected.ensures.same)
+    c.take_frames.ensures.same in
+    let follows = same_then g.S.Session.key frames (record frames { core = core }) followed c.follow_ids.ensures.value
+    (same_core g.S.Session.key frames core (renamed_stays frames.core core frames.control.ids.active.id (sym c.take_frames.ensures.sound.as_long) refl)) in
+    both_same g.S.Session.key self followed _ (both_same g.S.Session.key self frames followed taken follows)
+    (same_control g.S.Session.key followed (record followed.control { queue = c.on_lost.new.self }) (control_kept followed.control refl))

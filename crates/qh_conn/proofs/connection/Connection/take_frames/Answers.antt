@@ -1,4 +1,4 @@
-use Rattle.std.proofs.Common.{◌≡◌, Option, None, Some, refl, inl, inr, sym, ap, subst, ◌∙◌, ◌-◌, arith}
+use Rattle.std.proofs.Common.{◌≡◌, true, Option, None, Some, refl, inl, inr, sym, ap, subst, ◌∙◌, ◌-◌, arith}
 use Rattle.qh_base.specs.declared.transport_error.TransportError.{TransportError}
 use Rattle.qh_conn.proofs.InFrames.{all_read, cut_read, faulted_done, faulted_sound, faulted_stands, no_frame, one_more, refused_read}
 use Rattle.qh_conn.proofs.OutKeys.{closed_of}
@@ -10,6 +10,8 @@ use Rattle.qh_streams.specs.declared.fault.StreamFault.{StreamFault}
 use Rattle.qh_streams.specs.declared.fault.StreamFault.TheVariants.{Memory as Wanting, Transport}
 use Rattle.qh_conn.specs.Incoming.{AreFramesDone}
 use Rattle.qh_conn.specs.declared.connection.Connection.{Connection}
+use Rattle.qh_conn.proofs.SameParts.{controls_same, faulted_same}
+use Rattle.qh_conn.proofs.Same.{both_control, both_same}
 use Rattle.qh_conn.proofs.connection.Connection.take_frames.Goals as goal
 
 pub returns-in_default-clause-done : goal.returns-in_default-clause-done
@@ -27,6 +29,7 @@ loop-left-preserved g c = (
   c.take_control.ensures.rest ∙ ap (λ (z : Connection _). record z { control = c.take_control.new.self.control }) c.loop-left.invariant.1,
   one_more c.args.now c.args.accepted.now.frames.now c.loop-left.rest.now c.in-Ok.behind.now c.in-Ok.frame c.loop-left.left _ c.args.accepted.now.taken _ c.loop-left.self.control c.take_control.new.self.control
       c.in-Ok.ensures.found (omega (arith, c.loop-left-test.true)) c.in-Ok-take_control.ensures.unrefused c.in-Ok-take_control.ensures.taken c.loop-left.invariant.2,
+  both_control true true _ c.loop-left.self.control _ c.loop-left.invariant.3 c.take_control.ensures.stays (λ is. is),
 )
 
 refused_by : (f : StreamFault) (e : TransportError) (refusal : Option Refusal) → f ≡ Transport e → IsRefusedBy f refusal → IsRefusal (Transport e) refusal
@@ -76,3 +79,29 @@ returns-in-Err-Memory-clause-done g c = λ taken are count.
       r.2,
       AreFramesDone.cut r.3 (sym (ap (λ (z : Inner _). is_open z.state) core) ∙ closed_of (is_open tc.core.state) c.is_closed.result c.is_closed.ensures c.if-is_closed.true) core,
     )
+
+pub returns-in_default-clause-same : goal.returns-in_default-clause-same
+returns-in_default-clause-same g c = controls_same g.S.Session.key c.args.self.now c.loop-left.self c.loop-left.invariant.1 c.loop-left.invariant.3
+
+pub returns-clause-same : goal.returns-clause-same
+returns-clause-same g c = controls_same g.S.Session.key c.args.self.now c.loop-left.self c.loop-left.invariant.1 c.loop-left.invariant.3
+
+pub returns-in-Err-Memory-clause-same : goal.returns-in-Err-Memory-clause-same
+returns-in-Err-Memory-clause-same g c =
+    let tc = c.take_control.new.self in
+    both_same g.S.Session.key c.args.self.now c.loop-left.self tc (controls_same g.S.Session.key c.args.self.now c.loop-left.self c.loop-left.invariant.1 c.loop-left.invariant.3)
+    (controls_same g.S.Session.key c.loop-left.self tc c.take_control.ensures.rest c.take_control.ensures.stays)
+
+pub returns-in-Err-Memory-2-clause-same : goal.returns-in-Err-Memory-2-clause-same
+returns-in-Err-Memory-2-clause-same g c =
+    let tc = c.take_control.new.self in
+    both_same g.S.Session.key c.args.self.now c.loop-left.self tc (controls_same g.S.Session.key c.args.self.now c.loop-left.self c.loop-left.invariant.1 c.loop-left.invariant.3)
+    (controls_same g.S.Session.key c.loop-left.self tc c.take_control.ensures.rest c.take_control.ensures.stays)
+
+pub returns-in-Err-Transport-clause-same : goal.returns-in-Err-Transport-clause-same
+returns-in-Err-Transport-clause-same g c =
+    let tc = c.take_control.new.self in
+    both_same g.S.Session.key c.args.self.now tc _
+    (both_same g.S.Session.key c.args.self.now c.loop-left.self tc (controls_same g.S.Session.key c.args.self.now c.loop-left.self c.loop-left.invariant.1 c.loop-left.invariant.3)
+    (controls_same g.S.Session.key c.loop-left.self tc c.take_control.ensures.rest c.take_control.ensures.stays))
+    (faulted_same g.S.Session.key c.args.now _ tc c.close_by_fault.new.self c.close_by_fault.ensures.faulted)

@@ -22,6 +22,10 @@ use Rattle.qh_handshake.specs.declared.handshake.Handshake.{Handshake}
 use Rattle.qh_handshake.specs.declared.initial_space.InitialSpace.{InitialSpace}
 use Rattle.qh_packet.specs.Session.{SealsTag}
 use Rattle.qh_spec.specs.Transcript.{HandedOut}
+use Rattle.qh_conn.proofs.SameParts.{initial_same}
+use Rattle.qh_conn.proofs.Same.{same_handshake, same_self, told_stays}
+use Rattle.qh_handshake.proofs.GoingOn.{close_goes, close_unsent_goes, same_goes}
+use Rattle.qh_handshake.specs.GoesOn.{GoesOn}
 use Rattle.qh_conn.proofs.connection.Connection.transmit_close.Goals as goal
 
 -- the end is closed still
@@ -89,3 +93,24 @@ returns-clause-whole g c =
     (ap (λ (z : Handshake). z.local_id) made.new_is) (ap (λ (z : Handshake). z.peer) made.new_is)
     (λ none. no_space old.handshake.space c.transmit_close.new.self.space made.space made.space_is none) c.close_told.ensures.same_end
     (λ shut. subst (λ (z : Inner _). is_open z.state ≡ false) (sym c.close_told.ensures.value) (still_shut old.core.state shut))
+
+pub returns-in_default-clause-same : goal.returns-in_default-clause-same
+returns-in_default-clause-same g c = same_self g.S.Session.key c.args.self.now
+
+pub returns-in_err-sent-clause-same : goal.returns-in_err-sent-clause-same
+returns-in_err-sent-clause-same g c =
+    same_handshake g.S.Session.key c.args.self.now c.transmit_close.new.self (close_unsent_goes c.args.self.now.handshake c.transmit_close.new.self c.in_err-sent.ensures.unsent)
+
+pub returns-in_default-sent-clause-same : goal.returns-in_default-sent-clause-same
+returns-in_default-sent-clause-same g c =
+    let h = c.args.self.now.handshake in
+    let n = c.in_ok-sent.ensures.none c.in_default-sent.is in
+    same_handshake g.S.Session.key c.args.self.now c.transmit_close.new.self (subst (λ (z : Handshake). GoesOn h z) (sym n.1) (same_goes h))
+
+pub returns-clause-same : goal.returns-clause-same
+returns-clause-same g c =
+    let old = c.args.self.now in
+    let made = rw (c.in-Some-sent.is, c.session.ensures) at c.in_ok-sent.ensures.some in
+    initial_same g.S.Session.key old c.transmit_close.new.self c.close_told.new.self
+    (close_goes (g.S.Session.sealed old.core.session) c.initial_close-close.result c.args.buf.now.items c.transmit_close.new.buf.items old.handshake c.transmit_close.new.self c.in-Some-sent.size made)
+    (told_stays old.core c.close_told.new.self c.close_told.ensures.value)

@@ -8,6 +8,8 @@ use Rattle.qh_converse.proofs.MadeOpens.{made_opens}
 use Rattle.qh_core.proofs.MadeEnds.{transmit_made}
 use Rattle.qh_core.specs.declared.inner.Inner.{Inner}
 use Rattle.qh_spec.specs.declared.sides.Space.TheVariants.{Data}
+use Rattle.qh_conn.proofs.SameParts.{transmit_stays}
+use Rattle.qh_conn.proofs.Same.{same_core}
 use Rattle.qh_conn.proofs.connection.Connection.transmit_core.Goals as goal
 
 none_of : {P Q : Type 0} (result : Result (Option Transmit) OutOfMemory) → IfOk result (λ o. o ≡ None → P) → (P → Q) → IfOk result (λ o. o ≡ None → Q)
@@ -48,3 +50,10 @@ returns-clause-whole g c =
     (made_opens g.S.Session.accepts g.S.Session.sealed old.core new _
     (transmit_made g.S.Session.accepts g.S.Session.sealed c.args.now before after c.poll_transmit.result old.core new e.some e.read_back e.undisturbed e.none e.err e.follows e.same_end).0)
     c.poll_transmit.ensures.same_end c.requires.whole.sound.sendable refl
+
+pub returns-clause-same : goal.returns-clause-same
+returns-clause-same g c =
+    let old = c.args.self.now in
+    let e = c.poll_transmit.ensures in
+    same_core g.S.Session.key old c.poll_transmit.new.self
+    (transmit_stays _ c.args.now c.args.buf.now.items c.poll_transmit.new.buf.items _ _ c.poll_transmit.result old.core c.poll_transmit.new.self e.some e.none e.err)

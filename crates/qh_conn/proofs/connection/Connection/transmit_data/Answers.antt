@@ -2,6 +2,7 @@ use Rattle.std.proofs.Common.{◌≡◌, true, false, inr, sym, subst, ◌∙◌
 use Rattle.qh_conn.proofs.OutStill.{both_still, carries_after, control_held, data_after, none_of, some_of}
 use Rattle.qh_conn.specs.declared.connection.Connection.{Connection}
 use Rattle.qh_core.specs.Sending.{IsSilent as IsCoreSilent}
+use Rattle.qh_conn.proofs.Same.{both_same}
 use Rattle.qh_conn.proofs.connection.Connection.transmit_data.Goals as goal
 
 pub returns-clause-some : goal.returns-clause-some
@@ -28,3 +29,6 @@ pub returns-clause-turns : goal.returns-clause-turns
 returns-clause-turns g c =
     let n = c.in_ok-transmit.ensures.none c.in_default.is in
     some_of c.transmit_in_turn-2.result c.transmit_in_turn-2.ensures.others (λ t is. record { own = λ _. inr n.1; others = λ e. let z : true ≡ false = sym c.if-not-self.false ∙ e in cc })
+
+pub returns-clause-same : goal.returns-clause-same
+returns-clause-same g c = both_same g.S.Session.key c.args.self.now c.transmit_control.new.self c.transmit_in_turn-2.new.self c.transmit_control.ensures.same c.transmit_in_turn-2.ensures.same

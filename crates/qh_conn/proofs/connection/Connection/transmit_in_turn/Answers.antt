@@ -1,5 +1,6 @@
-use Rattle.std.proofs.Common.{◌∙◌}
+use Rattle.std.proofs.Common.{◌∙◌, true}
 use Rattle.qh_conn.proofs.OutStill.{both_still, carries_after, control_held, data_after, none_of, stays_still}
+use Rattle.qh_conn.proofs.Same.{both_same, same_flags}
 use Rattle.qh_conn.proofs.connection.Connection.transmit_in_turn.Goals as goal
 
 pub returns-clause-some : goal.returns-clause-some
@@ -20,3 +21,11 @@ returns-clause-carries g c =
     let n = c.in_ok-transmit.ensures.none c.in_default.is in
     carries_after g.S.Session.accepts g.S.Session.sealed c.args.self.now c.transmit_core.new.self c.transmit_control.new.self c.args.buf.now.items c.transmit_core.new.buf.items
     c.transmit_control.new.buf.items c.transmit_control.result (stays_still c.args.self.now c.transmit_core.new.self n.1) n.0 c.transmit_control.ensures.carries
+
+pub returns-in-Some-clause-same : goal.returns-in-Some-clause-same
+returns-in-Some-clause-same g c =
+    let mid = c.transmit_core.new.self in
+    both_same g.S.Session.key c.args.self.now mid _ c.transmit_core.ensures.same (same_flags g.S.Session.key mid mid.is_data_due mid.is_connected_due true mid.is_lost_logged)
+
+pub returns-clause-same : goal.returns-clause-same
+returns-clause-same g c = both_same g.S.Session.key c.args.self.now c.transmit_core.new.self c.transmit_control.new.self c.transmit_core.ensures.same c.transmit_control.ensures.same

@@ -2,13 +2,14 @@ use Rattle.std.proofs.Common.{◌≡◌, ◌∷◌, [], Bool, List, Option, None
 use Rattle.std.specs.Prelude.{if◌then◌else◌}
 use Rattle.qh_base.specs.declared.path.Transmit.{Transmit}
 use Rattle.qh_base.specs.declared.time.Moment.{Moment}
-use Rattle.qh_conn.proofs.OutCarries.{err_carries}
+use Rattle.qh_conn.proofs.OutCarries.{err_carries, nothing_more}
 use Rattle.qh_conn.proofs.OutWhole.{handshake_whole}
 use Rattle.qh_conn.specs.Outgoing.{IsTransmitted, handed_on}
 use Rattle.qh_conn.specs.Outgoing.IsTransmitted.{initial}
 use Rattle.qh_conn.specs.Whole.{IsWhole, Stands}
 use Rattle.qh_conn.specs.declared.connection.Connection.{Connection}
 use Rattle.qh_converse.proofs.MidDatagram.{stays}
+use Rattle.qh_converse.specs.Converses.{Converses}
 use Rattle.qh_core.proofs.MadeEnds.{turned_made}
 use Rattle.qh_core.specs.Inner.{counted, is_open}
 use Rattle.qh_core.specs.Made.IsTurned.{packet_sent}
@@ -20,6 +21,10 @@ use Rattle.qh_handshake.specs.declared.handshake.Handshake.{Handshake}
 use Rattle.qh_handshake.specs.declared.initial_space.InitialSpace.{InitialSpace}
 use Rattle.qh_packet.specs.Session.{SealsTag}
 use Rattle.qh_spec.specs.Transcript.{HandedOut}
+use Rattle.qh_conn.proofs.SameParts.{initial_same}
+use Rattle.qh_conn.proofs.Same.{moment_stays, same_handshake, same_then}
+use Rattle.qh_handshake.proofs.GoingOn.{made_goes, same_goes, unsent_goes}
+use Rattle.qh_handshake.specs.GoesOn.{GoesOn}
 use Rattle.qh_conn.proofs.connection.Connection.transmit_initial.Goals as goal
 use Rattle.qh_conn.proofs.connection.Connection.transmit_initial.Goals.{then-sent, else-sent}
 
@@ -65,6 +70,13 @@ returns-in_default-clause-none g c = λ _.
     let n = c.in_ok-sent.ensures.none c.in_default.is in
     (n.0, ap (λ (z : Handshake). record c.args.self.now { handshake = z }) n.1, n.2)
 
+pub returns-in_default-clause-carries : goal.returns-in_default-clause-carries
+returns-in_default-clause-carries g c = λ named makes hello t p.
+    let old = c.args.self.now in
+    let n = c.in_ok-sent.ensures.none c.in_default.is in
+    nothing_more g.S.Session.accepts g.S.Session.sealed hello c.poll_transmit.new.self old.core old.is_connected t
+    (subst (λ (z : Handshake). Converses g.S.Session.accepts g.S.Session.sealed hello z old.core old.is_connected t) (sym n.1) p)
+
 pub returns-clause-some : goal.returns-clause-some
 returns-clause-some g c =
     let some = rw (c.in-Some.is, c.session.ensures) at c.in_ok-sent.ensures.some in
@@ -90,3 +102,23 @@ returns-clause-whole g c =
     let some = rw (c.in-Some.is, c.session.ensures) at c.in_ok-sent.ensures.some in
     noted_whole c.args.now c.in-Some.sent.is_ack_eliciting (g.S.Session.sealed c.args.self.now.core.session) c.args.self.now c.poll_transmit.new.self c.if-sent.self c.args.buf.now.items
     c.poll_transmit.new.buf.items c.in-Some.sent.size c.requires.whole c.poll_transmit.ensures.whole some.0 (noted_is g c)
+
+pub returns-in_err-sent-clause-same : goal.returns-in_err-sent-clause-same
+returns-in_err-sent-clause-same g c =
+    same_handshake g.S.Session.key c.args.self.now c.poll_transmit.new.self (unsent_goes c.args.now c.args.self.now.handshake c.poll_transmit.new.self c.in_err-sent.ensures.unsent)
+
+pub returns-in_default-clause-same : goal.returns-in_default-clause-same
+returns-in_default-clause-same g c =
+    let h = c.args.self.now.handshake in
+    let n = c.in_ok-sent.ensures.none c.in_default.is in
+    same_handshake g.S.Session.key c.args.self.now c.poll_transmit.new.self (subst (λ (z : Handshake). GoesOn h z) (sym n.1) (same_goes h))
+
+pub returns-clause-same : goal.returns-clause-same
+returns-clause-same g c =
+    let old = c.args.self.now in
+    let h = c.poll_transmit.new.self in
+    let some = rw (c.in-Some.is, c.session.ensures) at c.in_ok-sent.ensures.some in
+    let next : Connection _ = noted c.args.now c.in-Some.sent.is_ack_eliciting old h in
+    same_then g.S.Session.key old next c.if-sent.self (noted_is g c)
+    (initial_same g.S.Session.key old h next.core
+    (made_goes (g.S.Session.sealed old.core.session) c.args.now c.args.buf.now.items c.poll_transmit.new.buf.items old.handshake h c.in-Some.sent.size some.0) (moment_stays old.core next.core next.core.idle refl))

@@ -6,6 +6,8 @@ use Rattle.qh_core.proofs.MadeEnds.{control_made}
 use Rattle.qh_core.specs.Inner.{is_open}
 use Rattle.qh_core.specs.declared.inner.Inner.{Inner}
 use Rattle.qh_spec.specs.declared.sides.Space.TheVariants.{Data}
+use Rattle.qh_conn.proofs.SameParts.{control_stays, out_same}
+use Rattle.qh_conn.proofs.Same.{control_kept, same_control}
 use Rattle.qh_conn.proofs.connection.Connection.transmit_waiting.Goals as goal
 
 pub returns-in_err-sent-clause-carries : goal.returns-in_err-sent-clause-carries
@@ -76,3 +78,29 @@ returns-clause-whole g c =
     data_whole old c.transmit_control.new.self (record old.control { queue = c.on_sent.new.self }) false c.requires.whole c.requires.connected (λ _. sent.opened) c.in_ok-sent.ensures.same_end
     (queue_sendable old.core.side old.core.config.peer_datagram old.control c.on_sent.new.self
     (c.on_sent.ensures.sendable old.core.side old.core.config.peer_datagram (same_queue _ _ old.control.queue c.reserve.new.self c.in_ok-reserve.ensures.rest s.frames)) s) refl
+
+pub returns-in_err-reserve-clause-same : goal.returns-in_err-reserve-clause-same
+returns-in_err-reserve-clause-same g c =
+    let old = c.args.self.now in
+    same_control g.S.Session.key old (record old.control { queue = c.reserve.new.self }) (control_kept old.control refl)
+
+pub returns-in_err-sent-clause-same : goal.returns-in_err-sent-clause-same
+returns-in_err-sent-clause-same g c =
+    let old = c.args.self.now in
+    let e = c.transmit_control.ensures in
+    out_same g.S.Session.key old c.transmit_control.new.self (record old.control { queue = c.reserve.new.self }) old.is_control_next
+    (control_stays _ c.args.now c.args.buf.now.items c.transmit_control.new.buf.items c.waiting-frames.result.now _ _ _ c.transmit_control.result old.core c.transmit_control.new.self e.some e.none e.err) (control_kept old.control refl)
+
+pub returns-in_default-clause-same : goal.returns-in_default-clause-same
+returns-in_default-clause-same g c =
+    let old = c.args.self.now in
+    let e = c.transmit_control.ensures in
+    out_same g.S.Session.key old c.transmit_control.new.self (record old.control { queue = c.reserve.new.self }) old.is_control_next
+    (control_stays _ c.args.now c.args.buf.now.items c.transmit_control.new.buf.items c.waiting-frames.result.now _ _ _ c.transmit_control.result old.core c.transmit_control.new.self e.some e.none e.err) (control_kept old.control refl)
+
+pub returns-clause-same : goal.returns-clause-same
+returns-clause-same g c =
+    let old = c.args.self.now in
+    let e = c.transmit_control.ensures in
+    out_same g.S.Session.key old c.transmit_control.new.self (record old.control { queue = c.on_sent.new.self }) false
+    (control_stays _ c.args.now c.args.buf.now.items c.transmit_control.new.buf.items c.waiting-frames.result.now _ _ _ c.transmit_control.result old.core c.transmit_control.new.self e.some e.none e.err) (control_kept old.control refl)

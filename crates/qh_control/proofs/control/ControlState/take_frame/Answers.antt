@@ -44,4 +44,4 @@ returns-in-Datagram-clause-sendable c = λ side.
 pub returns-in_default : goal.returns-in_default
 returns-in_default c =
     let other = other_frame c.args.self.now c.args.frame.now c.in_default.not-Ack c.in_default.not-NewToken c.in_default.not-NewConnectionId c.in_default.not-RetireConnectionId c.in_default.not-Datagram in
-    record { ok = IsControlTaken.passive c.args.frame.now other.0 refl; taken = other.1; fault = tt; refused = tt; memory = tt; rest = tt; sendable = λ side peer may. may; as_long = refl }
+    record { ok = IsControlTaken.passive c.args.frame.now other.0 refl; taken = other.1; fault = tt; refused = tt; memory = tt; rest = tt; sendable = λ side peer may. may; as_long = refl; id_len = refl }
