@@ -1,0 +1,128 @@
+ghost use Rattle.std.specs.Prelude.{◌≡◌, ◌≤◌, ◌^◌, ◌++◌, ◌∷◌, ℕ, [], List, Option, Some, None, Bool, true, length, drop, is_some};
+ghost use Rattle.qh_arrival.specs.Accord.{AreTags};
+ghost use Rattle.qh_base.specs.declared.path.FourTuple.{FourTuple as APath};
+ghost use Rattle.qh_base.specs.declared.path.Transmit.{Transmit as ATransmit};
+ghost use Rattle.qh_base.specs.declared.time.Moment.{Moment as AMoment};
+ghost use Rattle.qh_conduct.specs.Peers.{ArePeers};
+ghost use Rattle.qh_conduct.specs.Restarting.{AcceptsWhatIsMade, IsCounting};
+ghost use Rattle.qh_conn.specs.Incoming.{AreIdsIssued, IsDatagramHandled};
+ghost use Rattle.qh_conn.specs.Outgoing.{IsStill, IsTransmitted};
+ghost use Rattle.qh_conn.specs.Parameters.{IsFirstCore, IsSaid, first_control};
+ghost use Rattle.qh_conn.specs.Same.{IsSameConnection};
+ghost use Rattle.qh_conn.specs.Telling.{IsEndpointTold, IsTimedOut, IsTold};
+ghost use Rattle.qh_conn.specs.Whole.{IsWhole, Stands};
+ghost use Rattle.qh_converse.specs.Settled.{idle_of, milliseconds};
+ghost use Rattle.qh_conn.specs.declared.config.ConnConfig.{ConnConfig as AConfig};
+ghost use Rattle.qh_conn.specs.declared.connection.Connection.{Connection as AConnection};
+ghost use Rattle.qh_conn.specs.declared.event.Event.{Event as AnEvent};
+ghost use Rattle.qh_control.specs.declared.event.EndpointEvent.{EndpointEvent as AnEndpointEvent};
+ghost use Rattle.qh_control.specs.declared.event.IssuedCid.{IssuedCid as ACid};
+ghost use Rattle.qh_core.specs.Inner.{is_open, with_streams};
+ghost use Rattle.qh_core.specs.Made.{AcceptsTags, MakesTagsOf};
+ghost use Rattle.qh_core.specs.declared.control.ControlFrame.TheVariants as sending;
+ghost use Rattle.qh_core.specs.declared.inner.Inner.{Inner as AnInner};
+ghost use Rattle.qh_handshake.specs.Handshake.{with_origin};
+ghost use Rattle.qh_handshake.specs.Incoming.{SessionView};
+ghost use Rattle.qh_handshake.specs.Peers.{KnowsIds};
+ghost use Rattle.qh_hello.specs.declared.transport_parameters.TransportParameters.{TransportParameters as AParameters};
+ghost use Rattle.qh_packet.specs.Session.{MakesTags, NamesTags, SealsTag};
+ghost use Rattle.qh_peers.specs.Ends.{AreTwoEnds, IsHonestEnd, SaysItsOwn};
+ghost use Rattle.qh_peers.specs.Ids.{HasSameIds, HaveOwnTokens};
+ghost use Rattle.qh_spec.specs.Link.{other};
+ghost use Rattle.qh_spec.specs.Lists.{In};
+ghost use Rattle.qh_spec.specs.Parted.{CameFrom};
+ghost use Rattle.qh_spec.specs.Transcript.{Act, HandedIn, HandedOut, handed_in, handed_out};
+ghost use Rattle.qh_spec.specs.declared.sides.Side.{Side as ASide};
+
+use crate::ids::few_ids;
+use qh_conduct::restarts;
+use qh_converse::converses;
+
+/// What an end says in its hello is what it goes by, if its config's counts of streams are such as a limit can be (`said`), also behind
+/// `set_origin` (`origin`) and `bear` (`borne`).
+pub fn says_its_own<S>()
+    ensures said { (config : AConfig) (side : ASide) (key_id : List ℕ) (c : AConnection S) → IsSaid config side c.handshake.local_id key_id c.handshake.parameters → c.config ≡ config
+        → c.core.config.limits ≡ config.limits → c.core.config.datagram_receive ≡ config.datagram_receive → (config.limits.max_bidi ≤ 2 ^ 60) × (config.limits.max_uni ≤ 2 ^ 60) → SaysItsOwn c }
+    ensures borne { (token : List ℕ) (c : AConnection S) → SaysItsOwn c → SaysItsOwn (record c { handshake = record c.handshake { token = token } }) }
+    ensures origin { (original : List ℕ) (retry : Option (List ℕ)) (validated : Bool) (c : AConnection S) → SaysItsOwn c → SaysItsOwn (record c { handshake = with_origin c.handshake original retry validated }) }
+{}
+
+/// An end is honest before its first datagram (`fresh`), and stays so after these calls: after one that hands out a datagram (`sent`), or has
+/// none (`still`); after a moment at which something is due, if it is open then (`timed`); after its endpoint issued ids whose tokens belong to
+/// them (`issued`), and after an address token was queued (`queued`); after `poll` and `poll_endpoint_events` (`told`, `endpoint_told`); after
+/// calls on its streams (`called`); and after those that leave its ids, its state and its error as they are (`kept`). No clause speaks of `close`
+/// or of want of memory; `set_origin` and `bear` come before `fresh`.
+pub fn honest_ends<S>()
+    ensures fresh { (accepts : AcceptsTags S) (sealed : MakesTagsOf S) (config : AConfig) (side : ASide) (session : S) (hello local_id remote_id : List ℕ) (addresses : APath) (now : AMoment) (c : AConnection S)
+        → IsWhole c → Stands accepts sealed hello c [] → IsFirstCore config side session local_id remote_id addresses now c.core → SaysItsOwn c
+        → c.control ≡ first_control config local_id remote_id addresses.remote c.control.queue.room → IsHonestEnd accepts sealed hello c [] }
+    ensures sent { (v : SessionView S) (now : AMoment) (before after hello : List ℕ) (transmit : ATransmit) (c new : AConnection S) (t : List Act) → MakesTags (v.sealed c.core.session)
+        → IsTransmitted (v.sealed c.core.session) now c new before after transmit → IsSameConnection v.key c new → IsWhole new → Stands v.accepts v.sealed hello new (t ++ HandedOut (drop (length before) after) ∷ [])
+        → IsHonestEnd v.accepts v.sealed hello c t → IsHonestEnd v.accepts v.sealed hello new (t ++ HandedOut (drop (length before) after) ∷ []) }
+    ensures still { (accepts : AcceptsTags S) (sealed : MakesTagsOf S) (hello : List ℕ) (c new : AConnection S) (t : List Act) → IsStill c new → IsWhole new → Stands accepts sealed hello new t
+        → IsHonestEnd accepts sealed hello c t → IsHonestEnd accepts sealed hello new t }
+    ensures timed { (accepts : AcceptsTags S) (sealed : MakesTagsOf S) (key : S → List ℕ) (now : ℕ) (hello : List ℕ) (c new : AConnection S) (t : List Act) → IsTimedOut now c new → is_open new.core.state ≡ true
+        → IsSameConnection key c new → IsWhole new → Stands accepts sealed hello new t → IsHonestEnd accepts sealed hello c t → IsHonestEnd accepts sealed hello new t }
+    ensures told { (accepts : AcceptsTags S) (sealed : MakesTagsOf S) (key : S → List ℕ) (hello : List ℕ) (c new : AConnection S) (event : Option AnEvent) (t : List Act) → IsTold c new event → IsSameConnection key c new
+        → IsWhole new → Stands accepts sealed hello new t → IsHonestEnd accepts sealed hello c t → IsHonestEnd accepts sealed hello new t }
+    ensures endpoint_told { (accepts : AcceptsTags S) (sealed : MakesTagsOf S) (key : S → List ℕ) (hello : List ℕ) (c new : AConnection S) (event : Option AnEndpointEvent) (t : List Act) → IsEndpointTold c new event
+        → IsSameConnection key c new → IsWhole new → Stands accepts sealed hello new t → IsHonestEnd accepts sealed hello c t → IsHonestEnd accepts sealed hello new t }
+    ensures called { (accepts : AcceptsTags S) (sealed : MakesTagsOf S) (hello : List ℕ) (c : AConnection S) (core : AnInner S) (acts t : List Act) → core ≡ with_streams c.core core.space.streams → handed_out acts ≡ []
+        → Stands accepts sealed hello (record c { core = core }) (t ++ acts) → IsHonestEnd accepts sealed hello c t
+        → IsHonestEnd accepts sealed hello (record c { core = core }) (t ++ acts) }
+    ensures issued { (accepts : AcceptsTags S) (sealed : MakesTagsOf S) (key : S → List ℕ) (hello : List ℕ) (c new : AConnection S) (ids : List ACid) (t : List Act) → HaveOwnTokens ids → AreIdsIssued ids c new
+        → IsSameConnection key c new → IsWhole new → Stands accepts sealed hello new t → IsHonestEnd accepts sealed hello c t → IsHonestEnd accepts sealed hello new t }
+    ensures queued { (accepts : AcceptsTags S) (sealed : MakesTagsOf S) (hello : List ℕ) (c new : AConnection S) (token : List ℕ) (t : List Act)
+        → new ≡ record c { control = record c.control { queue = record c.control.queue { waiting = c.control.queue.waiting ++ sending.NewToken token ∷ [] } } } → IsWhole new → Stands accepts sealed hello new t
+        → IsHonestEnd accepts sealed hello c t → IsHonestEnd accepts sealed hello new t }
+    ensures kept { (accepts : AcceptsTags S) (sealed : MakesTagsOf S) (hello : List ℕ) (c new : AConnection S) (t : List Act) → HasSameIds c new → new.core.error ≡ c.core.error → new.config ≡ c.config
+        → new.handshake ≡ c.handshake → new.core.config ≡ c.core.config → IsWhole new → Stands accepts sealed hello new t → IsHonestEnd accepts sealed hello c t → IsHonestEnd accepts sealed hello new t }
+{
+    few_ids::<S>();
+}
+
+/// The call that takes a Retry packet is the only one that changes which id it came from.
+pub fn retry_kept<S>()
+    ensures sent { (sealed : SealsTag) (now : AMoment) (old new : AConnection S) (before after : List ℕ) (transmit : ATransmit) → IsTransmitted sealed now old new before after transmit → new.handshake.retry_id ≡ old.handshake.retry_id }
+    ensures timed { (now : ℕ) (old new : AConnection S) → IsTimedOut now old new → new.handshake.retry_id ≡ old.handshake.retry_id }
+    ensures told { (old new : AConnection S) (event : Option AnEvent) → IsTold old new event → new.handshake.retry_id ≡ old.handshake.retry_id }
+    ensures endpoint_told { (old new : AConnection S) (event : Option AnEndpointEvent) → IsEndpointTold old new event → new.handshake.retry_id ≡ old.handshake.retry_id }
+    ensures issued { (ids : List ACid) (old new : AConnection S) → AreIdsIssued ids old new → new.handshake.retry_id ≡ old.handshake.retry_id }
+{}
+
+/// Two honest ends of one connection, over a link that gives each only what the other handed out. So they are before a datagram came (`first`)
+/// and after each call that leaves them honest (`carried`). Of each other they know the hello and the id (`knows`), and once both were greeted
+/// the ends of their 1-RTT packets are each other's peers (`peers`); the idle time in force is the shorter one of the two, and before that its
+/// own (`idle`, `early_idle`). A datagram leaves the end to which it comes honest, and so open, and no Retry packet is taken by it (`given`). One
+/// with a 1-RTT packet whose number is below 2^31 and above those of all that came before restarts its idle timer (`restarts`; RFC 9000,
+/// section 10.1).
+pub fn two_ends<S>()
+    ensures turned { (accepts : AcceptsTags S) (sealed : MakesTagsOf S) (key : S → List ℕ) (own_hello peer_hello : List ℕ) (c q : AConnection S) (tc tq : List Act)
+        → AreTwoEnds accepts sealed key own_hello peer_hello c q tc tq → AreTwoEnds accepts sealed key peer_hello own_hello q c tq tc }
+    ensures first { (accepts : AcceptsTags S) (sealed : MakesTagsOf S) (key : S → List ℕ) (own_hello peer_hello : List ℕ) (c q : AConnection S) (tc : List Act) → IsHonestEnd accepts sealed own_hello c tc
+        → IsHonestEnd accepts sealed peer_hello q [] → q.core.side ≡ other c.core.side → KnowsIds c.handshake q.handshake c.core.side → KnowsIds q.handshake c.handshake q.core.side
+        → key q.core.session ≡ key c.core.session → handed_in tc ≡ [] → AreTwoEnds accepts sealed key own_hello peer_hello c q tc [] }
+    ensures carried { (accepts : AcceptsTags S) (sealed : MakesTagsOf S) (key : S → List ℕ) (own_hello peer_hello : List ℕ) (c q new : AConnection S) (tc tq acts : List Act)
+        → AreTwoEnds accepts sealed key own_hello peer_hello c q tc tq → IsSameConnection key c new → new.handshake.retry_id ≡ c.handshake.retry_id → CameFrom acts tq
+        → IsHonestEnd accepts sealed own_hello new (tc ++ acts) → AreTwoEnds accepts sealed key own_hello peer_hello new q (tc ++ acts) tq }
+    ensures knows { (accepts : AcceptsTags S) (sealed : MakesTagsOf S) (key : S → List ℕ) (own_hello peer_hello : List ℕ) (c q : AConnection S) (tc tq : List Act) (p : AParameters)
+        → AreTwoEnds accepts sealed key own_hello peer_hello c q tc tq → c.handshake.peer ≡ Some p → (p ≡ q.handshake.parameters) × (c.handshake.remote_id ≡ q.handshake.local_id) }
+    ensures idle { (accepts : AcceptsTags S) (sealed : MakesTagsOf S) (key : S → List ℕ) (own_hello peer_hello : List ℕ) (c q : AConnection S) (tc tq : List Act)
+        → AreTwoEnds accepts sealed key own_hello peer_hello c q tc tq → is_some c.handshake.peer ≡ true → c.core.idle.timeout ≡ idle_of (milliseconds c.config.idle) (milliseconds q.config.idle) }
+    ensures early_idle { (accepts : AcceptsTags S) (sealed : MakesTagsOf S) (hello : List ℕ) (c : AConnection S) (t : List Act) → IsHonestEnd accepts sealed hello c t → c.handshake.peer ≡ None
+        → milliseconds c.core.idle.timeout ≡ milliseconds c.config.idle }
+    ensures peers { (accepts : AcceptsTags S) (sealed : MakesTagsOf S) (key : S → List ℕ) (own_hello peer_hello : List ℕ) (c q : AConnection S) (tc tq : List Act)
+        → AreTwoEnds accepts sealed key own_hello peer_hello c q tc tq → is_some c.handshake.peer ≡ true → is_some q.handshake.peer ≡ true → ArePeers c.core q.core }
+    ensures given { (v : SessionView S) (now : AMoment) (d own_hello peer_hello : List ℕ) (c q new : AConnection S) (tc tq : List Act) → NamesTags (v.accepts c.core.session)
+        → AreTags (v.accepts q.core.session) (v.sealed q.core.session) → AreTwoEnds v.accepts v.sealed v.key own_hello peer_hello c q tc tq → In d (handed_out tq)
+        → IsDatagramHandled v now d c new → IsSameConnection v.key c new → IsWhole new → Stands v.accepts v.sealed own_hello new (tc ++ HandedIn d ∷ [])
+        → IsHonestEnd v.accepts v.sealed own_hello new (tc ++ HandedIn d ∷ []) × (new.handshake.retry_id ≡ c.handshake.retry_id) }
+    ensures restarts { (v : SessionView S) (now : AMoment) (d own_hello peer_hello : List ℕ) (c q new : AConnection S) (tc tq : List Act) → NamesTags (v.accepts c.core.session)
+        → AreTags (v.accepts q.core.session) (v.sealed q.core.session) → AcceptsWhatIsMade (v.accepts c.core.session) (v.sealed q.core.session)
+        → AreTwoEnds v.accepts v.sealed v.key own_hello peer_hello c q tc tq → In d (handed_out tq) → IsCounting (length c.core.local_id) q.core.side (handed_in tc) d
+        → IsDatagramHandled v now d c new → new.core.idle.since ≡ now }
+{
+    few_ids::<S>();
+    converses::<S>();
+    restarts::<S>();
+}

@@ -1,0 +1,8 @@
+//! Two honest ends of whole connections. Laws alone, over the contracts of `qh_conn`.
+#![tactic(auto)]
+
+mod ends;
+mod ids;
+
+pub use ends::{honest_ends, retry_kept, says_its_own, two_ends};
+pub use ids::few_ids;
