@@ -81,7 +81,8 @@ pub fn honest_ends<S>()
     few_ids::<S>();
 }
 
-/// The call that takes a Retry packet is the only one that changes which id it came from.
+/// From which id a Retry packet came stays as it is when a datagram is handed out (`sent`), when something is due (`timed`), when `poll` and
+/// `poll_endpoint_events` tell something (`told`, `endpoint_told`), and when ids are issued (`issued`).
 pub fn retry_kept<S>()
     ensures sent { (sealed : SealsTag) (now : AMoment) (old new : AConnection S) (before after : List ℕ) (transmit : ATransmit) → IsTransmitted sealed now old new before after transmit → new.handshake.retry_id ≡ old.handshake.retry_id }
     ensures timed { (now : ℕ) (old new : AConnection S) → IsTimedOut now old new → new.handshake.retry_id ≡ old.handshake.retry_id }
@@ -92,7 +93,7 @@ pub fn retry_kept<S>()
 
 /// Two honest ends of one connection, over a link that gives each only what the other handed out. So they are before a datagram came (`first`)
 /// and after each call that leaves them honest (`carried`). Of each other they know the hello and the id (`knows`), and once both were greeted
-/// the ends of their 1-RTT packets are each other's peers (`peers`); the idle time in force is the shorter one of the two, and before that its
+/// the ends of their 1-RTT packets are each other's peers (`peers`); the idle time in force is that of both hellos, and before that its
 /// own (`idle`, `early_idle`). A datagram leaves the end to which it comes honest, and so open, and no Retry packet is taken by it (`given`). One
 /// with a 1-RTT packet whose number is below 2^31 and above those of all that came before restarts its idle timer (`restarts`; RFC 9000,
 /// section 10.1).

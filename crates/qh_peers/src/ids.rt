@@ -22,13 +22,14 @@ ghost use Rattle.qh_spec.specs.Transcript.{Act, HandedIn, HandedOut, handed_out}
 ghost use Rattle.qh_spec.specs.declared.sides.Side.{Side as ASide};
 ghost use Rattle.qh_spec.specs.declared.sides.Space.{Space as ASpace};
 
-/// An end announces at most eight connection ids, each once, and retires none and asks for none to be retired (RFC 9000, sections 5.1.1 and
-/// 5.1.2), if its peer does so too. Such an end says that it keeps eight. So it is before anything came (`fresh`), after a datagram that says so
-/// (`heard`), after one that it sends (`transmitted`), and after each other call that doesn't want memory. Of such a datagram no frame of the
-/// connection's own is refused (`unrefused`).
+/// An end announces connection ids with sequence numbers below eight alone, and retires none and asks for none to be retired (RFC 9000,
+/// sections 5.1.1 and 5.1.2), if its peer does so too. Such an end says that it keeps eight. So it is before anything came (`fresh`), after a
+/// datagram that says so (`heard`), after one that it sends (`transmitted`), and after each other call that doesn't want memory. Of such a
+/// datagram no frame of the connection's own is refused (`unrefused`).
 ///
 /// The peer's ids have the length `n`: that of the id in use, if the end was greeted before, and that of the id that the peer's packets come
-/// from, if it was greeted now. The token of the peer's hello, if it says one, and those of the ids that the endpoint issues belong to their ids.
+/// from, if it was greeted now. The token of the peer's hello, if it says one, and those of the ids that the endpoint issues belong to their
+/// ids.
 pub fn few_ids<S>()
     ensures fresh { (c : AConnection S) (config : AConfig) (local_id remote_id : List ℕ) (remote : AnAddress) (room : ℕ) → c.control ≡ first_control config local_id remote_id remote room → c.core.local_id ≡ local_id
         → c.core.state ≡ Established → KeepsFewIds c [] }
