@@ -6,9 +6,9 @@ use Rattle.qh_base.specs.declared.connection_error.ConnectionError.TheVariants a
 use Rattle.qh_base.specs.declared.time.Moment.{Moment}
 use Rattle.qh_base.specs.declared.time.Span.{Span}
 use Rattle.qh_core.specs.Inner.{with_streams}
-use Rattle.qh_core.specs.Timers.{IsUndisturbed}
-use Rattle.qh_core.specs.declared.config.ConnConfig.{ConnConfig}
-use Rattle.qh_core.specs.declared.idle.IdleTimer.{IdleTimer}
+use Rattle.qh_conn.specs.declared.config.ConnConfig.{ConnConfig}
+use Rattle.qh_roles.specs.Client.{PlainClient}
+use Rattle.qh_roles.specs.Server.{PlainServer}
 use Rattle.qh_link.specs.Link.{fault_events, is_failed}
 use Rattle.qh_link.specs.declared.link.LinkFault.{LinkFault}
 use Rattle.qh_link.specs.declared.link.LinkFault.TheVariants as fault
@@ -16,12 +16,17 @@ use Rattle.qh_spec.specs.declared.sides.Side.{Side}
 use Rattle.qh_spec.specs.declared.sides.Side.TheVariants.{Client, Server}
 use Rattle.qh_spec.specs.Fault.{CountsFaults}
 use Rattle.qh_spec.specs.Record.{PlainEntry}
-use Rattle.qh_exchange.specs.Clock.{HasPassed, IsClocked, runs, IsEndClocked}
+use Rattle.qh_exchange.specs.Clock.{HasTimedOut, IsClocked, runs, IsEndClocked, IsTimedOutAt}
+use Rattle.qh_exchange.specs.EndCalls.{IsUndisturbedBy}
 use Rattle.qh_exchange.specs.Error.{error_of, error_of_loss}
 use Rattle.qh_exchange.specs.Exchange.{IfProtocol, IfTimedOut}
-use Rattle.qh_exchange.specs.Pair.{End, PairState, id_length, told_acts}
+use Rattle.qh_exchange.specs.Ends.{End}
+use Rattle.qh_exchange.specs.Pair.{PairState, told_acts}
 use Rattle.qh_exchange.specs.Steps.{AreNotLost, AreTicking, ClientPolled, ServerPolled, IsEndTicking, IsEndUndisturbed, IsLastOf, IsLinkError, IsNewEnd, IsTicking, KeepsTicking, ended_by, is_done}
+use Rattle.qh_exchange.specs.Steps.{ClientPolled as client_polled}
+use Rattle.qh_exchange.specs.Steps.{ServerPolled as server_polled}
 use Rattle.qh_exchange.specs.Turn.{IsLostWith, IsNotLost, IsProtocolLoss, IsTurnError, has_link_failed, is_link}
+use Rattle.qh_exchange.specs.declared.ends.Ids.{Ids}
 use Rattle.qh_exchange.specs.declared.error.ExchangeError.{ExchangeError}
 use Rattle.qh_exchange.specs.declared.error.ExchangeError.TheVariants as error
 
@@ -34,7 +39,7 @@ ticking_on idle moments now (Some c) t = record {
   rest = t.rest ++ now ∷ [];
   are = ap (λ (z : List ℕ). z ++ now ∷ []) t.are;
   since = t.since;
-  timeout = t.timeout;
+  timed = t.timed;
   not_timed_out = t.not_timed_out;
 }
 
@@ -44,106 +49,118 @@ both_on p moments now t = record {
   server = ticking_on p.config.idle moments now p.server_end t.server;
 }
 
-undisturbed_idle : (idle : Option Span) (moments : List ℕ) (now : Moment) (c d : End) → IsUndisturbed now c d → IsLastOf moments now.0 → IsTicking idle moments c → IsTicking idle moments d
+undisturbed_idle : (idle : Option Span) (moments : List ℕ) (now : Moment) (c d : End) → IsUndisturbedBy now c d → IsLastOf moments now.0 → IsTicking idle moments c → IsTicking idle moments d
 undisturbed_idle idle moments now c d u last t = record {
   first = t.first;
   rest = t.rest;
   are = t.are;
-  since = elim u.idle.since [
+  since = elim u.since as (λ _. t.first ≤ d.core.idle.since.0) [
     | inl e ↦ subst (λ (z : Moment). t.first ≤ z.0) (sym e) t.since
     | inr e ↦
         let same : t.first ∷ t.rest ≡ last.first ∷ last.rest = sym t.are ∙ last.begin in
         let one : last.first ≡ t.first = cc in
         subst (λ (z : Moment). t.first ≤ z.0) (sym e) (subst (λ (z : ℕ). z ≤ now.0) one last.order)
   ];
-  timeout = u.idle.timeout ∙ t.timeout;
+  timed = u.times idle t.timed;
   not_timed_out = λ e. t.not_timed_out (u.timed_out e);
 }
 
-undisturbed_ticking : (idle : Option Span) (moments : List ℕ) (now : Moment) (old new : Option End) → IsEndUndisturbed true now old new → IsLastOf moments now.0
+undisturbed_ticking : (idle : Option Span) (moments : List ℕ) (now : Moment) (old new : Option End) → IsEndUndisturbed true now idle old new → IsLastOf moments now.0
     → IsEndTicking idle moments old → IsEndTicking idle moments new
 undisturbed_ticking idle moments now None None u last t = tt
-undisturbed_ticking idle moments now None (Some d) u last t = absurd u
+undisturbed_ticking idle moments now None (Some d) u last t = record {
+  first = last.first;
+  rest = last.rest;
+  are = last.begin;
+  since = subst (λ (z : Moment). last.first ≤ z.0) (sym u.since) last.order;
+  timed = u.timed;
+  not_timed_out = u.timed_out;
+}
 undisturbed_ticking idle moments now (Some c) None u last t = absurd u
 undisturbed_ticking idle moments now (Some c) (Some d) u last t = undisturbed_idle idle moments now c d u last t
 
-pub both_keep : {T : Type 0} (now : Moment) (p : PairState) (c d : Option End) (result : Result T ExchangeError) → IsEndUndisturbed true now p.client_end c
-    → IsEndUndisturbed (is_done result) now p.server_end d → IfOk result (λ _. KeepsTicking now.0 p (record p { client_end = c; server_end = d }))
+pub both_keep : {T : Type 0} (now : Moment) (p : PairState) (c d : Option End) (result : Result T ExchangeError) → IsEndUndisturbed true now p.config.idle p.client_end c
+    → IsEndUndisturbed (is_done result) now p.config.idle p.server_end d → IfOk result (λ _. KeepsTicking now.0 p (record p { client_end = c; server_end = d }))
 both_keep now p c d (Err e) u v = tt
 both_keep now p c d (Ok x) u v = λ moments last t. record {
   client = undisturbed_ticking p.config.idle moments now p.client_end c u last t.client;
   server = undisturbed_ticking p.config.idle moments now p.server_end d v last t.server;
 }
 
-new_ticking : (side : Side) (id_length : ℕ) (config : ConnConfig) (now : Moment) (c : End) (moments : List ℕ) → IsNewEnd side id_length config now c → IsLastOf moments now.0
+none_timed_out : ◌≡◌ {A = Option ConnectionError} None (Some lost.TimedOut) → ⊥
+none_timed_out e = cc
+
+new_ticking : (side : Side) (ids : Ids) (config : ConnConfig) (now : Moment) (c : End) (moments : List ℕ) → IsNewEnd side ids config now c → IsLastOf moments now.0
     → IsTicking config.idle moments c
-new_ticking side id_length config now c moments new last = record {
+new_ticking side ids config now c moments new last = record {
   first = last.first;
   rest = last.rest;
   are = last.begin;
   since = subst (λ (z : Moment). last.first ≤ z.0) (sym new.since) last.order;
-  timeout = new.timeout;
-  not_timed_out = λ e. let n : c.error ≡ None = new.not_lost in cc;
+  timed = new.timed;
+  not_timed_out = λ e. absurd (none_timed_out (sym new.not_lost ∙ e));
 }
 
-pub client_opens : (p : PairState) (now : Moment) (c : End) → IsNewEnd Client (id_length p) p.config now c → KeepsTicking now.0 p (record p { client_end = Some c })
+pub client_opens : (p : PairState) (now : Moment) (c : End) → IsNewEnd Client p.ids p.config now c → KeepsTicking now.0 p (record p { client_end = Some c })
 client_opens p now c new = λ moments last t.
-    record { client = new_ticking Client (id_length p) p.config now c moments new last; server = t.server }
-
-pub server_opens : (p : PairState) (now : Moment) (c : End) → IsNewEnd Server (id_length p) p.config now c → KeepsTicking now.0 p (record p { server_end = Some c })
-server_opens p now c new = λ moments last t.
-    record { client = t.client; server = new_ticking Server (id_length p) p.config now c moments new last }
+    record { client = new_ticking Client p.ids p.config now c moments new last; server = t.server }
 
 -- a role's calls change streams alone
-polled_ticking : (idle : Option Span) (moments : List ℕ) (c d : End) → d ≡ with_streams c d.space.streams → IsTicking idle moments c → IsTicking idle moments d
-polled_ticking idle moments c d rest t =
-    let clock : d.idle ≡ c.idle = ap (λ (z : End). z.idle) rest in
-    let error : d.error ≡ c.error = ap (λ (z : End). z.error) rest in
-    record {
+polled_ticking : (idle : Option Span) (moments : List ℕ) (c d : End) → d ≡ record c { core = with_streams c.core d.core.space.streams } → IsTicking idle moments c → IsTicking idle moments d
+polled_ticking idle moments c d rest t = subst (λ (z : End). IsTicking idle moments z) (sym rest)
+    (record {
       first = t.first;
       rest = t.rest;
       are = t.are;
-      since = subst (λ (z : IdleTimer). t.first ≤ z.since.0) (sym clock) t.since;
-      timeout = ap (λ (z : IdleTimer). z.timeout) clock ∙ t.timeout;
-      not_timed_out = λ e. t.not_timed_out (sym error ∙ e);
-    }
+      since = t.since;
+      timed = record { said = t.timed.said; ungreeted = t.timed.ungreeted; greeted = t.timed.greeted };
+      not_timed_out = t.not_timed_out;
+    })
 
-rests_ticking : (idle : Option Span) (moments : List ℕ) (old new : Option End) (c d : End) → old ≡ Some c → new ≡ Some d → d ≡ with_streams c d.space.streams
+rests_ticking : (idle : Option Span) (moments : List ℕ) (old new : Option End) (c d : End) → old ≡ Some c → new ≡ Some d → d ≡ record c { core = with_streams c.core d.core.space.streams }
     → IsEndTicking idle moments old → IsEndTicking idle moments new
 rests_ticking idle moments old new c d e f rest t =
     subst (λ (z : Option End). IsEndTicking idle moments z) (sym f)
     (polled_ticking idle moments c d rest (subst (λ (z : Option End). IsEndTicking idle moments z) e t))
 
+client_ticking : (idle : Option Span) (moments : List ℕ) (c d : PlainClient) (old new : Option End) → ClientPolled c d old new → IsEndTicking idle moments old → IsEndTicking idle moments new
+client_ticking idle moments c d old new (client_polled.went b e was now_is went) t = rests_ticking idle moments old new b e was now_is went.rest t
+client_ticking idle moments c d old new (client_polled.waits same_client same_end) t = subst (λ (z : Option End). IsEndTicking idle moments z) (sym same_end) t
+
+server_ticking : (idle : Option Span) (moments : List ℕ) (c d : PlainServer) (old new : Option End) (r s : List PlainEntry) → ServerPolled c d old new r s → IsEndTicking idle moments old → IsEndTicking idle moments new
+server_ticking idle moments c d old new r s (server_polled.went b e was now_is went) t = rests_ticking idle moments old new b e was now_is went.rest t
+server_ticking idle moments c d old new r s (server_polled.waits same_server same_end served) t = subst (λ (z : Option End). IsEndTicking idle moments z) (sym same_end) t
+
 pub client_rests : (p q : PairState) (moments : List ℕ) → ClientPolled p.client q.client p.client_end q.client_end → p.server_end ≡ q.server_end → p.config ≡ q.config
     → AreTicking p moments → AreTicking q moments
 client_rests p q moments polled same config t = record {
   client = subst (λ (z : ConnConfig). IsEndTicking z.idle moments q.client_end) config
-      (rests_ticking p.config.idle moments p.client_end q.client_end polled.before polled.after polled.before_is polled.after_is polled.rest t.client);
+      (client_ticking p.config.idle moments p.client q.client p.client_end q.client_end polled t.client);
   server = subst (λ (z : ConnConfig). IsEndTicking z.idle moments q.server_end) config (subst (λ (z : Option End). IsEndTicking p.config.idle moments z) same t.server);
 }
 
 pub roles_rest : (p q : PairState) {r s : List PlainEntry} (moments : List ℕ) → ClientPolled p.client q.client p.client_end q.client_end
     → ServerPolled p.server q.server p.server_end q.server_end r s → p.config ≡ q.config → AreTicking p moments → AreTicking q moments
-roles_rest p q moments asked served config t = record {
+roles_rest p q {r} {s} moments asked served config t = record {
   client = subst (λ (z : ConnConfig). IsEndTicking z.idle moments q.client_end) config
-      (rests_ticking p.config.idle moments p.client_end q.client_end asked.before asked.after asked.before_is asked.after_is asked.rest t.client);
+      (client_ticking p.config.idle moments p.client q.client p.client_end q.client_end asked t.client);
   server = subst (λ (z : ConnConfig). IsEndTicking z.idle moments q.server_end) config
-      (rests_ticking p.config.idle moments p.server_end q.server_end served.before served.after served.before_is served.after_is served.rest t.server);
+      (server_ticking p.config.idle moments p.server q.server p.server_end q.server_end r s served t.server);
 }
 
 -- ---- an end's loss
 
 to_clocked : (idle : Option Span) (moments : List ℕ) (o : Option End) → IsEndTicking idle moments o → IsEndClocked idle moments o
 to_clocked idle moments None t = tt
-to_clocked idle moments (Some c) t = runs t.first t.rest t.are t.since t.timeout t.not_timed_out
+to_clocked idle moments (Some c) t = runs t.first t.rest t.are t.since t.timed t.not_timed_out
 
 pub both_clocked : (p : PairState) (over : Bool) (moments : List ℕ) → AreTicking p moments → IsClocked (record p { is_over = over }) moments
 both_clocked p over moments t = record { client = to_clocked p.config.idle moments p.client_end t.client; server = to_clocked p.config.idle moments p.server_end t.server }
 
 from_clocked : (idle : Option Span) (moments : List ℕ) (o : Option End) → IsEndClocked idle moments o → IsEndTicking idle moments o
 from_clocked idle moments None t = tt
-from_clocked idle moments (Some c) (runs first rest are since timeout not) =
-    record { first = first; rest = rest; are = are; since = since; timeout = timeout; not_timed_out = not }
+from_clocked idle moments (Some c) (runs first rest are since timed not) =
+    record { first = first; rest = rest; are = are; since = since; timed = timed; not_timed_out = not }
 
 pub both_ticking : (p : PairState) (over : Bool) (moments : List ℕ) → IsClocked p moments → AreTicking (record p { is_over = over }) moments
 both_ticking p over moments t = record { client = from_clocked p.config.idle moments p.client_end t.client; server = from_clocked p.config.idle moments p.server_end t.server }
@@ -213,14 +230,20 @@ timed_by (Some e) server H f g = loss_timed e H (λ i. f (ap (λ (z : Connection
 timed_by None (Some e) H f g = loss_timed e H (λ i. g (ap (λ (z : ConnectionError). Some z) i))
 timed_by None None H f g = tt
 
-pub ticks_time : (now : Moment) (p : PairState) (client server : Option ConnectionError)
-    → ((i : Option Span) (ms front : List ℕ) → IsEndClocked i ms p.client_end → ms ≡ front ++ now.0 ∷ [] → client ≡ Some lost.TimedOut → HasPassed i ms)
-    → ((i : Option Span) (ms front : List ℕ) → IsEndClocked i ms p.server_end → ms ≡ front ++ now.0 ∷ [] → server ≡ Some lost.TimedOut → HasPassed i ms)
-    → (moments : List ℕ) → IsLastOf moments now.0 → AreTicking p moments → IfTimedOut (ended_by client server) (HasPassed p.config.idle moments)
-ticks_time now p client server fc fs moments last t =
-    timed_by client server (HasPassed p.config.idle moments)
-    (λ e. fc p.config.idle moments last.front (to_clocked p.config.idle moments p.client_end t.client) last.end e)
-    (λ e. fs p.config.idle moments last.front (to_clocked p.config.idle moments p.server_end t.server) last.end e)
+pub ticks_time : (now : Moment) (p q : PairState) (client server : Option ConnectionError)
+    → ((i : Option Span) (ms front : List ℕ) → IsEndClocked i ms p.client_end → ms ≡ front ++ now.0 ∷ [] → client ≡ Some lost.TimedOut → IsTimedOutAt i ms q.client_end)
+    → ((i : Option Span) (ms front : List ℕ) → IsEndClocked i ms p.server_end → ms ≡ front ++ now.0 ∷ [] → server ≡ Some lost.TimedOut → IsTimedOutAt i ms q.server_end) → q.config ≡ p.config
+    → (moments : List ℕ) → IsLastOf moments now.0 → AreTicking p moments → IfTimedOut (ended_by client server) (HasTimedOut q moments)
+ticks_time now p q client server fc fs config moments last t =
+    timed_by client server (HasTimedOut q moments)
+    (λ e. record {
+      side = Client;
+      at = subst (λ (z : ConnConfig). IsTimedOutAt z.idle moments q.client_end) (sym config) (fc p.config.idle moments last.front (to_clocked p.config.idle moments p.client_end t.client) last.end e);
+    })
+    (λ e. record {
+      side = Server;
+      at = subst (λ (z : ConnConfig). IsTimedOutAt z.idle moments q.server_end) (sym config) (fs p.config.idle moments last.front (to_clocked p.config.idle moments p.server_end t.server) last.end e);
+    })
 
 loss_error : (e : ConnectionError) → IsTurnError (error_of_loss e)
 loss_error lost.VersionMismatch = tt

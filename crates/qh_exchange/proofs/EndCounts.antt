@@ -1,10 +1,13 @@
 -- How many datagrams an end was given and sent in a turn, and how many faults the link had.
-use Rattle.std.proofs.Common.{◌≡◌, inl, ◌≤◌, ◌<◌, ◌+◌, Bool, List, [], ◌∷◌, ◌++◌, ℕ, Some, refl, sym, ◌∙◌, ap, subst, arith, length-append}
+use Rattle.std.proofs.Common.{◌≡◌, inl, inr, ◌≤◌, ◌<◌, ◌+◌, Bool, List, [], ◌∷◌, ◌++◌, ℕ, Some, refl, sym, ◌∙◌, ap, subst, arith, append-nil, length-append}
 use Rattle.std.specs.Prelude.{length, map}
 use Rattle.std.proofs.lemmas.List.{map-append}
 use Rattle.qh_conduct.specs.Calls.{ToldTheSame}
 use Rattle.qh_spec.specs.Fault.{CountsFaults}
-use Rattle.qh_spec.specs.Link.{sent_by}
+use Rattle.qh_spec.proofs.EventLaws.{given_to-append}
+use Rattle.qh_spec.proofs.Members.{in_split}
+use Rattle.qh_spec.specs.Link.{given_to, sent_by}
+use Rattle.qh_spec.specs.Lists.{In}
 use Rattle.qh_spec.specs.Turns.{IsIntake, until_dry, full, IsOutput}
 use Rattle.qh_spec.specs.declared.link.Event.{Event}
 use Rattle.qh_spec.specs.declared.link.Event.TheVariants.{Sent, Given, Dry}
@@ -12,8 +15,10 @@ use Rattle.qh_spec.specs.declared.sides.Side.{Side}
 use Rattle.qh_spec.specs.declared.sides.Side.TheVariants.{Client, Server}
 use Rattle.qh_streams.specs.Streams.{PlainStreams}
 use Rattle.qh_exchange.specs.EndCalls.{AreGiven, AreSent}
-use Rattle.qh_exchange.specs.Full.{IsSentOut}
-use Rattle.qh_exchange.specs.Pair.{End}
+use Rattle.qh_exchange.specs.Full.{IsSentOut, OpensBy}
+use Rattle.qh_exchange.specs.Sound.{IsFirst}
+use Rattle.qh_exchange.specs.declared.ends.Ids.{Ids}
+use Rattle.qh_exchange.specs.Ends.{End}
 
 -- ---- counts of datagrams
 
@@ -35,6 +40,27 @@ given_dry side n x below g =
 
 pub given_full : (side : Side) (x : List Event) → AreGiven side 65536 x → IsIntake side x
 given_full side x g = full g.datagrams g.count_is g.are
+
+-- ---- a client's first datagram
+
+pub opens_none : (ids : Ids) (side : Side) (There : Type 0) → OpensBy ids side [] There
+opens_none ids side There d i first = absurd i
+
+pub opens_dry : (ids : Ids) (side : Side) (x : List Event) (There : Type 0) → OpensBy ids side x There → OpensBy ids side (x ++ Dry side ∷ []) There
+opens_dry ids side x There opens d i first = opens d (subst (λ (z : List (List ℕ)). In d z) (given_to-append side x (Dry side ∷ []) ∙ append-nil (given_to side x)) i) first
+
+given_one : (side : Side) (e d : List ℕ) → In e (given_to side (Given side d ∷ [])) → d ≡ e
+given_one Client e d (inl is) = is
+given_one Client e d (inr none) = absurd none
+given_one Server e d (inl is) = is
+given_one Server e d (inr none) = absurd none
+
+pub opens_more : (ids : Ids) (side : Side) (x : List Event) (d : List ℕ) (Old New : Type 0) → (Old → New) → (IsFirst ids d → New) → OpensBy ids side x Old → OpensBy ids side (x ++ Given side d ∷ []) New
+opens_more ids side x d Old New keeps now opens e i first =
+    elim (in_split e (given_to side x) (given_to side (Given side d ∷ [])) (subst (λ (z : List (List ℕ)). In e z) (given_to-append side x (Given side d ∷ [])) i)) as (λ _. New) [
+      | inl l ↦ keeps (opens e l first)
+      | inr r ↦ now (subst (λ (z : List ℕ). IsFirst ids z) (sym (given_one side e d r)) first)
+    ]
 
 pub sent_none : (side : Side) → AreSent side 0 []
 sent_none side = record { datagrams = []; count_is = refl; are = refl }

@@ -1,40 +1,71 @@
 -- An end that calls made another goes on standing to all that was done with it.
-use Rattle.std.proofs.Common.{◌≡◌, ◌≤◌, ℕ, Some, List, ◌++◌, sym, ◌∙◌, ap, subst, length}
-use Rattle.qh_arrival.proofs.AccordsOn.{made_accords}
-use Rattle.qh_arrival.specs.Accord.{Accords, AreTags}
-use Rattle.qh_core.proofs.MadeTogether.{all_same}
-use Rattle.qh_core.specs.Inner.{IsSameEnd}
-use Rattle.qh_core.specs.declared.config.ConnConfig.{ConnConfig}
-use Rattle.qh_packet.specs.Session.{PlainKeys}
-use Rattle.qh_packet.proofs.Sessions.{plain_names, plain_makes}
+use Rattle.std.proofs.Common.{ℕ, Some, List, [], ◌++◌, sym, ◌∙◌, ap, subst, append_assoc, append-nil, length}
+use Rattle.qh_conn.specs.Same.{IsSameConnection}
+use Rattle.qh_conn.specs.Whole.{CarriesOnBy, IsWhole, Stands as ConnStands}
+use Rattle.qh_conn.specs.Parameters.{IsSaid}
+use Rattle.qh_conn.specs.declared.config.ConnConfig.{ConnConfig}
+use Rattle.qh_hello.specs.declared.transport_parameters.TransportParameters.{TransportParameters}
+use Rattle.qh_packet.specs.Session.{PlainKeys, plain_accepts, plain_sealed}
 use Rattle.qh_spec.specs.Transcript.{Act}
 use Rattle.qh_spec.specs.declared.sides.Side.{Side}
-use Rattle.qh_exchange.specs.Pair.{End, EndAccords, IsEndOf, IsMadeBy, Stands}
-use Rattle.qh_packet.specs.Session.{plain_accepts, plain_sealed}
-
--- what a plain session takes for tags and what it makes are tags
-plain_are_tags : (keys : PlainKeys) → length keys.key_id ≤ 20 → AreTags (plain_accepts keys) (plain_sealed keys)
-plain_are_tags keys short = record { names = plain_names keys short; makes = plain_makes keys short }
-
--- where its key is short, it goes on standing to all that was done with it
-pub accords_on : (c d : End) (t acts : List Act) → length c.session.key_id ≤ 20 → IsMadeBy c d acts → EndAccords c t → EndAccords d (t ++ acts)
-accords_on c d t acts short made a =
-    subst (λ (keys : PlainKeys). Accords (plain_accepts keys) (plain_sealed keys) d (t ++ acts)) (sym (all_same plain_accepts plain_sealed c d acts made).1)
-    (made_accords plain_accepts plain_sealed c d acts t (plain_are_tags c.session short) made a)
+use Rattle.qh_exchange.specs.EndCalls.{IsMadeBy}
+use Rattle.qh_exchange.specs.Ends.{End, HasKept, IsEndOf, Stands, StandsSince, key_of, own_id}
+use Rattle.qh_exchange.specs.declared.ends.Ids.{Ids}
 
 -- one end stays that end
-stays : (side : Side) (id_length : ℕ) (config : ConnConfig) (c d : End) → IsSameEnd c d → d.session ≡ c.session → IsEndOf side id_length config c → IsEndOf side id_length config d
-stays side id_length config c d same session e = record {
-  side_is = same.side ∙ e.side_is;
-  local = ap length same.local_id ∙ e.local;
-  remote = same.remote_length ∙ e.remote;
+pub stays : (side : Side) (ids : Ids) (config : ConnConfig) (c d : End) → IsSameConnection key_of c d → IsWhole d → IsEndOf side ids config c → IsEndOf side ids config d
+stays side ids config c d same whole e = record {
+  as_long = e.as_long;
   config_is = same.config ∙ e.config_is;
-  short = subst (λ (keys : PlainKeys). length keys.key_id ≤ 20) (sym session) e.short;
+  side_is = same.side ∙ e.side_is;
+  local_is = same.local_id ∙ e.local_is;
+  original_is = same.handshake.original_id ∙ e.original_is;
+  said = subst (λ (z : TransportParameters). IsSaid config side (own_id side ids) ids.key z) (sym same.handshake.parameters) e.said;
+  whole = whole;
+}
+
+-- it stands to these acts more
+pub since_on : (side : Side) (c d : End) (t acts : List Act) → CarriesOnBy plain_accepts plain_sealed c d acts → StandsSince side c t → StandsSince side d (t ++ acts)
+since_on side c d t acts carries s = record {
+  hello = s.hello;
+  before = s.before;
+  since = s.since ++ acts;
+  are = ap (λ (z : List Act). z ++ acts) s.are ∙ append_assoc s.before s.since acts;
+  dropped = s.dropped;
+  stands = carries s.hello s.since s.stands;
 }
 
 -- where calls leave an end that stood somewhere
-pub stands_on : (side : Side) (id_length : ℕ) (config : ConnConfig) (c d : End) (t acts : List Act) → IsMadeBy c d acts
-    → Stands side id_length config (Some c) t → Stands side id_length config (Some d) (t ++ acts)
-stands_on side id_length config c d t acts made s =
-    let same = all_same plain_accepts plain_sealed c d acts made in
-    (stays side id_length config c d same.0 same.1 s.0, accords_on c d t acts s.0.short made s.1)
+pub stands_on : (side : Side) (ids : Ids) (config : ConnConfig) (c d : End) (t acts : List Act) → IsMadeBy c d acts
+    → Stands side ids config (Some c) t → Stands side ids config (Some d) (t ++ acts)
+stands_on side ids config c d t acts made s =
+    let of : IsEndOf side ids config c = s.0 in
+    let own = subst (λ (z : Side). HasKept z (length ids.client) c t) (sym of.side_is) s.2 in
+    let kept : HasKept c.core.side (length ids.client) d (t ++ acts)
+    = made.kept (length ids.client) t (ap length of.local_is ∙ of.as_long) (subst (λ (z : Side). StandsSince z c t) (sym of.side_is) s.1) own in (
+      stays side ids config c d made.same made.whole of,
+      since_on side c d t acts made.carries s.1,
+      subst (λ (z : Side). HasKept z (length ids.client) d (t ++ acts)) of.side_is kept,
+    )
+
+-- the same, where nothing was added
+pub still_on : (side : Side) (ids : Ids) (config : ConnConfig) (c d : End) (t : List Act) → IsMadeBy c d [] → Stands side ids config (Some c) t → Stands side ids config (Some d) t
+still_on side ids config c d t made s = subst (λ (z : List Act). Stands side ids config (Some d) z) (append-nil t) (stands_on side ids config c d t [] made s)
+
+-- what `same_connection` says of one call behind another
+abbrev pub StaysSame : Type 0
+StaysSame = (key : PlainKeys → List ℕ) (old mid new : End) → IsSameConnection key old mid → IsSameConnection key mid new → IsSameConnection key old new
+
+-- calls, and then others
+pub made_both : StaysSame → (a b c : End) (x y : List Act) → IsMadeBy a b x → IsMadeBy b c y → IsMadeBy a c (x ++ y)
+made_both both a b c x y f g = record {
+  same = both key_of a b c f.same g.same;
+  whole = g.whole;
+  carries = λ hello t s.
+      subst (λ (z : List Act). ConnStands plain_accepts plain_sealed hello c z) (append_assoc t x y) (g.carries hello (t ++ x) (f.carries hello t s));
+  kept = λ k t long s h.
+      let mid : HasKept a.core.side k b (t ++ x) = f.kept k t long s h in
+      let next : HasKept b.core.side k c ((t ++ x) ++ y) = g.kept k (t ++ x) (ap length f.same.local_id ∙ long)
+      (subst (λ (z : Side). StandsSince z b (t ++ x)) (sym f.same.side) (since_on a.core.side a b t x f.carries s)) (subst (λ (z : Side). HasKept z k b (t ++ x)) (sym f.same.side) mid) in
+      subst (λ (z : List Act). HasKept a.core.side k c z) (append_assoc t x y) (subst (λ (z : Side). HasKept z k c ((t ++ x) ++ y)) f.same.side next);
+}

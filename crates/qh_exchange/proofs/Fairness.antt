@@ -1,10 +1,10 @@
 -- Why a turn over an honest link ends, and that its moments are in order.
 use Rattle.std.proofs.Common.{◌≡◌, inl, inr, ◌≤◌, Bool, true, false, length, List, [], ◌∷◌, ◌++◌, ℕ, Option, Some, Ok, Err, refl, sym, ◌∙◌, ap, subst, append_assoc, arith, rules}
-use Rattle.std.specs.Prelude.{All, IfErr, Result, not}
+use Rattle.std.specs.Prelude.{All, IfErr, Result}
 use Rattle.std.proofs.lemmas.List.{append_cancel_left}
 use Rattle.std.proofs.lemmas.List.Elements.{All-head, All-tail}
 use Rattle.qh_base.specs.declared.time.Span.{Span}
-use Rattle.qh_core.specs.declared.config.ConnConfig.{ConnConfig}
+use Rattle.qh_conn.specs.declared.config.ConnConfig.{ConnConfig}
 use Rattle.qh_spec.specs.Honest.{IsHonest}
 use Rattle.qh_spec.specs.Link.{moments_of, told}
 use Rattle.qh_spec.specs.Lists.{In}
@@ -12,14 +12,14 @@ use Rattle.qh_spec.specs.Record.{PlainEntry}
 use Rattle.qh_spec.specs.declared.link.Event.{Event}
 use Rattle.qh_spec.proofs.EventLaws.{moments_of-append}
 use Rattle.qh_spec.proofs.Members.{in_more}
-use Rattle.qh_exchange.specs.Pair.{IsFair, IsRunning, IsSound, PairState, Running, RunsOn, id_length}
+use Rattle.qh_exchange.specs.Pair.{IsFair, IsRunningSoundly, PairState, Running, RunsOn, id_length}
 use Rattle.qh_exchange.specs.Sound.{AreBy, EndsFairly, last_of}
 use Rattle.qh_exchange.specs.Steps.{IsLinkError, PairStep}
 use Rattle.qh_exchange.specs.declared.ends.Ids.{Ids}
 use Rattle.qh_exchange.specs.declared.error.ExchangeError.{ExchangeError}
 use Rattle.qh_exchange.specs.declared.error.ExchangeError.TheVariants as error
 use Rattle.qh_exchange.proofs.Heard.{by_behind, honest_front, last_more}
-use Rattle.qh_exchange.proofs.PairSteps.{runs_over, sound_over}
+use Rattle.qh_exchange.proofs.PairSteps.{soundly_over}
 
 -- ---- moments
 
@@ -82,28 +82,28 @@ told_same front more other t u e f g =
 pub fair_tick : (now : ℕ) (old mid : PairState) (t u : Option (List Event)) (r s : List PlainEntry) (K : List Event → Type 0) (moments : List ℕ) (result : Result (Unit {0}) ExchangeError)
     → PairStep now true old mid t u r s K → ((es : List Event) → t ≡ Some es → moments_of es ≡ moments) → ((es : List Event) → u ≡ Some es → moments_of es ≡ moments ++ now ∷ [])
     → All (λ (b : ℕ). b ≤ now) moments
-    → ((es : List Event) → IsSound mid es → last_of (moments_of es) ≡ now → EndsFairly (id_length mid) mid.config.idle es result)
-    → (earlier events more : List Event) (entries : List PlainEntry) → IsRunning true old events entries → IsSound old events
+    → ((es : List Event) (entries : List PlainEntry) → IsHonest es → IsRunningSoundly mid es entries → last_of (moments_of es) ≡ now → EndsFairly (id_length mid) mid.config.idle es result)
+    → (earlier events more : List Event) (entries : List PlainEntry) → IsRunningSoundly old events entries
     → t ≡ Some (earlier ++ events) → u ≡ Some (earlier ++ (events ++ more)) → IsHonest (events ++ more) → EndsFairly (id_length old) old.config.idle (events ++ more) result
-fair_tick now old mid t u r s K moments result step before after order fair earlier events more entries run sound told_t told_u honest =
+fair_tick now old mid t u r s K moments result step before after order fair earlier events more entries sound told_t told_u honest =
     let front : earlier ++ (events ++ more) ≡ (earlier ++ events) ++ more = sym (append_assoc earlier events more) in
     let same : step.more ≡ more = told_same (earlier ++ events) step.more more t u told_t step.told_is (told_u ∙ ap Some front) in
     let all : moments_of (earlier ++ (events ++ more)) ≡ moments ++ now ∷ [] = after (earlier ++ (events ++ more)) told_u in
     let by : AreBy now (events ++ more) = by_behind now earlier (events ++ more) (are_by moments now (earlier ++ (events ++ more)) order all) in
-    let here : IsSound mid (events ++ more)
-    = subst (λ (z : List Event). IsSound mid (events ++ z)) same
-    (step.sound refl events entries run (subst (λ (z : List Event). IsHonest (events ++ z)) (sym same) honest) (subst (λ (z : List Event). AreBy now (events ++ z)) (sym same) by) sound) in
+    let here : IsRunningSoundly mid (events ++ more) (entries ++ step.fresh)
+    = subst (λ (z : List Event). IsRunningSoundly mid (events ++ z) (entries ++ step.fresh)) same
+    (step.soundly refl events entries (subst (λ (z : List Event). IsHonest (events ++ z)) (sym same) honest) (subst (λ (z : List Event). AreBy now (events ++ z)) (sym same) by) sound) in
     let one : moments_of more ≡ now ∷ []
     = append_cancel_left moments (moments_of more) (now ∷ [])
     (ap (λ (z : List ℕ). z ++ moments_of more) (sym (before (earlier ++ events) told_t)) ∙ (sym (moments_of-append (earlier ++ events) more) ∙ (ap moments_of (sym front) ∙ all))) in
     let last : last_of (moments_of (events ++ more)) ≡ now
     = ap last_of (moments_of-append events more ∙ ap (λ (z : List ℕ). moments_of events ++ z) one) ∙ last_more (moments_of events) now in
     subst (λ (z : Ids). EndsFairly (length z.client) old.config.idle (events ++ more) result) step.same.ids
-    (subst (λ (z : ConnConfig). EndsFairly (id_length mid) z.idle (events ++ more) result) step.same.config (fair (events ++ more) here last))
+    (subst (λ (z : ConnConfig). EndsFairly (id_length mid) z.idle (events ++ more) result) step.same.config (fair (events ++ more) (entries ++ step.fresh) honest here last))
 
 -- what ends the steps of a turn ends the turn, of the pair that is seen as another value that is equal
 pub fair_turn : (p v : PairState) (t u : Option (List Event)) (e : ExchangeError) → p ≡ v → p.is_over ≡ false
-    → ((earlier events more : List Event) (entries : List PlainEntry) → IsRunning true (record p { is_over = true }) events entries → IsSound (record p { is_over = true }) events
+    → ((earlier events more : List Event) (entries : List PlainEntry) → IsRunningSoundly (record p { is_over = true }) events entries
     → t ≡ Some (earlier ++ events) → u ≡ Some (earlier ++ (events ++ more)) → IsHonest (events ++ more)
     → EndsFairly {T = Unit {0}} (id_length p) p.config.idle (events ++ more) (Err e))
     → IsFair {T = Bool} v t u (Err e)
@@ -112,5 +112,4 @@ fair_turn p v t u e same going fair = λ earlier events more entries run told_t 
     let old = subst (λ (z : PairState). RunsOn z events entries) (sym same) run in
     subst (λ (z : PairState). EndsFairly {T = Bool} (id_length z) z.config.idle (events ++ more) (Err e)) same
     (fair_again (Unit {0}) Bool (id_length p) p.config.idle (events ++ more) e
-    (fair earlier events more entries (runs_over p true true events entries (subst (λ (z : Bool). IsRunning (not z) p events entries) going old.running))
-    (sound_over p true events (old.sound going (honest_front events more honest))) told_t told_u honest))
+    (fair earlier events more entries (soundly_over p true events entries (old.soundly going (honest_front events more honest))) told_t told_u honest))

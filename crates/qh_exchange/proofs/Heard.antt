@@ -2,7 +2,6 @@
 use Rattle.std.proofs.Common.{◌≡◌, ◌⊎◌, inl, inr, ◌≤◌, List, [], ◌∷◌, ◌++◌, ℕ, refl, sym, ◌∙◌, ap, subst, append_assoc, arith}
 use Rattle.qh_base.specs.declared.time.Moment.{Moment}
 use Rattle.qh_conduct.specs.Restarting.{IsCounting}
-use Rattle.qh_core.specs.Timers.{RunsOn}
 use Rattle.qh_spec.specs.Honest.{IsHonest}
 use Rattle.qh_spec.specs.Link.{given_to, moments_of, other, sent_by}
 use Rattle.qh_spec.specs.Lists.{In}
@@ -13,12 +12,14 @@ use Rattle.qh_spec.specs.declared.sides.Side.{Side}
 use Rattle.qh_spec.specs.declared.sides.Side.TheVariants.{Client, Server}
 use Rattle.qh_spec.proofs.EventLaws.{given_to-append, moments_of-append}
 use Rattle.qh_spec.proofs.Members.{in_left, in_right}
-use Rattle.qh_exchange.specs.Pair.{End, told_acts}
+use Rattle.qh_exchange.specs.EndCalls.{IsUndisturbedBy}
+use Rattle.qh_exchange.specs.Ends.{End}
+use Rattle.qh_exchange.specs.Pair.{told_acts}
 use Rattle.qh_exchange.specs.Sound.{AreBy, AtCounting, last_of}
 use Rattle.qh_exchange.proofs.Wire.{handed_in-told, handed_out-told}
 
 -- a list that is cut is cut in its front, or behind it
-cut_either : {X : Type 0} (xs ys before after : List X) (e : X) → xs ++ ys ≡ before ++ e ∷ after
+pub cut_either : {X : Type 0} (xs ys before after : List X) (e : X) → xs ++ ys ≡ before ++ e ∷ after
     → ((rest : List X) × (xs ≡ before ++ e ∷ rest)) ⊎ ((front : List X) × (before ≡ xs ++ front) × (ys ≡ front ++ e ∷ after))
 cut_either [] ys before after e is = inr (before, refl, is)
 cut_either (x ∷ xs) ys [] after e is = inl (xs, let same : x ≡ e = cc in cc)
@@ -97,11 +98,11 @@ counting_silent k side events more P none old =
 
 -- the idle time began no earlier than the last that counts
 pub heard_on : (k : ℕ) (side : Side) (now : Moment) (c d : End) (events more : List Event) (t : List Act) → handed_in t ≡ given_to side events → AreBy now.0 (events ++ more)
-    → RunsOn now c.idle d.idle → AtCounting k side events (λ m. m ≤ c.idle.since.0)
-    → ((before after : List Event) (x : List ℕ) → more ≡ before ++ Given side x ∷ after → IsCounting k (other side) (handed_in t ++ given_to side before) x → d.idle.since ≡ now)
-    → AtCounting k side (events ++ more) (λ m. m ≤ d.idle.since.0)
+    → IsUndisturbedBy now c d → AtCounting k side events (λ m. m ≤ c.core.idle.since.0)
+    → ((before after : List Event) (x : List ℕ) → more ≡ before ++ Given side x ∷ after → IsCounting k (other side) (handed_in t ++ given_to side before) x → d.core.idle.since ≡ now)
+    → AtCounting k side (events ++ more) (λ m. m ≤ d.core.idle.since.0)
 heard_on k side now c d events more t given by runs old new =
-    counting_more k side events more (λ (m : ℕ). m ≤ d.idle.since.0)
+    counting_more k side events more (λ (m : ℕ). m ≤ d.core.idle.since.0)
     (λ before after x is counts.
     let here = old before after x is counts in
     let late : last_of (moments_of before) ≤ now.0
@@ -111,9 +112,15 @@ heard_on k side now c d events more t given by runs old new =
       | inr e ↦ subst (λ (z : Moment). last_of (moments_of before) ≤ z.0) (sym e) late
     ])
     (λ before after x is counts.
-    let restarted : d.idle.since ≡ now
+    let restarted : d.core.idle.since ≡ now
     = new before after x is (subst (λ (z : List (List ℕ)). IsCounting k (other side) (z ++ given_to side before) x) (sym given) counts) in
     let late : last_of (moments_of (events ++ before)) ≤ now.0
     = last_by now.0 (events ++ before) (by_front now.0 (events ++ before) (Given side x ∷ after)
     (subst (λ (z : List Event). AreBy now.0 z) (ap (λ (z : List Event). events ++ z) is ∙ sym (append_assoc events before (Given side x ∷ after))) by)) in
     subst (λ (z : Moment). last_of (moments_of (events ++ before)) ≤ z.0) (sym restarted) late)
+
+-- of an end that came to be meanwhile
+pub heard_first : (k : ℕ) (side : Side) (now : Moment) (d : End) (events more : List Event) → d.core.idle.since ≡ now → AreBy now.0 (events ++ more) → AtCounting k side (events ++ more) (λ m. m ≤ d.core.idle.since.0)
+heard_first k side now d events more since by = λ before after x is counts.
+    subst (λ (z : Moment). last_of (moments_of before) ≤ z.0) (sym since)
+    (last_by now.0 before (by_front now.0 before (Given side x ∷ after) (subst (λ (z : List Event). AreBy now.0 z) is by)))

@@ -8,12 +8,12 @@ use Rattle.qh_spec.specs.Record.{PlainEntry}
 use Rattle.qh_spec.specs.Transcript.{Act}
 use Rattle.qh_spec.specs.declared.link.Event.{Event}
 use Rattle.qh_spec.specs.declared.sides.Side.TheVariants.{Client, Server}
-use Rattle.qh_exchange.specs.Pair.{IsRunning, IsSound, PairState, id_length, told_acts, wire}
+use Rattle.qh_exchange.specs.Pair.{IsRunning, IsRunningSoundly, PairState, id_length, told_acts, wire}
 use Rattle.qh_exchange.specs.Sound.{AreBy}
 use Rattle.qh_exchange.specs.Steps.{HasRun, IsCounted, IsSamePair, IsStill, PairStep}
 use Rattle.qh_exchange.proofs.EndsAt.{at_waits}
 use Rattle.qh_exchange.proofs.Heard.{by_front, honest_front}
-use Rattle.qh_exchange.proofs.PairSounds.{waits}
+use Rattle.qh_exchange.proofs.PairSounds.{heard_waits}
 use Rattle.qh_exchange.proofs.Wire.{told_acts-append, told_weaker}
 use Rattle.qh_exchange.proofs.WireEvents.{client_silent, retold, retold_own, server_silent}
 
@@ -43,8 +43,12 @@ runs_over p over w events entries run = record {
   server = record { acts = run.server.acts; at = run.server.at; serving = run.server.serving; accepted = run.server.accepted };
 }
 
-pub sound_over : (p : PairState) (over : Bool) (events : List Event) → IsSound p events → IsSound (record p { is_over = over }) events
-sound_over p over events s = record { fits = s.fits; knows = s.knows; takes = s.takes; lengths = s.lengths; client = s.client; server = s.server }
+pub soundly_over : (p : PairState) (over : Bool) (events : List Event) (entries : List PlainEntry) → IsRunningSoundly p events entries → IsRunningSoundly (record p { is_over = over }) events entries
+unfolding runs_over
+soundly_over p over events entries s = record {
+  run = runs_over p over true events entries s.run;
+  sound = record { fits = s.sound.fits; lengths = s.sound.lengths; ends = s.sound.ends; client = s.sound.client; server = s.sound.server };
+}
 
 -- whatever of its last act is told, some events tell of all that it did
 pub has_run : (w : Bool) (p : PairState) (events : List Event) (entries : List PlainEntry) → p.is_over ≡ true → length p.client.answers ≡ length p.client.requests → IsRunning w p events entries → HasRun p
@@ -108,13 +112,14 @@ step_trans now w a b c t u v r s q K M N f g kinds = record {
       (subst (λ (z : List PlainEntry). IsRunning w c ((events ++ f.more) ++ g.more) z) (append_assoc entries f.fresh g.fresh)
       (g.running (events ++ f.more) (entries ++ f.fresh) (f.running events entries run)));
   counted = g.counted;
-  sound = λ whole events entries run honest by s.
+  soundly = λ whole events entries honest by s.
       let all : (events ++ f.more) ++ g.more ≡ events ++ (f.more ++ g.more) = append_assoc events f.more g.more in
       let honest_all : IsHonest ((events ++ f.more) ++ g.more) = subst IsHonest (sym all) honest in
       let by_all : AreBy now ((events ++ f.more) ++ g.more) = subst (λ (z : List Event). AreBy now z) (sym all) by in
-      subst (λ (z : List Event). IsSound c z) all
-      (g.sound whole (events ++ f.more) (entries ++ f.fresh) (f.running events entries run) honest_all by_all
-      (f.sound refl events entries run (honest_front (events ++ f.more) g.more honest_all) (by_front now (events ++ f.more) g.more by_all) s));
+      subst (λ (z : List Event). IsRunningSoundly c z (entries ++ (f.fresh ++ g.fresh))) all
+      (subst (λ (z : List PlainEntry). IsRunningSoundly c ((events ++ f.more) ++ g.more) z) (append_assoc entries f.fresh g.fresh)
+      (g.soundly whole (events ++ f.more) (entries ++ f.fresh) honest_all by_all
+      (f.soundly refl events entries (honest_front (events ++ f.more) g.more honest_all) (by_front now (events ++ f.more) g.more by_all) s)));
 }
 
 pub step_kind : (now : ℕ) (w : Bool) (a b : PairState) (t u : Option (List Event)) (r s : List PlainEntry) (K M : List Event → Type 0)
@@ -128,7 +133,7 @@ step_kind now w a b t u r s K M p kinds = record {
   served_is = p.served_is;
   running = p.running;
   counted = p.counted;
-  sound = p.sound;
+  soundly = p.soundly;
 }
 
 -- a step is made at the moment that is told otherwise
@@ -148,18 +153,18 @@ step_fails now later w a b t u r s K M p kinds = record {
   served_is = p.served_is;
   running = λ events entries run. weakest w b (events ++ p.more) (entries ++ p.fresh) (p.running events entries run);
   counted = λ e. cc;
-  sound = λ e. cc;
+  soundly = λ e. cc;
 }
 
 -- what no link tells and no service records leaves of a pair, whose ends may be lost by it
-pub record Passes (old new : PairState) : Type 0 where
+pub record Passes (is_whole : Bool) (old new : PairState) : Type 0 where
   pub same : IsSamePair old new
   pub running : (events : List Event) (entries : List PlainEntry) → IsRunning true old events entries → IsRunning true new events entries
-  pub counted : IsCounted new
+  pub counted : is_whole ≡ true → IsCounted new
 
-pub step_passes : (now : ℕ) (w : Bool) (a b : PairState) (t : Option (List Event)) (r : List PlainEntry) (K : List Event → Type 0) → Passes a b
-    → (w ≡ true → (events : List Event) (entries : List PlainEntry) → IsRunning true a events entries → IsSound a events → IsSound b events) → K [] → PairStep now w a b t t r r K
-step_passes now w a b t r K passes sound kind = record {
+pub step_passes : (now : ℕ) (w : Bool) (a b : PairState) (t : Option (List Event)) (r : List PlainEntry) (K : List Event → Type 0) → Passes w a b
+    → (w ≡ true → (events : List Event) (entries : List PlainEntry) → IsRunningSoundly a events entries → IsRunningSoundly b events entries) → K [] → PairStep now w a b t t r r K
+step_passes now w a b t r K passes soundly kind = record {
   same = passes.same;
   more = [];
   told_is = told_nothing t;
@@ -169,20 +174,22 @@ step_passes now w a b t r K passes sound kind = record {
   running = λ events entries run.
       subst (λ (z : List Event). IsRunning w b z (entries ++ [])) (sym (append-nil events))
       (subst (λ (z : List PlainEntry). IsRunning w b events z) (sym (append-nil entries)) (weaker w b events entries (passes.running events entries run)));
-  counted = λ e. passes.counted;
-  sound = λ whole events entries run honest by s. subst (λ (z : List Event). IsSound b z) (sym (append-nil events)) (sound whole events entries run s);
+  counted = passes.counted;
+  soundly = λ whole events entries honest by s.
+      subst (λ (z : List Event). IsRunningSoundly b z (entries ++ [])) (sym (append-nil events))
+      (subst (λ (z : List PlainEntry). IsRunningSoundly b events z) (sym (append-nil entries)) (soundly whole events entries s));
 }
 
 pub step_still : (now : ℕ) (a b : PairState) (t : Option (List Event)) (r : List PlainEntry) (K : List Event → Type 0) → IsStill a b → K [] → PairStep now true a b t t r r K
 step_still now a b t r K still kind =
-    step_passes now true a b t r K (record { same = still.same; running = still.running; counted = still.counted }) (λ e. still.sound) kind
+    step_passes now true a b t r K (record { same = still.same; running = still.running; counted = λ e. still.counted }) (λ e. still.soundly) kind
 
 pub still_trans : (a b c : PairState) → IsStill a b → IsStill b c → IsStill a c
 still_trans a b c f g = record {
   same = same_trans a b c f.same g.same;
   running = λ events entries run. g.running events entries (f.running events entries run);
   counted = g.counted;
-  sound = λ events entries run s. g.sound events entries (f.running events entries run) (f.sound events entries run s);
+  soundly = λ events entries s. g.soundly events entries (f.soundly events entries s);
 }
 
 -- a step behind which nothing passed
@@ -197,7 +204,7 @@ step_rests now a b c t u r s K p g = record {
   served_is = p.served_is;
   running = λ events entries run. g.running (events ++ p.more) (entries ++ p.fresh) (p.running events entries run);
   counted = λ e. g.counted;
-  sound = λ whole events entries run honest by o. g.sound (events ++ p.more) (entries ++ p.fresh) (p.running events entries run) (p.sound whole events entries run honest by o);
+  soundly = λ whole events entries honest by o. g.soundly (events ++ p.more) (entries ++ p.fresh) (p.soundly whole events entries honest by o);
 }
 
 -- what each step leaves
@@ -210,6 +217,35 @@ pub run_by_rest : (a b : PairState) → a.is_over ≡ true → HasRun a → IsSt
 run_by_rest a b over run p = has_run true b run.events run.entries (p.same.over ∙ over) (p.same.places ∙ (run.places ∙ ap (λ (z : List PlainMessage). length z) (sym p.same.requests))) (p.running run.events run.entries run.running)
 
 -- a round began, or the link failed
+waits_run : (w : Bool) (p : PairState) (events more : List Event) (entries : List PlainEntry) → told_acts Client more ≡ [] → told_acts Server more ≡ [] → IsRunning true p events entries → IsRunning w p (events ++ more) entries
+waits_run w p events more entries cs ss run = record {
+  client = record {
+    acts = run.client.acts;
+    at = at_waits w Client p.ids p.config p.client_end events more run.client.acts cs run.client.at;
+    asking = run.client.asking;
+    opened = run.client.opened;
+  };
+  server = record {
+    acts = run.server.acts;
+    at = at_waits w Server p.ids p.config p.server_end events more run.server.acts ss run.server.at;
+    serving = run.server.serving;
+    accepted = run.server.accepted;
+  };
+}
+
+waits_soundly : (p : PairState) (events more : List Event) (entries : List PlainEntry) → told_acts Client more ≡ [] → told_acts Server more ≡ [] → IsRunningSoundly p events entries → IsRunningSoundly p (events ++ more) entries
+unfolding waits_run
+waits_soundly p events more entries cs ss s = record {
+  run = waits_run true p events more entries cs ss s.run;
+  sound = record {
+    fits = s.sound.fits;
+    lengths = s.sound.lengths;
+    ends = s.sound.ends;
+    client = heard_waits Client (id_length p) p.config p.client_end events more cs s.sound.client;
+    server = heard_waits Server (id_length p) p.config p.server_end events more ss s.sound.server;
+  };
+}
+
 pub step_waits : (now : ℕ) (w : Bool) (p : PairState) (t u : Option (List Event)) (r : List PlainEntry) (more : List Event) (K : List Event → Type 0)
     → IsCounted p → told_acts Client more ≡ [] → told_acts Server more ≡ [] → u ≡ told t more → K more → PairStep now w p p t u r r K
 step_waits now w p t u r more K counted cs ss e kind = record {
@@ -219,29 +255,8 @@ step_waits now w p t u r more K counted cs ss e kind = record {
   kind = kind;
   fresh = [];
   served_is = sym (append-nil r);
-  running = λ events entries run.
-      subst (λ (z : List PlainEntry). IsRunning w p (events ++ more) z) (sym (append-nil entries))
-      (record {
-        client = record {
-          acts = run.client.acts;
-          at = at_waits w Client (id_length p) p.config p.client_end events more run.client.acts cs run.client.at;
-          asking = run.client.asking;
-          opened = run.client.opened;
-        };
-        server = record {
-          acts = run.server.acts;
-          at = at_waits w Server (id_length p) p.config p.server_end events more run.server.acts ss run.server.at;
-          serving = run.server.serving;
-          accepted = run.server.accepted;
-        };
-      });
+  running = λ events entries run. subst (λ (z : List PlainEntry). IsRunning w p (events ++ more) z) (sym (append-nil entries)) (waits_run w p events more entries cs ss run);
   counted = λ e. counted;
-  sound = λ whole events entries run honest by s. record {
-    fits = s.fits;
-    knows = s.knows;
-    takes = s.takes;
-    lengths = s.lengths;
-    client = waits Client p.ids p.config p.client_end events more cs s.client;
-    server = waits Server p.ids p.config p.server_end events more ss s.server;
-  };
+  soundly = λ whole events entries honest by s.
+      subst (λ (z : List PlainEntry). IsRunningSoundly p (events ++ more) z) (sym (append-nil entries)) (waits_soundly p events more entries cs ss s);
 }

@@ -1,8 +1,6 @@
 -- Rounds of an exchange: what turns in a row leave behind.
 use Rattle.std.proofs.Common.{◌≡◌, ◌≢◌, inl, inr, ℕ, zero, suc, ◌+◌, ◌≤◌, Bool, false, List, [], ◌∷◌, ◌++◌, length, Option, Some, Ok, Err, refl, sym, ap, ◌∙◌, subst, arith, append_assoc, append-nil}
 use Rattle.std.proofs.lemmas.List.{append_cancel_left}
-use Rattle.qh_base.specs.declared.time.Span.{Span}
-use Rattle.qh_core.specs.declared.config.ConnConfig.{ConnConfig}
 use Rattle.qh_roles.specs.Client.{held}
 use Rattle.qh_roles.specs.Server.{GrewByAnswers}
 use Rattle.qh_service.specs.declared.service.Limits.{Limits}
@@ -13,12 +11,12 @@ use Rattle.qh_spec.specs.Turns.{IsWholeTurn, AreWholeTurns}
 use Rattle.qh_spec.proofs.Members.{in_split}
 use Rattle.qh_exchange.specs.declared.error.ExchangeError.{ExchangeError}
 use Rattle.qh_exchange.specs.declared.error.ExchangeError.TheVariants as error
-use Rattle.qh_exchange.specs.Clock.{ClocksOn, HasPassed, IsClocked, RunsByTheClock}
+use Rattle.qh_exchange.specs.Clock.{ClocksOn, HasTimedOut, IsClocked, RunsByTheClock}
 use Rattle.qh_exchange.specs.Exchange.{IfOutOfRounds, IfProtocol, IfTimedOut}
 use Rattle.qh_exchange.specs.Full.{EndsInFullTurn, IsFullTurn}
 use Rattle.qh_exchange.specs.Pair.{PairState, Running, WentOn, GoesOn}
 use Rattle.qh_exchange.specs.Rounds.{IsRoundsError, IsRunOut, RoundsMade}
-use Rattle.qh_exchange.specs.Turn.{Adds, IsProtocolLoss, IsTurnError, WasIdle}
+use Rattle.qh_exchange.specs.Turn.{Adds, IsProtocolLoss, IsTurnError, WasTimedOut}
 use Rattle.qh_exchange.proofs.FullRounds.{AddsFullTurns, adds_full, ends_full}
 use Rattle.qh_exchange.proofs.Turns.{protocol_again}
 
@@ -71,6 +69,7 @@ pub record AreMade (n : ℕ) (p q : PairState) (t u : Option (List Event)) (m k 
   pub going : q.is_over ≡ false
   pub requests : q.client.requests ≡ p.client.requests
   pub config : q.config ≡ p.config
+  pub ids : q.ids ≡ p.ids
   pub limits : q.server.limits ≡ p.server.limits
   pub lacks : held q.client.answers ≢ length q.client.requests
   pub turns : Adds (AreWholeTurns n) t u
@@ -89,6 +88,7 @@ none_made p t m f r going lacks clocked = record {
   going = going;
   requests = refl;
   config = refl;
+  ids = refl;
   limits = refl;
   lacks = lacks;
   turns = λ events te. ([], te ∙ ap Some (sym (append-nil events)), refl);
@@ -106,10 +106,10 @@ snoc_length [] x = refl
 snoc_length (y ∷ xs) x = let e = snoc_length xs x in omega (arith, e)
 
 pub one_more : {T : Type 0} (n : ℕ) (p q q' : PairState) (t u u' : Option (List Event)) (m k k' : List ℕ) (f g g' : ℕ) (r s s' : List PlainEntry) (done : T) → AreMade n p q t u m k f g r s
-    → GoesOn q u s q' u' s' → RunsByTheClock q q' k k' (Ok done) → q'.is_over ≡ false → q'.client.requests ≡ q.client.requests → q'.config ≡ q.config → q'.server.limits ≡ q.server.limits
+    → GoesOn q u s q' u' s' → RunsByTheClock q q' k k' (Ok done) → q'.is_over ≡ false → q'.client.requests ≡ q.client.requests → q'.config ≡ q.config → q'.ids ≡ q.ids → q'.server.limits ≡ q.server.limits
     → held q'.client.answers ≢ length q'.client.requests → Adds (IsFullTurn q') u u' → (moment : ℕ) × (k' ≡ k ++ moment ∷ [])
     → g' ≡ g → AreMade (n + 1) p q' t u' m k' f g' r s'
-one_more n p q q' t u u' m k k' f g g' r s s' done made goes clock going same config limits lacks turn round still =
+one_more n p q q' t u u' m k k' f g g' r s s' done made goes clock going same config ids limits lacks turn round still =
     let c : ClocksOn q q' m made.moments k' (Ok done) = clock m made.moments made.moments_are made.clocked in
     let sum : m ++ (made.moments ++ c.more) ≡ m ++ (made.moments ++ round.0 ∷ [])
     = sym c.are ∙ (round.1 ∙ (ap (λ (z : List ℕ). z ++ round.0 ∷ []) made.moments_are ∙ append_assoc m made.moments (round.0 ∷ []))) in
@@ -121,6 +121,7 @@ one_more n p q q' t u u' m k k' f g g' r s s' done made goes clock going same co
       going = going;
       requests = same ∙ made.requests;
       config = config ∙ made.config;
+      ids = ids ∙ made.ids;
       limits = limits ∙ made.limits;
       lacks = lacks;
       turns = subst (λ (z : ℕ). Adds (AreWholeTurns z) t u') next (adds_turn n q' t u u' made.turns turn);
@@ -141,16 +142,11 @@ idle_of T U error.OutOfRounds H G f h = tt
 idle_of T U (error.Invalid index) H G f h = tt
 idle_of T U (error.Protocol x) H G f h = tt
 
-pub was_idle : (U : Type 0) (e : ExchangeError) (idle : Option Span) (n : ℕ) (p q q' : PairState) (t u : Option (List Event)) (m k k' : List ℕ) (f g : ℕ) (r s : List PlainEntry)
-    → p.config.idle ≡ idle → AreMade n p q t u m k f g r s → RunsByTheClock {T = Bool} q q' k k' (Err e) → IfTimedOut {T = U} (Err e) (WasIdle idle m k')
-was_idle U e idle n p q q' t u m k k' f g r s conf made clock =
+pub was_timed_out : (U : Type 0) (e : ExchangeError) (n : ℕ) (p q q' : PairState) (t u : Option (List Event)) (m k k' : List ℕ) (f g : ℕ) (r s : List PlainEntry)
+    → AreMade n p q t u m k f g r s → RunsByTheClock {T = Bool} q q' k k' (Err e) → IfTimedOut {T = U} (Err e) (WasTimedOut q' m k')
+was_timed_out U e n p q q' t u m k k' f g r s made clock =
     let c : ClocksOn {T = Bool} q q' m made.moments k' (Err e) = clock m made.moments made.moments_are made.clocked in
-    idle_of Bool U e (HasPassed q.config.idle (made.moments ++ c.more)) (WasIdle idle m k')
-    (λ h. record {
-      moments = made.moments ++ c.more;
-      are = c.are;
-      passed = subst (λ (z : Option Span). HasPassed z (made.moments ++ c.more)) (ap (λ (z : ConnConfig). z.idle) made.config ∙ conf) h;
-    }) c.timed_out
+    idle_of Bool U e (HasTimedOut q' (made.moments ++ c.more)) (WasTimedOut q' m k') (λ h. record { moments = made.moments ++ c.more; are = c.are; timed_out = h }) c.timed_out
 
 -- records that grow by answers
 pub grew_more : (Answer : PlainMessage → PlainMessage → Type 0) (r s t : List PlainEntry) → GrewByAnswers Answer r s → GrewByAnswers Answer s t
@@ -188,24 +184,28 @@ turn_not_out (error.Protocol x) P h = tt
 
 -- a turn answered an error
 pub rounds_lost : (n rounds : ℕ) (e : ExchangeError) (p q q' : PairState) (t u u' : Option (List Event)) (m k k' : List ℕ) (f g : ℕ) (r s s' : List PlainEntry) → AreMade n p q t u m k f g r s
-    → GoesOn q u s q' u' s' → q'.client.requests ≡ q.client.requests → RunsByTheClock {T = Bool} q q' k k' (Err e) → IfProtocol {T = Bool} (Err e) (λ x. IsProtocolLoss x q')
+    → GoesOn q u s q' u' s' → q'.client.requests ≡ q.client.requests → q'.config ≡ q.config → q'.ids ≡ q.ids → RunsByTheClock {T = Bool} q q' k k' (Err e) → IfProtocol {T = Bool} (Err e) (λ x. IsProtocolLoss x q')
     → IsTurnError e → RoundsMade rounds p q' t u' m k' r s' (Err e)
-rounds_lost n rounds e p q q' t u u' m k k' f g r s s' made goes same clock lost fault = record {
+rounds_lost n rounds e p q q' t u u' m k k' f g r s s' made goes same config ids clock lost fault = record {
   goes = goes_trans p q q' t u u' r s s' made.goes goes;
   requests = same ∙ made.requests;
+  config_is = config ∙ made.config;
+  ids = ids ∙ made.ids;
   all = tt;
   out = turn_not_out e (IsRunOut rounds p q' t u' m k' r) fault;
-  timed_out = was_idle (Unit {0}) e p.config.idle n p q q' t u m k k' f g r s refl made clock;
+  timed_out = was_timed_out (Unit {0}) e n p q q' t u m k k' f g r s made clock;
   lost = protocol_again Bool (Unit {0}) e (λ x. IsProtocolLoss x q') lost;
   errors = rounds_error e fault;
 }
 
 -- an answer is held for each request
 pub rounds_done : (n rounds : ℕ) (x : Unit {0}) (p q q' : PairState) (t u u' : Option (List Event)) (m k k' : List ℕ) (f g : ℕ) (r s s' : List PlainEntry) → AreMade n p q t u m k f g r s
-    → GoesOn q u s q' u' s' → q'.client.requests ≡ q.client.requests → held q'.client.answers ≡ length q'.client.requests → RoundsMade rounds p q' t u' m k' r s' (Ok x)
-rounds_done n rounds x p q q' t u u' m k k' f g r s s' made goes same all = record {
+    → GoesOn q u s q' u' s' → q'.client.requests ≡ q.client.requests → q'.config ≡ q.config → q'.ids ≡ q.ids → held q'.client.answers ≡ length q'.client.requests → RoundsMade rounds p q' t u' m k' r s' (Ok x)
+rounds_done n rounds x p q q' t u u' m k k' f g r s s' made goes same config ids all = record {
   goes = goes_trans p q q' t u u' r s s' made.goes goes;
   requests = same ∙ made.requests;
+  config_is = config ∙ made.config;
+  ids = ids ∙ made.ids;
   all = all;
   out = tt;
   timed_out = tt;
@@ -221,6 +221,8 @@ rounds_out n rounds p q t u m k f g r s whole few made =
     record {
       goes = made.goes;
       requests = made.requests;
+      config_is = made.config;
+      ids = made.ids;
       all = tt;
       out = record {
         turns = subst (λ (z : ℕ). Adds (AreWholeTurns z) t u) whole made.turns;

@@ -3,7 +3,7 @@ use Rattle.std.proofs.Common.{◌≡◌, ℕ, Bool, List, [], ◌++◌, length, 
 use Rattle.std.specs.Prelude.{Result}
 use Rattle.std.proofs.lemmas.List.{append_cancel_left}
 use Rattle.qh_base.specs.declared.time.Span.{Span}
-use Rattle.qh_core.specs.declared.config.ConnConfig.{ConnConfig}
+use Rattle.qh_conn.specs.declared.config.ConnConfig.{ConnConfig}
 use Rattle.qh_spec.specs.declared.link.Event.{Event}
 use Rattle.qh_spec.specs.Honest.{IsHonest}
 use Rattle.qh_spec.specs.Record.{PlainEntry}

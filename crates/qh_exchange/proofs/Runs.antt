@@ -32,9 +32,10 @@ use Rattle.qh_exchange.specs.Endings.{EndsAnswered, EndsFailed, IsRunAs, listed,
 use Rattle.qh_exchange.specs.Exchange.{IfInvalid, IfLink, IfOutOfRounds, IfProtocol, IfTimedOut, IsInvalidAnswer}
 use Rattle.qh_exchange.specs.Pair.{KeepWithin}
 use Rattle.qh_exchange.specs.Program.{AreEchoes, HasRun, ScriptEnds, answered, failed, unlisted, unreported, neither}
-use Rattle.qh_exchange.specs.Settings.{conn_config}
+use Rattle.qh_exchange.specs.Hellos.{AreGreetedAsSet, AreGreetedFirst, AreSaidAsSet, HaveIdsOfLength, LeaveIdleTime}
+use Rattle.qh_exchange.specs.Settings.{conn_config, whole_idle}
 use Rattle.qh_exchange.specs.Sound.{EndsFairly}
-use Rattle.qh_exchange.specs.Turn.{AddsFault, EndsInFault, RanOut, WasIdle, WasLost, has_link_failed}
+use Rattle.qh_exchange.specs.Turn.{AddsFault, EndsInFault, HasWaitedFor, RanOut, WasIdle, WasLost, has_link_failed}
 use Rattle.qh_exchange.proofs.Fairness.{fair_again}
 use Rattle.qh_exchange.proofs.Faults.{fault_again, fault_last, fault_whole}
 use Rattle.qh_exchange.proofs.Endings.{ends_by, ends_done}
@@ -55,7 +56,10 @@ IsUndecidedAt config requests = IsUndecidedList config.max_requests config.max_f
 pub record Exchanged {V : Type 0} (items : V → List PlainMessage) (config : PlainConfig) (requests : List PlainMessage) (rounds : ℕ) (new : PlainLink) (after : List PlainEntry) (r : Result V ExchangeError) : Type 0 where
   pub answered : IsHonest new.events → IfOk r (λ v. AnsweredOnce config.local_id_len new.events requests [] after (items v))
   pub once : IsHonest new.events → ServedOnce config.local_id_len new.events requests [] after
-  pub within : KeepWithin config.local_id_len (conn_config config) new.events
+  pub greeted : IsHonest new.events → AreGreetedFirst config.local_id_len new.events
+  pub set : IsHonest new.events → AreGreetedAsSet config.local_id_len (conn_config config) new.events
+  pub said : AreSaidAsSet config.local_id_len (conn_config config) new.events
+  pub within : HaveIdsOfLength config.local_id_len new.events → KeepWithin config.local_id_len new.events
   pub count : IfOk r (λ v. length (items v) ≡ length requests)
   pub empty : requests ≡ [] → IsOk r × (new.events ≡ []) × (after ≡ [])
   pub invalid : IfInvalid r (λ index. IsFaultOf config requests index × (new.events ≡ []) × (after ≡ []))
@@ -63,10 +67,11 @@ pub record Exchanged {V : Type 0} (items : V → List PlainMessage) (config : Pl
   pub answers : GrewByAnswers (λ q a. a ≡ echo config.max_response_body q) [] after
   pub cause : CountsFaults 0 new.faults (has_link_failed r)
   pub fault : IfLink r (EndsInFault new.events)
-  pub timed_out : IfTimedOut r (WasIdle (conn_config config).idle [] (moments_of new.events))
+  pub timed_out : LeaveIdleTime config.local_id_len (conn_config config) new.events → IfTimedOut r (WasIdle (whole_idle (conn_config config).idle) [] (moments_of new.events))
+  pub waited : IfTimedOut r (HasWaitedFor (conn_config config).idle [] (moments_of new.events))
   pub fair : IsHonest new.events → EndsFairly config.local_id_len (conn_config config).idle new.events r
-  pub lost : IfProtocol r (WasLost requests (Some []) (Some new.events) [] after)
-  pub out_of_rounds : IfOutOfRounds r (RanOut rounds requests (Some []) (Some new.events) [] (moments_of new.events) [] after)
+  pub lost : IfProtocol r (WasLost config.local_id_len (conn_config config) requests (Some []) (Some new.events) [] after)
+  pub out_of_rounds : IfOutOfRounds r (RanOut config.local_id_len (conn_config config) rounds requests (Some []) (Some new.events) [] (moments_of new.events) [] after)
 
 -- the clauses of `exchange`, over a link in memory and with a service that echoes
 pub record Clauses {V : Type 0} (items : V → List PlainMessage) (config : PlainConfig) (requests : List PlainMessage) (rounds : ℕ) (old new : PlainLink) (before after : List PlainEntry)
@@ -75,8 +80,11 @@ pub record Clauses {V : Type 0} (items : V → List PlainMessage) (config : Plai
       → IfOk r (λ v. AnsweredOnce config.local_id_len events requests before after (items v))
   pub once : (events : List Event) → Some old.events ≡ Some [] → Some new.events ≡ Some events → IsHonest events
       → ServedOnce config.local_id_len events requests before after
+  pub greeted : (earlier more : List Event) → Some old.events ≡ Some earlier → Some new.events ≡ Some (earlier ++ more) → IsHonest more → AreGreetedFirst config.local_id_len more
+  pub set : (earlier more : List Event) → Some old.events ≡ Some earlier → Some new.events ≡ Some (earlier ++ more) → IsHonest more → AreGreetedAsSet config.local_id_len (conn_config config) more
+  pub said : (earlier more : List Event) → Some old.events ≡ Some earlier → Some new.events ≡ Some (earlier ++ more) → AreSaidAsSet config.local_id_len (conn_config config) more
   pub within : (earlier more : List Event) → Some old.events ≡ Some earlier → Some new.events ≡ Some (earlier ++ more)
-      → KeepWithin config.local_id_len (conn_config config) more
+      → HaveIdsOfLength config.local_id_len more → KeepWithin config.local_id_len more
   pub count : IfOk r (λ v. length (items v) ≡ length requests)
   pub empty : requests ≡ [] → IsOk r × (new ≡ old) × (after ≡ before)
   pub invalid : IfInvalid r (λ index. IsFaultOf config requests index × (new ≡ old) × (after ≡ before))
@@ -84,11 +92,13 @@ pub record Clauses {V : Type 0} (items : V → List PlainMessage) (config : Plai
   pub answers : GrewByAnswers (λ q a. a ≡ echo config.max_response_body q) before after
   pub cause : CountsFaults old.faults new.faults (has_link_failed r)
   pub fault : IfLink r (AddsFault (Some old.events) (Some new.events))
-  pub timed_out : IfTimedOut r (WasIdle (conn_config config).idle (moments_of old.events) (moments_of new.events))
+  pub timed_out : (earlier more : List Event) → Some old.events ≡ Some earlier → Some new.events ≡ Some (earlier ++ more) → LeaveIdleTime config.local_id_len (conn_config config) more
+      → IfTimedOut r (WasIdle (whole_idle (conn_config config).idle) (moments_of old.events) (moments_of new.events))
+  pub waited : IfTimedOut r (HasWaitedFor (conn_config config).idle (moments_of old.events) (moments_of new.events))
   pub fair : (events : List Event) → Some old.events ≡ Some [] → Some new.events ≡ Some events → IsHonest events
       → EndsFairly config.local_id_len (conn_config config).idle events r
-  pub lost : IfProtocol r (WasLost requests (Some old.events) (Some new.events) before after)
-  pub out_of_rounds : IfOutOfRounds r (RanOut rounds requests (Some old.events) (Some new.events) (moments_of old.events) (moments_of new.events) before after)
+  pub lost : IfProtocol r (WasLost config.local_id_len (conn_config config) requests (Some old.events) (Some new.events) before after)
+  pub out_of_rounds : IfOutOfRounds r (RanOut config.local_id_len (conn_config config) rounds requests (Some old.events) (Some new.events) (moments_of old.events) (moments_of new.events) before after)
 
 invalid_weaker : {V : Type 0} (r : Result V ExchangeError) (P Q : ℕ → Type 0) → ((index : ℕ) → P index → Q index) → IfInvalid r P → IfInvalid r Q
 invalid_weaker (Ok v) P Q f h = tt
@@ -109,6 +119,9 @@ exchanged items config requests rounds old new before after r none never nothing
     record {
       answered = λ h. subst (λ (z : List PlainEntry). IfOk r (λ v. AnsweredOnce config.local_id_len new.events requests z after (items v))) nothing (x.answered new.events fresh refl h);
       once = λ h. subst (λ (z : List PlainEntry). ServedOnce config.local_id_len new.events requests z after) nothing (x.once new.events fresh refl h);
+      greeted = x.greeted [] new.events fresh refl;
+      set = x.set [] new.events fresh refl;
+      said = x.said [] new.events fresh refl;
       within = x.within [] new.events fresh refl;
       count = x.count;
       empty = λ e. let a = x.empty e in (a.0, unused a.1, a.2 ∙ nothing);
@@ -118,12 +131,13 @@ exchanged items config requests rounds old new before after r none never nothing
       answers = subst (λ (z : List PlainEntry). GrewByAnswers (λ q a. a ≡ echo config.max_response_body q) z after) nothing x.answers;
       cause = subst (λ (z : ℕ). CountsFaults z new.faults (has_link_failed r)) never x.cause;
       fault = fault_last r _ _ (fault_whole old.events new.events none) x.fault;
-      timed_out = subst (λ (z : List Event). IfTimedOut r (WasIdle (conn_config config).idle (moments_of z) (moments_of new.events))) none x.timed_out;
+      timed_out = λ set. subst (λ (z : List Event). IfTimedOut r (WasIdle (whole_idle (conn_config config).idle) (moments_of z) (moments_of new.events))) none (x.timed_out [] new.events fresh refl set);
+      waited = subst (λ (z : List Event). IfTimedOut r (HasWaitedFor (conn_config config).idle (moments_of z) (moments_of new.events))) none x.waited;
       fair = x.fair new.events fresh refl;
-      lost = subst (λ (z : List PlainEntry). IfProtocol r (WasLost requests (Some []) (Some new.events) z after)) nothing
-          (subst (λ (z : List Event). IfProtocol r (WasLost requests (Some z) (Some new.events) before after)) none x.lost);
-      out_of_rounds = subst (λ (z : List PlainEntry). IfOutOfRounds r (RanOut rounds requests (Some []) (Some new.events) [] (moments_of new.events) z after)) nothing
-          (subst (λ (z : List Event). IfOutOfRounds r (RanOut rounds requests (Some z) (Some new.events) (moments_of z) (moments_of new.events) before after)) none x.out_of_rounds);
+      lost = subst (λ (z : List PlainEntry). IfProtocol r (WasLost config.local_id_len (conn_config config) requests (Some []) (Some new.events) z after)) nothing
+          (subst (λ (z : List Event). IfProtocol r (WasLost config.local_id_len (conn_config config) requests (Some z) (Some new.events) before after)) none x.lost);
+      out_of_rounds = subst (λ (z : List PlainEntry). IfOutOfRounds r (RanOut config.local_id_len (conn_config config) rounds requests (Some []) (Some new.events) [] (moments_of new.events) z after)) nothing
+          (subst (λ (z : List Event). IfOutOfRounds r (RanOut config.local_id_len (conn_config config) rounds requests (Some z) (Some new.events) (moments_of z) (moments_of new.events) before after)) none x.out_of_rounds);
     }
 
 abbrev step_in : Option Plan → ℕ
@@ -194,6 +208,9 @@ ran_ok items s new after v x step schedule honest = record {
   served_once = λ u. x.once (honest u);
   answered_once = λ u. x.answered (honest u);
   echoes = grown_echoes s.config.max_response_body after x.answers;
+  greeted_first = λ u. x.greeted (honest u);
+  as_set = λ u. x.set (honest u);
+  said_as_set = x.said;
   kept_within = x.within;
   count = x.count;
   empty = λ e. let a = x.empty e in (refl, a.1, a.2);
@@ -201,7 +218,8 @@ ran_ok items s new after v x step schedule honest = record {
   fault = tt;
   invalid = tt;
   not_valid = λ n. let a = x.not_valid n in absurd a.0;
-  timed_out = tt;
+  timed_out = λ set. tt;
+  waited = tt;
   fair = λ u. tt;
   lost = tt;
   out_of_rounds = tt;
@@ -216,6 +234,9 @@ ran_err {V} items s new after x known step schedule honest = record {
   served_once = λ u. known.once (honest u);
   answered_once = λ u. tt;
   echoes = grown_echoes s.config.max_response_body after known.answers;
+  greeted_first = λ u. known.greeted (honest u);
+  as_set = λ u. known.set (honest u);
+  said_as_set = known.said;
   kept_within = known.within;
   count = tt;
   empty = λ e. let a = known.empty e in absurd (failed_is_no_answer V x a.0);
@@ -223,7 +244,8 @@ ran_err {V} items s new after x known step schedule honest = record {
   fault = fault_again V (List PlainMessage) x _ _ (λ z. z) known.fault;
   invalid = fault_as V (List PlainMessage) x _ known.invalid;
   not_valid = λ n. let a = known.not_valid n in (invalid_as V (List PlainMessage) x _ a.0, a.1, a.2);
-  timed_out = time_as V (List PlainMessage) x _ known.timed_out;
+  timed_out = λ set. time_as V (List PlainMessage) x _ (known.timed_out set);
+  waited = time_as V (List PlainMessage) x _ known.waited;
   fair = λ u. fair_again V (List PlainMessage) s.config.local_id_len (conn_config s.config).idle new.events x (known.fair (honest u));
   lost = loss_as V (List PlainMessage) x _ known.lost;
   out_of_rounds = rounds_as V (List PlainMessage) x _ known.out_of_rounds;

@@ -1,5 +1,5 @@
 -- Acts that no writer and no reader of a stream sees leave each stream as it was.
-use Rattle.std.proofs.Common.{◌≡◌, ◌⊎◌, inl, inr, ◌*◌, Bool, true, false, List, ◌++◌, ℕ, refl, sym, ◌∙◌, ap, subst, append-nil}
+use Rattle.std.proofs.Common.{◌≡◌, ◌⊎◌, inl, inr, ◌*◌, Bool, true, false, List, [], ◌∷◌, ◌++◌, ℕ, refl, sym, ◌∙◌, ap, subst, append-nil}
 use Rattle.std.specs.Prelude.{◌||◌}
 use Rattle.qh_roles.specs.Client.{PlainClient, Asking, Asks, IsAskedIn}
 use Rattle.qh_roles.specs.Server.{PlainServer, IsHandledIn, Responds, Serving}
@@ -12,15 +12,40 @@ use Rattle.qh_spec.specs.Lawful.{AreInOrder, WritesMessage, ReadsMessage}
 use Rattle.qh_spec.specs.Message.{PlainMessage}
 use Rattle.qh_spec.specs.Record.{PlainEntry}
 use Rattle.qh_spec.specs.Spelling.{Spells}
-use Rattle.qh_spec.specs.Transcript.{Act, written, finished, pieces_read, joined, ended}
+use Rattle.qh_spec.specs.Transcript.{Act, HandedIn, HandedOut, written, finished, pieces_read, joined, ended}
 use Rattle.qh_spec.proofs.TranscriptLaws.{written-append, finished-append, pieces_read-append, ended-append}
 use Rattle.qh_exchange.specs.Steps.{IsQuiet}
 
+-- ---- quiet acts
+
+pub quiet_nothing : IsQuiet []
+quiet_nothing s = ((refl, refl), (refl, refl))
+
+pub quiet_in : (d : List ℕ) → IsQuiet (HandedIn d ∷ [])
+quiet_in d s = ((refl, refl), (refl, refl))
+
+pub quiet_out : (d : List ℕ) → IsQuiet (HandedOut d ∷ [])
+quiet_out d s = ((refl, refl), (refl, refl))
+
+pub quiet_more : (u v : List Act) → IsQuiet u → IsQuiet v → IsQuiet (u ++ v)
+quiet_more u v a b s = (
+  (
+    written-append u v s ∙ (ap (λ (z : List ℕ). z ++ written v s) (a s).0.0 ∙ (b s).0.0),
+    finished-append u v s ∙ (ap (λ (z : Bool). z || finished v s) (a s).0.1 ∙ (b s).0.1),
+  ),
+  (
+    pieces_read-append u v s ∙ (ap (λ (z : List (ℕ × List ℕ)). z ++ pieces_read v s) (a s).1.0 ∙ (b s).1.0),
+    ended-append u v s ∙ (ap (λ (z : Bool). z || ended v s) (a s).1.1 ∙ (b s).1.1),
+  ),
+)
+
+-- ---- streams that are the same
+
 pub record SameStreams (t u : List Act) : Type 0 where
-  written_is : (s : ℕ) → written u s ≡ written t s
-  finished_is : (s : ℕ) → finished u s ≡ finished t s
-  pieces_are : (s : ℕ) → pieces_read u s ≡ pieces_read t s
-  ended_is : (s : ℕ) → ended u s ≡ ended t s
+  pub written_is : (s : ℕ) → written u s ≡ written t s
+  pub finished_is : (s : ℕ) → finished u s ≡ finished t s
+  pub pieces_are : (s : ℕ) → pieces_read u s ≡ pieces_read t s
+  pub ended_is : (s : ℕ) → ended u s ≡ ended t s
 
 or_false : (b : Bool) → b || false ≡ b
 or_false true = refl
@@ -124,4 +149,29 @@ serving_same s entries t u e a = record {
     apart = a.handlers.apart;
     fresh = λ k l. fresh_same t u (4 * k) e (a.handlers.fresh k l);
   };
+}
+
+-- quiet acts in front, and the same acts behind
+pub quiet_front : (t u : List Act) → IsQuiet u → SameStreams t (u ++ t)
+quiet_front t u q = record {
+  written_is = λ s. written-append u t s ∙ ap (λ (z : List ℕ). z ++ written t s) (q s).0.0;
+  finished_is = λ s. finished-append u t s ∙ ap (λ (z : Bool). z || finished t s) (q s).0.1;
+  pieces_are = λ s. pieces_read-append u t s ∙ ap (λ (z : List (ℕ × List ℕ)). z ++ pieces_read t s) (q s).1.0;
+  ended_is = λ s. ended-append u t s ∙ ap (λ (z : Bool). z || ended t s) (q s).1.1;
+}
+
+pub same_more : (t u acts : List Act) → SameStreams t u → SameStreams (t ++ acts) (u ++ acts)
+same_more t u acts e = record {
+  written_is = λ s. written-append u acts s ∙ (ap (λ (z : List ℕ). z ++ written acts s) (e.written_is s) ∙ sym (written-append t acts s));
+  finished_is = λ s. finished-append u acts s ∙ (ap (λ (z : Bool). z || finished acts s) (e.finished_is s) ∙ sym (finished-append t acts s));
+  pieces_are = λ s. pieces_read-append u acts s ∙ (ap (λ (z : List (ℕ × List ℕ)). z ++ pieces_read acts s) (e.pieces_are s) ∙ sym (pieces_read-append t acts s));
+  ended_is = λ s. ended-append u acts s ∙ (ap (λ (z : Bool). z || ended acts s) (e.ended_is s) ∙ sym (ended-append t acts s));
+}
+
+pub same_back : (t u : List Act) → SameStreams t u → SameStreams u t
+same_back t u e = record {
+  written_is = λ s. sym (e.written_is s);
+  finished_is = λ s. sym (e.finished_is s);
+  pieces_are = λ s. sym (e.pieces_are s);
+  ended_is = λ s. sym (e.ended_is s);
 }

@@ -4,7 +4,6 @@ use Rattle.std.specs.Prelude.{All, IfErr, IfOk, Result, not}
 use Rattle.std.proofs.lemmas.List.Elements.{All-head, All-tail}
 use Rattle.qh_base.specs.declared.connection_error.ConnectionError.{ConnectionError}
 use Rattle.qh_base.specs.declared.time.Moment.{Moment}
-use Rattle.qh_core.specs.declared.config.ConnConfig.{ConnConfig}
 use Rattle.qh_roles.specs.Server.{GrewByAnswers}
 use Rattle.qh_service.specs.declared.service.Limits.{Limits}
 use Rattle.qh_spec.specs.Fault.{CountsFaults}
@@ -12,7 +11,7 @@ use Rattle.qh_spec.specs.Link.{told}
 use Rattle.qh_spec.specs.Message.{PlainMessage}
 use Rattle.qh_spec.specs.declared.link.Event.{Event}
 use Rattle.qh_spec.specs.Record.{PlainEntry}
-use Rattle.qh_exchange.specs.Clock.{HasPassed, ClocksOn}
+use Rattle.qh_exchange.specs.Clock.{HasTimedOut, ClocksOn}
 use Rattle.qh_exchange.specs.Exchange.{IfProtocol, IfTimedOut}
 use Rattle.qh_exchange.specs.Pair.{PairState, GoesOn, IsRunning, Running}
 use Rattle.qh_exchange.specs.Sound.{AreBy, last_of}
@@ -22,7 +21,7 @@ use Rattle.qh_exchange.specs.declared.error.ExchangeError.{ExchangeError}
 use Rattle.qh_exchange.specs.declared.error.ExchangeError.TheVariants as error
 use Rattle.qh_exchange.proofs.ClockSteps.{both_clocked, both_on, link_no_protocol, link_no_timeout}
 use Rattle.qh_exchange.proofs.Heard.{by_behind, honest_front, last_more}
-use Rattle.qh_exchange.proofs.PairSteps.{runs_over, sound_over, step_at}
+use Rattle.qh_exchange.proofs.PairSteps.{runs_over, soundly_over, step_at}
 
 -- ---- the moments of a turn
 
@@ -47,30 +46,25 @@ moments_more old after before moments more e f = f ∙ (ap (λ (z : List ℕ). z
 pub begins_err : (new : PairState) (old after before moments more : List ℕ) (e : ExchangeError) → after ≡ old ++ more → old ≡ before ++ moments → BeginsAt new before moments after (Err e)
 begins_err new old after before moments more e f g = record { more = more; are = moments_more old after before moments more g f; begun = tt }
 
-pub begins_ok : (p a b : PairState) (old after before moments : List ℕ) (now : Moment) → after ≡ old ++ now.0 ∷ [] → old ≡ before ++ moments → All (λ (b : ℕ). b ≤ now.0) old
-    → AreTicking p moments → KeepsTicking now.0 p a → KeepsTicking now.0 a b → BeginsAt b before moments after (Ok now)
-begins_ok p a b old after before moments now f g order t ka kb =
+pub begins_ok : (p b : PairState) (old after before moments : List ℕ) (now : Moment) → after ≡ old ++ now.0 ∷ [] → old ≡ before ++ moments → All (λ (b : ℕ). b ≤ now.0) old
+    → AreTicking p moments → KeepsTicking now.0 p b → BeginsAt b before moments after (Ok now)
+begins_ok p b old after before moments now f g order t keeps =
     let last : IsLastOf (moments ++ now.0 ∷ []) now.0 = is_last old before moments now.0 g order in
     record {
       more = now.0 ∷ [];
       are = moments_more old after before moments (now.0 ∷ []) g f;
-      begun = (last, kb (moments ++ now.0 ∷ []) last (ka (moments ++ now.0 ∷ []) last (both_on p moments now.0 t)));
+      begun = (last, keeps (moments ++ now.0 ∷ []) last (both_on p moments now.0 t));
     }
 
 -- a turn that ended by a fault of its link, or for want of memory
 pub ticks_link : (T : Type 0) (old new : PairState) (before moments after more : List ℕ) (e : ExchangeError) → IsLinkError e → after ≡ before ++ (moments ++ more)
     → TicksOn {T = T} old new before moments after (Err e)
-ticks_link T old new before moments after more e link are = record { more = more; are = are; ticking = tt; timed_out = link_no_timeout T e (HasPassed old.config.idle (moments ++ more)) link }
+ticks_link T old new before moments after more e link are = record { more = more; are = are; ticking = tt; timed_out = link_no_timeout T e (HasTimedOut new (moments ++ more)) link }
 
 -- a turn in which an end was lost
-pub ticks_lost : (config : ConnConfig) (old new : PairState) (before moments after more : List ℕ) (e : ExchangeError) → after ≡ before ++ (moments ++ more) → config ≡ old.config
-    → IfTimedOut {T = Unit {0}} (Err e) (HasPassed config.idle (moments ++ more)) → TicksOn {T = Unit {0}} old new before moments after (Err e)
-ticks_lost config old new before moments after more e are same timed = record {
-  more = more;
-  are = are;
-  ticking = tt;
-  timed_out = subst (λ (z : ConnConfig). IfTimedOut {T = Unit {0}} (Err e) (HasPassed z.idle (moments ++ more))) same timed;
-}
+pub ticks_lost : (old new : PairState) (before moments after more : List ℕ) (e : ExchangeError) → after ≡ before ++ (moments ++ more)
+    → IfTimedOut {T = Unit {0}} (Err e) (HasTimedOut new (moments ++ more)) → TicksOn {T = Unit {0}} old new before moments after (Err e)
+ticks_lost old new before moments after more e are timed = record { more = more; are = are; ticking = tt; timed_out = timed }
 
 -- the last step of a turn
 pub ticks_last : (now : ℕ) (old mid new : PairState) (before moments after more : List ℕ) (r : Result (Unit {0}) ExchangeError) → after ≡ before ++ (moments ++ more)
@@ -129,10 +123,10 @@ goes_well now p b t u r s K going by step = λ earlier events before entries run
       served_is = step.served_is ∙ (ap (λ (z : List PlainEntry). z ++ step.fresh) y ∙ append_assoc before entries step.fresh);
       running = record {
         running = runs_over b false true (events ++ step.more) (entries ++ step.fresh) (step.running events entries over);
-        sound = λ e honest.
-            sound_over b false (events ++ step.more)
-            (step.sound refl events entries over honest (by_behind now earlier (events ++ step.more) (by (earlier ++ (events ++ step.more)) told_is))
-            (sound_over p true events (run.sound going (honest_front events step.more honest))));
+        soundly = λ e honest.
+            soundly_over b false (events ++ step.more) (entries ++ step.fresh)
+            (step.soundly refl events entries honest (by_behind now earlier (events ++ step.more) (by (earlier ++ (events ++ step.more)) told_is))
+            (soundly_over p true events entries (run.soundly going (honest_front events step.more honest))));
       };
     }
 
@@ -158,7 +152,7 @@ goes_ill now p b t u r s K going step = λ earlier events before entries run x y
       running = record {
         running = subst (λ (z : Bool). IsRunning (not z) b (events ++ step.more) (entries ++ step.fresh)) (sym step.same.over)
             (step.running events entries (runs_over p true true events entries old));
-        sound = λ e. let over : true ≡ false = sym step.same.over ∙ e in cc;
+        soundly = λ e. let over : true ≡ false = sym step.same.over ∙ e in cc;
       };
     }
 
@@ -189,7 +183,7 @@ clocked_well p b before moments after x done t = record { more = t.more; are = t
 
 pub clocked_ill : (p b : PairState) (before moments after : List ℕ) (e : ExchangeError) → TicksOn {T = Unit {0}} (record p { is_over = true }) b before moments after (Err e)
     → ClocksOn {T = Bool} p b before moments after (Err e)
-clocked_ill p b before moments after e t = record { more = t.more; are = t.are; clocked = tt; timed_out = timed_again (Unit {0}) Bool e (HasPassed p.config.idle (moments ++ t.more)) t.timed_out }
+clocked_ill p b before moments after e t = record { more = t.more; are = t.are; clocked = tt; timed_out = timed_again (Unit {0}) Bool e (HasTimedOut b (moments ++ t.more)) t.timed_out }
 
 pub clocked_well_as : (p v b : PairState) (before moments after : List ℕ) (x : Unit {0}) (done : Bool) → v ≡ b → TicksOn {T = Unit {0}} (record p { is_over = true }) b before moments after (Ok x)
     → ClocksOn p (record v { is_over = false }) before moments after (Ok done)

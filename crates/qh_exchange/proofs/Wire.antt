@@ -14,7 +14,7 @@ use Rattle.qh_spec.specs.declared.sides.Side.{Side}
 use Rattle.qh_spec.specs.declared.sides.Side.TheVariants.{Client, Server}
 use Rattle.qh_spec.proofs.Members.{in_left}
 use Rattle.qh_spec.proofs.TranscriptLaws.{handed_in-append, handed_out-append}
-use Rattle.qh_exchange.specs.Pair.{IsTold, IsToldIf, all, unhanded, unsent, is_wire, told_acts, wire}
+use Rattle.qh_exchange.specs.Pair.{IsTold, IsToldIf, all, unsent, is_wire, told_acts, wire}
 
 -- ---- one list behind the other
 
@@ -44,12 +44,6 @@ wire_is_told s x y t u e f =
 
 is_told-append : (s : Side) (x y : List Event) (t u : List Act) → wire t ≡ told_acts s x → IsTold s y u → IsTold s (x ++ y) (t ++ u)
 is_told-append s x y t u e (all f) = all (wire_is_told s x y t u e f)
-is_told-append s x y t u e (unhanded d f) =
-    unhanded d
-    (told_acts-append s x y
-    ∙ (ap (λ (z : List Act). told_acts s x ++ z) f
-    ∙ (sym (append_assoc (told_acts s x) (wire u) (HandedIn d ∷ []))
-    ∙ ap (λ (z : List Act). z ++ HandedIn d ∷ []) (ap (λ (z : List Act). z ++ wire u) (sym e) ∙ sym (wire-append t u)))))
 is_told-append s x y t u e (unsent d f) =
     unsent d
     (wire-append t u
@@ -90,7 +84,6 @@ wire-calls t u c = wire-append t u ∙ (ap (λ (z : List Act). wire t ++ z) (cal
 
 is_told_same : (s : Side) (x y : List Event) (t u : List Act) → told_acts s y ≡ told_acts s x → wire u ≡ wire t → IsTold s x t → IsTold s y u
 is_told_same s x y t u e f (all g) = all (f ∙ (g ∙ sym e))
-is_told_same s x y t u e f (unhanded d g) = unhanded d (e ∙ (g ∙ ap (λ (z : List Act). z ++ HandedIn d ∷ []) (sym f)))
 is_told_same s x y t u e f (unsent d g) = unsent d (f ∙ (g ∙ ap (λ (z : List Act). z ++ HandedOut d ∷ []) (sym e)))
 
 -- it speaks of the wire and of what is told alone
@@ -202,8 +195,6 @@ whole_out s es t e = sym (handed_out-wire t) ∙ (ap handed_out e ∙ handed_out
 -- what was handed in was given
 pub told_was_given : (s : Side) (es : List Event) (t : List Act) → IsTold s es t → (d : List ℕ) → In d (handed_in t) → In d (given_to s es)
 told_was_given s es t (all e) d i = subst (λ (z : List (List ℕ)). In d z) (whole_in s es t e) i
-told_was_given s es t (unhanded x e) d i =
-    subst (λ (z : List (List ℕ)). In d z) (same_in s es t (HandedIn x ∷ []) (sym e)) (in_left d (handed_in t) (x ∷ []) i)
 told_was_given s es t (unsent x e) d i =
     subst (λ (z : List (List ℕ)). In d z)
     (ap handed_in e ∙ (handed_in-append (told_acts s es) (HandedOut x ∷ []) ∙ (append-nil (handed_in (told_acts s es)) ∙ handed_in-told s es)))
@@ -212,8 +203,5 @@ told_was_given s es t (unsent x e) d i =
 -- what was sent was handed out
 pub sent_was_told : (s : Side) (es : List Event) (t : List Act) → IsTold s es t → (d : List ℕ) → In d (sent_by s es) → In d (handed_out t)
 sent_was_told s es t (all e) d i = subst (λ (z : List (List ℕ)). In d z) (sym (whole_out s es t e)) i
-sent_was_told s es t (unhanded x e) d i =
-    subst (λ (z : List (List ℕ)). In d z)
-    (sym (handed_out-told s es) ∙ (ap handed_out e ∙ (handed_out-append (wire t) (HandedIn x ∷ []) ∙ (append-nil (handed_out (wire t)) ∙ handed_out-wire t)))) i
 sent_was_told s es t (unsent x e) d i =
     subst (λ (z : List (List ℕ)). In d z) (sym (same_out s es t (HandedOut x ∷ []) e)) (in_left d (sent_by s es) (x ∷ []) i)

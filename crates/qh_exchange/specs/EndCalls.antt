@@ -1,16 +1,22 @@
 -- What the calls on one end do (own).
-use Rattle.std.specs.Prelude.{◌≡◌, ◌⊎◌, ℕ, ◌+◌, ◌≤◌, Bool, true, false, List, [], ◌∷◌, Some, Result, Ok, Err, MatchBool, length, map}
+use Rattle.std.specs.Prelude.{◌≡◌, ◌⊎◌, ℕ, ◌+◌, ◌≤◌, Bool, true, false, List, [], ◌∷◌, ◌++◌, Option, Some, None, Result, Ok, Err, length, map}
 use Rattle.qh_base.specs.declared.connection_error.ConnectionError.{ConnectionError}
 use Rattle.qh_base.specs.declared.connection_error.ConnectionError.TheVariants as lost
 use Rattle.qh_base.specs.declared.memory.Memory.{Memory as OutOfMemory}
+use Rattle.qh_base.specs.declared.time.Moment.{Moment}
 use Rattle.qh_base.specs.declared.time.Span.{Span}
-use Rattle.qh_core.specs.Inner.{HaveSameCounts, IsSameEnd}
-use Rattle.qh_core.specs.Timers.{IsTimedOut}
+use Rattle.qh_conn.specs.Same.{IsSameConnection}
+use Rattle.qh_conn.specs.Telling.{IsTimedOut}
+use Rattle.qh_conn.specs.Whole.{CarriesOnBy, IsWhole}
+use Rattle.qh_core.specs.Inner.{is_open}
+use Rattle.qh_packet.specs.Session.{plain_accepts, plain_sealed}
+use Rattle.qh_peers.specs.Ends.{IsHonestEnd}
 use Rattle.qh_spec.specs.declared.link.Event.{Event}
 use Rattle.qh_spec.specs.declared.link.Event.TheVariants.{Sent, Given}
 use Rattle.qh_spec.specs.declared.sides.Side.{Side}
-use Rattle.qh_spec.specs.Transcript.{Act, HandedIn, HandedOut}
-use Rattle.qh_exchange.specs.Pair.{End, IsMadeBy}
+use Rattle.qh_spec.specs.Transcript.{Act, HandedOut}
+use Rattle.qh_exchange.specs.Ends.{End, HasKept, StandsSince, key_of}
+use Rattle.qh_exchange.specs.Timed.{IsTimedBy}
 
 -- ---- what the link gives and takes
 
@@ -28,9 +34,14 @@ pub record AreSent (side : Side) (count : ℕ) (events : List Event) : Type 0 wh
 
 -- ---- one call
 
--- a datagram was handed in; where the call failed, it may not have been
-abbrev pub IsHandedIn : (is_whole : Bool) → List ℕ → (old new : End) → Type 0
-IsHandedIn is_whole d old new = MatchBool is_whole (IsMadeBy old new (HandedIn d ∷ [])) (IsMadeBy old new [] ⊎ IsMadeBy old new (HandedIn d ∷ []))
+-- Calls made the end the other, and these acts are what they add: it is the same end, and stands to all that was done with it as it stood
+-- before; and what is known of all that holds on.
+pub record IsMadeBy (old new : End) (acts : List Act) : Type 0 where
+  pub same : IsSameConnection key_of old new
+  pub whole : IsWhole new
+  pub carries : CarriesOnBy plain_accepts plain_sealed old new acts
+  pub kept : (id_length : ℕ) (t : List Act) → length old.core.local_id ≡ id_length → StandsSince old.core.side old t → HasKept old.core.side id_length old t
+      → HasKept old.core.side id_length new (t ++ acts)
 
 -- what an end did that was asked for a datagram and answered so: it handed it out, where there is one
 abbrev pub polled_acts : List ℕ → Result Bool OutOfMemory → List Act
@@ -38,32 +49,65 @@ polled_acts datagram (Ok true) = HandedOut datagram ∷ []
 polled_acts datagram (Ok false) = []
 polled_acts datagram (Err e) = []
 
+-- ---- what no datagram tells
+
+-- so many two-way streams were opened by the end, none before it was greeted; so many of the peer's were accepted, likewise
+abbrev pub HasOpenedCount : ℕ → End → Type 0
+HasOpenedCount n c = (c.core.space.streams.bi.opened ≡ n) × (c.handshake.peer ≡ None → n ≡ 0)
+
+abbrev pub HasAcceptedCount : ℕ → End → Type 0
+HasAcceptedCount n c = (c.core.space.streams.bi.accepted ≡ n) × (c.handshake.peer ≡ None → n ≡ 0)
+
+-- a call leaves the counts of what this end opened and accepted
+pub record KeepsCounts (c d : End) : Type 0 where
+  pub opened : (n : ℕ) → HasOpenedCount n c → HasOpenedCount n d
+  pub accepted : (n : ℕ) → HasAcceptedCount n c → HasAcceptedCount n d
+
+-- A call at this moment leaves those counts, and the idle time, which it may restart, but for what the peer's hello makes of it; and the end
+-- isn't lost by its idle time.
+pub record IsUndisturbedBy (now : Moment) (c d : End) : Type 0 where
+  pub counts : KeepsCounts c d
+  pub times : (own : Option Span) → IsTimedBy own c → IsTimedBy own d
+  pub since : (d.core.idle.since ≡ c.core.idle.since) ⊎ (d.core.idle.since ≡ now)
+  pub timed_out : d.core.error ≡ Some lost.TimedOut → c.core.error ≡ Some lost.TimedOut
+
+-- an honest end is honest behind what calls did that handed no datagram in, and is no less so to a peer
+abbrev pub KeepsHonest : (old new : End) → List Act → Type 0
+KeepsHonest old new acts = (hello : List ℕ) (t : List Act) → IsHonestEnd plain_accepts plain_sealed hello old t → IsHonestEnd plain_accepts plain_sealed hello new (t ++ acts)
+
 -- ---- the moments that are due
 
--- the events of an end were taken, and no more was done
+-- taking events of an end did no more than this
 pub record IsPolledOut (old new : End) : Type 0 where
-  pub same_end : IsSameEnd old new
-  pub counts : HaveSameCounts old.space.streams new.space.streams
-  pub idle_is : new.idle ≡ old.idle
-  pub error_is : new.error ≡ old.error
-  pub state_is : new.state ≡ old.state
-  pub session_is : new.session ≡ old.session
   pub made : IsMadeBy old new []
+  pub counts : KeepsCounts old new
+  pub idle_is : new.core.idle ≡ old.core.idle
+  pub error_is : new.core.error ≡ old.core.error
+  pub state_is : new.core.state ≡ old.core.state
+  pub handshake_is : new.handshake ≡ old.handshake
+  pub honest : KeepsHonest old new []
 
--- an idle time is set, and passed by this moment
+-- an idle time is set, and passed by this moment, of an end that is open
 pub record HasWaited (now : ℕ) (c : End) : Type 0 where
+  pub up : is_open c.core.state ≡ true
   pub span : Span
-  pub timeout_is : c.idle.timeout ≡ Some span
-  pub passed : c.idle.since.0 + span.0 ≤ now
+  pub timeout_is : c.core.idle.timeout ≡ Some span
+  pub passed : c.core.idle.since.0 + span.0 ≤ now
 
--- the moments that were due did no more than this
-pub record IsTicked (now : ℕ) (old new : End) : Type 0 where
-  pub same_end : IsSameEnd old new
-  pub session_is : new.session ≡ old.session
-  pub counts : HaveSameCounts old.space.streams new.space.streams
-  pub idle_is : new.idle ≡ old.idle
-  pub timed_out : new.error ≡ Some lost.TimedOut → (old.error ≡ Some lost.TimedOut) ⊎ HasWaited now old
-  pub failed : old.error ≡ Some lost.Memory → new.error ≡ Some lost.Memory
-  pub kept : (e : ConnectionError) → new.error ≡ Some e → (old.error ≡ Some e) ⊎ (e ≡ lost.TimedOut)
+-- What was due was done, and this is known of it.
+pub record IsDueDone (now : ℕ) (old new : End) : Type 0 where
   pub due : IsTimedOut now old new
+  pub counts : KeepsCounts old new
+  pub idle_is : new.core.idle ≡ old.core.idle
+  pub peer_is : new.handshake.peer ≡ old.handshake.peer
+  pub retry_is : new.handshake.retry_id ≡ old.handshake.retry_id
+  pub remote_is : new.handshake.remote_id ≡ old.handshake.remote_id
+  pub timed_out : new.core.error ≡ Some lost.TimedOut → (old.core.error ≡ Some lost.TimedOut) ⊎ HasWaited now old
+  pub kept : (e : ConnectionError) → new.core.error ≡ Some e → (old.core.error ≡ Some e) ⊎ (e ≡ lost.TimedOut)
+  pub opens : is_open new.core.state ≡ true → is_open old.core.state ≡ true
+  pub honest : is_open new.core.state ≡ true → KeepsHonest old new []
+
+-- What was due was done, or want of memory ended the end.
+pub record IsTicked (now : ℕ) (old new : End) : Type 0 where
   pub made : IsMadeBy old new []
+  pub done : (new.core.error ≡ Some lost.Memory) ⊎ IsDueDone now old new

@@ -1,48 +1,59 @@
 -- Turns in which all was done that could be.
-use Rattle.std.specs.Prelude.{◌≡◌, ◌⊎◌, ℕ, zero, suc, false, List, [], ◌++◌, Option, Some, None, length}
+use Rattle.std.specs.Prelude.{◌≡◌, ◌⊎◌, ℕ, zero, suc, true, false, List, [], ◌++◌, Option, Some, None, is_some, length}
 use Rattle.qh_conduct.specs.Calls.{ToldTheSame}
-use Rattle.qh_core.specs.Sending.{NothingIsSent}
+use Rattle.qh_conn.specs.Outgoing.{IsSilent, IsStill}
 use Rattle.qh_roles.specs.Client.{PlainClient}
 use Rattle.qh_roles.specs.ClientSteps.{MayOpenNone}
 use Rattle.qh_spec.specs.declared.link.Event.{Event}
 use Rattle.qh_spec.specs.declared.sides.Side.{Side}
 use Rattle.qh_spec.specs.declared.sides.Side.TheVariants.{Client, Server}
-use Rattle.qh_spec.specs.Link.{sent_by}
+use Rattle.qh_spec.specs.Link.{given_to, sent_by}
+use Rattle.qh_spec.specs.Lists.{In}
 use Rattle.qh_spec.specs.Turns.{IsWholeTurn}
 use Rattle.qh_spec.specs.Message.{PlainMessage}
 use Rattle.qh_spec.specs.Record.{PlainEntry}
-use Rattle.qh_exchange.specs.Pair.{End, PairState, Running}
+use Rattle.qh_exchange.specs.Ends.{End}
+use Rattle.qh_exchange.specs.Pair.{PairState, Running}
+use Rattle.qh_exchange.specs.Sound.{IsFirst}
+use Rattle.qh_exchange.specs.declared.ends.Ids.{Ids}
 
--- an end was asked for a datagram, and has none to send
+-- an end was asked for a datagram, and has none to send; or there is none
 abbrev pub HasNothingToSend : Option End → Type 0
-HasNothingToSend None = ⊥
-HasNothingToSend (Some d) = (c : End) × NothingIsSent c d
+HasNothingToSend None = Unit {0}
+HasNothingToSend (Some d) = (c : End) × IsStill c d × IsSilent c
+
+-- if a client's first datagram was given to a side, this holds
+abbrev pub OpensBy : Ids → Side → List Event → Type 0 → Type 0
+OpensBy ids side events There = (d : List ℕ) → In d (given_to side events) → IsFirst ids d → There
 
 -- all was sent that an end has, or as many datagrams as a turn may have
 abbrev pub IsSentOut : Side → (new : Option End) → List Event → Type 0
 IsSentOut side new more = (length (sent_by side more) ≡ 4096) ⊎ HasNothingToSend new
 
--- the peer permits as many streams as before, and as many of its own arrived
+-- it is greeted exactly if it was, the peer permits as many streams as before, and as many of its own arrived
 abbrev pub ToldAsBefore : (old new : Option End) → Type 0
-ToldAsBefore (Some c) (Some d) = ToldTheSame c.space.streams d.space.streams
+ToldAsBefore (Some c) (Some d) = (d.handshake.peer ≡ c.handshake.peer) × ToldTheSame c.core.space.streams d.core.space.streams
 ToldAsBefore (Some c) None = ⊥
-ToldAsBefore None new = ⊥
+ToldAsBefore None None = Unit {0}
+ToldAsBefore None (Some d) = ⊥
 
--- each request has a stream, or the peer permits no more, or the connection is closed
+-- each request has a stream, or the peer permits no more, or the connection is closed, or the client isn't greeted
 abbrev pub AsksWhereItMay : PlainClient → Option End → Type 0
 AsksWhereItMay c None = ⊥
-AsksWhereItMay c (Some end) = (c.next ≡ length c.requests) ⊎ MayOpenNone end
+AsksWhereItMay c (Some end) = (end.handshake.peer ≡ None) ⊎ ((c.next ≡ length c.requests) ⊎ MayOpenNone end.core)
 
--- each stream that arrived was accepted
+-- each stream that arrived was accepted, or the server isn't greeted, or isn't there
 abbrev pub HasAcceptedWhatArrived : Option End → Type 0
-HasAcceptedWhatArrived None = ⊥
-HasAcceptedWhatArrived (Some end) = end.space.streams.bi.accepted ≡ end.space.streams.bi.arrived
+HasAcceptedWhatArrived None = Unit {0}
+HasAcceptedWhatArrived (Some end) = (end.handshake.peer ≡ None) ⊎ (end.core.space.streams.bi.accepted ≡ end.core.space.streams.bi.arrived)
 
--- a whole turn that left the pair so: each end sent all that it had, the client asks wherever it may, and the server accepted each stream
+-- A whole turn that left the pair so: the client's end is there, and the server's, if a client's first datagram was given to it; each end sent
+-- all that it had, the client asks wherever it may, and the server accepted each stream.
 pub record IsFullTurn (p : PairState) (events : List Event) : Type 0 where
   pub turn : IsWholeTurn events
   pub client_sent : IsSentOut Client p.client_end turn.by_client
   pub server_sent : IsSentOut Server p.server_end turn.by_server
+  pub opened : OpensBy p.ids Server turn.to_server (is_some p.server_end ≡ true)
   pub asks : AsksWhereItMay p.client p.client_end
   pub accepts : HasAcceptedWhatArrived p.server_end
 

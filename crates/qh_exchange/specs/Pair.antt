@@ -1,13 +1,7 @@
 -- How a pair stands to what happened on its link, and what its service recorded, since it was opened. No object stores
 -- these lists.
 use Rattle.std.specs.Prelude.{◌≡◌, ℕ, ◌^◌, ◌≤◌, Bool, true, false, not, List, [], ◌∷◌, ◌++◌, Option, Some, None, Result, length, filter, slice_get, MatchBool}
-use Rattle.qh_arrival.specs.Accord.{Accords}
-use Rattle.qh_conduct.specs.Peers.{TakesFrom}
-use Rattle.qh_core.specs.Config.{peer_of}
-use Rattle.qh_core.specs.Made.{AreMade}
-use Rattle.qh_core.specs.declared.config.ConnConfig.{ConnConfig}
-use Rattle.qh_core.specs.declared.inner.Inner.{Inner}
-use Rattle.qh_packet.specs.Session.{PlainKeys, plain_accepts, plain_sealed}
+use Rattle.qh_conn.specs.declared.config.ConnConfig.{ConnConfig}
 use Rattle.qh_roles.specs.Client.{PlainClient, Asking, HasOpened}
 use Rattle.qh_roles.specs.Server.{PlainServer, Serving, HasAccepted}
 use Rattle.qh_spec.specs.declared.link.Event.{Event}
@@ -20,31 +14,21 @@ use Rattle.qh_spec.specs.Link.{if_same_side}
 use Rattle.qh_spec.specs.Message.{PlainMessage}
 use Rattle.qh_spec.specs.Record.{PlainEntry}
 use Rattle.qh_spec.specs.Transcript.{Act, HandedIn, HandedOut}
-use Rattle.qh_exchange.specs.Sound.{EndsFairly, IsSoundAt}
+use Rattle.qh_exchange.specs.Ends.{End, Stands}
+use Rattle.qh_exchange.specs.Hellos.{AreGreetedAsSet, AreGreetedFirst}
+use Rattle.qh_exchange.specs.Sound.{AreSound, EndsFairly, IsHeardAt}
 use Rattle.qh_exchange.specs.Within.{KeptWithin}
 use Rattle.qh_exchange.specs.declared.ends.Ids.{Ids}
 use Rattle.qh_exchange.specs.declared.error.ExchangeError.{ExchangeError}
 
--- an end of a connection with a plain session
-abbrev pub End : Type 0
-End = Inner PlainKeys
-
--- calls made the end the other, and these acts are what they add
-abbrev pub IsMadeBy : (old new : End) → List Act → Type 0
-IsMadeBy old new acts = AreMade plain_accepts plain_sealed old new acts
-
--- the end stands so to all that was done with it
-abbrev pub EndAccords : End → List Act → Type 0
-EndAccords c t = Accords (plain_accepts c.session) (plain_sealed c.session) c t
-
 pub record PairState : Type 0 where
-  -- the connection ids of the two ends, of one length, and the one that their tags are made of
+  -- the connection ids of the two ends, of one length, and the one that the client chooses for its server, of which their tags are made
   pub ids : Ids
   -- what both ends begin with
   pub config : ConnConfig
   pub client : PlainClient
   pub server : PlainServer
-  -- the two ends, from the first turn on
+  -- the client's end, from the first turn on, and the server's, from the client's first datagram on
   pub client_end : Option End
   pub server_end : Option End
   -- a turn answered an error, or is being made
@@ -55,19 +39,6 @@ abbrev pub id_length : PairState → ℕ
 id_length p = length p.ids.client
 
 -- ---- an end and its acts
-
--- this side's end, between ids of this length, with a key id as long as a connection id may be (RFC 9000, section 17.2)
-pub record IsEndOf (side : Side) (id_length : ℕ) (config : ConnConfig) (c : End) : Type 0 where
-  pub side_is : c.side ≡ side
-  pub local : length c.local_id ≡ id_length
-  pub remote : length c.remote_id ≡ id_length
-  pub config_is : c.config ≡ config
-  pub short : length c.session.key_id ≤ 20
-
--- an end stands where this transcript leaves it; one that isn't there has none
-abbrev pub Stands : Side → ℕ → ConnConfig → Option End → List Act → Type 0
-Stands side id_length config None t = t ≡ []
-Stands side id_length config (Some c) t = IsEndOf side id_length config c × EndAccords c t
 
 -- the acts that hand datagrams in and out, in order
 abbrev pub is_wire : Act → Bool
@@ -87,10 +58,9 @@ told_acts s (Dry t ∷ es) = told_acts s es
 told_acts s (Round n ∷ es) = told_acts s es
 told_acts s (Fault ∷ es) = told_acts s es
 
--- The wire saw what the link tells. Where a call failed, the last datagram was given and not handed in, or handed out and not sent.
+-- The wire saw what the link tells. Where a call failed, the last datagram was handed out and not sent.
 pub data IsTold (side : Side) (events : List Event) (t : List Act) : Type 0 where
   all : wire t ≡ told_acts side events → IsTold side events t
-  unhanded : (d : List ℕ) → told_acts side events ≡ wire t ++ HandedIn d ∷ [] → IsTold side events t
   unsent : (d : List ℕ) → wire t ≡ told_acts side events ++ HandedOut d ∷ [] → IsTold side events t
 
 -- the wire saw all that the link tells, where no call failed
@@ -98,8 +68,8 @@ abbrev pub IsToldIf : Bool → Side → List Event → List Act → Type 0
 IsToldIf is_whole side events t = MatchBool is_whole (wire t ≡ told_acts side events) (IsTold side events t)
 
 -- an end with its transcript, of which the events tell
-pub record EndAt (is_whole : Bool) (side : Side) (id_length : ℕ) (config : ConnConfig) (end : Option End) (events : List Event) (t : List Act) : Type 0 where
-  pub stands : Stands side id_length config end t
+pub record EndAt (is_whole : Bool) (side : Side) (ids : Ids) (config : ConnConfig) (end : Option End) (events : List Event) (t : List Act) : Type 0 where
+  pub stands : Stands side ids config end t
   pub told : IsToldIf is_whole side events t
 
 -- ---- a pair
@@ -107,22 +77,22 @@ pub record EndAt (is_whole : Bool) (side : Side) (id_length : ℕ) (config : Con
 -- as many streams were opened as the client says; none where there is no end
 abbrev pub HasOpenedEnd : PlainClient → Option End → Type 0
 HasOpenedEnd c None = c.next ≡ 0
-HasOpenedEnd c (Some end) = HasOpened c end
+HasOpenedEnd c (Some end) = HasOpened c end.core
 
 -- as many streams were accepted as the server says
 abbrev pub HasAcceptedEnd : PlainServer → Option End → Type 0
 HasAcceptedEnd s None = s.accepted ≡ 0
-HasAcceptedEnd s (Some end) = HasAccepted s end
+HasAcceptedEnd s (Some end) = HasAccepted s end.core
 
 pub record ClientAt (is_whole : Bool) (p : PairState) (events : List Event) : Type 0 where
   pub acts : List Act
-  pub at : EndAt is_whole Client (id_length p) p.config p.client_end events acts
+  pub at : EndAt is_whole Client p.ids p.config p.client_end events acts
   pub asking : Asking p.client acts
   pub opened : HasOpenedEnd p.client p.client_end
 
 pub record ServerAt (is_whole : Bool) (p : PairState) (events : List Event) (entries : List PlainEntry) : Type 0 where
   pub acts : List Act
-  pub at : EndAt is_whole Server (id_length p) p.config p.server_end events acts
+  pub at : EndAt is_whole Server p.ids p.config p.server_end events acts
   pub serving : Serving p.server entries acts
   pub accepted : HasAcceptedEnd p.server p.server_end
 
@@ -131,20 +101,24 @@ pub record IsRunning (is_whole : Bool) (p : PairState) (events : List Event) (en
   pub client : ClientAt is_whole p events
   pub server : ServerAt is_whole p events entries
 
--- The limits are such that a frame can say them, and each end knows the other's; so is the key; either takes the DATAGRAM frames that the
--- other may send; each end is sound.
-pub record IsSound (p : PairState) (events : List Event) : Type 0 where
+-- The counts of streams in the settings are such as a frame can say; the ids are of one length; and the two ends are sound, by all that was
+-- done with them.
+pub record IsSound (p : PairState) (t u : List Act) (events : List Event) : Type 0 where
   pub fits : (p.config.limits.max_bidi ≤ 2 ^ 60) × (p.config.limits.max_uni ≤ 2 ^ 60)
-  pub knows : p.config.peer ≡ peer_of p.config.limits
-  pub takes : TakesFrom p.config p.config
-  pub lengths : (length p.ids.server ≡ length p.ids.client) × (length p.ids.key ≤ 20)
-  pub client : IsSoundAt Client p.ids p.config p.client_end events
-  pub server : IsSoundAt Server p.ids p.config p.server_end events
+  pub lengths : length p.ids.server ≡ length p.ids.client
+  pub ends : AreSound p.ids p.config p.client_end p.server_end t u
+  pub client : IsHeardAt Client (id_length p) p.config p.client_end events
+  pub server : IsHeardAt Server (id_length p) p.config p.server_end events
+
+-- the pair stands there, with sound ends
+pub record IsRunningSoundly (p : PairState) (events : List Event) (entries : List PlainEntry) : Type 0 where
+  pub run : IsRunning true p events entries
+  pub sound : IsSound p run.client.acts run.server.acts events
 
 -- and over an honest link its ends are sound
 pub record RunsOn (p : PairState) (events : List Event) (entries : List PlainEntry) : Type 0 where
   pub running : IsRunning (not p.is_over) p events entries
-  pub sound : p.is_over ≡ false → IsHonest events → IsSound p events
+  pub soundly : p.is_over ≡ false → IsHonest events → IsRunningSoundly p events entries
 
 unfoldable pub Running : PairState → List Event → List PlainEntry → Type 0
 Running p events entries = RunsOn p events entries
@@ -176,13 +150,17 @@ IsFair old told_before told_after result = (earlier events more : List Event) (e
 -- ---- what it means
 
 -- What a pair means over an honest link: no request was served twice or altered, each that was served was whole in what
--- the server was given, and each answer that is held is the one recorded and was whole in what the client was given.
+-- the server was given, and each answer that is held is the one recorded and was whole in what the client was given. Each hello that came to a
+-- side whole is such as the other says; and both sides were greeted before the first 1-RTT packet.
 pub record Means (p : PairState) (events : List Event) (before entries : List PlainEntry) : Type 0 where
   pub served : ServedOnce (id_length p) events p.client.requests before (before ++ entries)
   pub answered : (index : ℕ) (answer : PlainMessage) → slice_get p.client.answers index ≡ Some (Some answer)
       → IsRecordedAnswer (id_length p) events entries index answer
+  pub as_set : AreGreetedAsSet (id_length p) p.config events
+  pub greeted_first : AreGreetedFirst (id_length p) events
 
--- the STREAM and RESET_STREAM frames of each datagram that was sent kept within the limits that its sender was given before, over any link
-abbrev pub KeepWithin : ℕ → ConnConfig → List Event → Type 0
-KeepWithin id_length config events = (before after : List Event) (side : Side) (datagram : List ℕ) → events ≡ before ++ Sent side datagram ∷ after
-    → KeptWithin id_length config side before datagram
+-- The STREAM and RESET_STREAM frames of each datagram that was sent kept within what was announced to its sender before, over any link whose
+-- whole hellos are such as the ends say.
+abbrev pub KeepWithin : ℕ → List Event → Type 0
+KeepWithin id_length events = (before after : List Event) (side : Side) (datagram : List ℕ) → events ≡ before ++ Sent side datagram ∷ after
+    → KeptWithin id_length side before datagram

@@ -24,9 +24,10 @@ use Rattle.qh_exchange.specs.Ending.{error_line, error_status, read_fault_line, 
 use Rattle.qh_exchange.specs.Exchange.{IfInvalid, IfLink, IfOutOfRounds, IfProtocol, IfTimedOut, IsInvalidAnswer}
 use Rattle.qh_exchange.specs.Pair.{KeepWithin}
 use Rattle.qh_exchange.specs.Reading.{HasRead, IsRead, IsInput, IsAppended, IsWritten}
-use Rattle.qh_exchange.specs.Settings.{conn_config}
+use Rattle.qh_exchange.specs.Hellos.{AreGreetedAsSet, AreGreetedFirst, AreSaidAsSet, HaveIdsOfLength, LeaveIdleTime}
+use Rattle.qh_exchange.specs.Settings.{conn_config, whole_idle}
 use Rattle.qh_exchange.specs.Sound.{EndsFairly}
-use Rattle.qh_exchange.specs.Turn.{EndsInFault, RanOut, WasIdle, WasLost, has_link_failed}
+use Rattle.qh_exchange.specs.Turn.{EndsInFault, HasWaitedFor, RanOut, WasIdle, WasLost, has_link_failed}
 use Rattle.qh_exchange.specs.Unbuilt.{IsUnbuiltAt}
 
 -- ---- what is done
@@ -44,8 +45,14 @@ pub record HasRun (s : Script) (link : PlainLink) (served : List PlainEntry) (re
   pub served_once : IsUnforged s.schedule → ServedOnce s.config.local_id_len link.events s.requests [] served
   pub answered_once : IsUnforged s.schedule → IfOk result (λ answers. AnsweredOnce s.config.local_id_len link.events s.requests [] served answers)
   pub echoes : AreEchoes s.config.max_response_body served
-  -- what an end sent in STREAM and RESET_STREAM frames kept within what it was given before, whatever the schedule does
-  pub kept_within : KeepWithin s.config.local_id_len (conn_config s.config) link.events
+  -- Both ends were greeted before either sent a byte of a stream, and each hello that came whole says what the settings do.
+  pub greeted_first : IsUnforged s.schedule → AreGreetedFirst s.config.local_id_len link.events
+  pub as_set : IsUnforged s.schedule → AreGreetedAsSet s.config.local_id_len (conn_config s.config) link.events
+  -- So does each that was sent, whatever the schedule does.
+  pub said_as_set : AreSaidAsSet s.config.local_id_len (conn_config s.config) link.events
+  -- If no whole hello came with an id of another length, what an end sent in STREAM and RESET_STREAM frames kept within what was announced to it
+  -- before.
+  pub kept_within : HaveIdsOfLength s.config.local_id_len link.events → KeepWithin s.config.local_id_len link.events
   -- an answer to each request; a script without requests is answered, with nothing sent
   pub count : IfOk result (λ answers. length answers ≡ length s.requests)
   pub empty : s.requests ≡ [] → IsOk result × (link.events ≡ []) × (served ≡ [])
@@ -55,10 +62,11 @@ pub record HasRun (s : Script) (link : PlainLink) (served : List PlainEntry) (re
   pub invalid : IfInvalid result (λ index. IsFaultIndex s.config.max_requests s.config.max_field_section_size s.config.max_request_body s.requests index × (link.events ≡ []) × (served ≡ []))
   pub not_valid : (IsValidList s.config.max_requests s.config.max_field_section_size s.config.max_request_body s.requests → ⊥) → IsInvalidAnswer result (IsUndecidedList s.config.max_requests s.config.max_field_section_size s.config.max_request_body s.requests)
       × (link.events ≡ []) × (served ≡ [])
-  pub timed_out : IfTimedOut result (WasIdle (conn_config s.config).idle [] (moments_of link.events))
+  pub timed_out : LeaveIdleTime s.config.local_id_len (conn_config s.config) link.events → IfTimedOut result (WasIdle (whole_idle (conn_config s.config).idle) [] (moments_of link.events))
+  pub waited : IfTimedOut result (HasWaitedFor (conn_config s.config).idle [] (moments_of link.events))
   pub fair : IsUnforged s.schedule → EndsFairly s.config.local_id_len (conn_config s.config).idle link.events result
-  pub lost : IfProtocol result (WasLost s.requests (Some []) (Some link.events) [] served)
-  pub out_of_rounds : IfOutOfRounds result (RanOut (rounds_of s) s.requests (Some []) (Some link.events) [] (moments_of link.events) [] served)
+  pub lost : IfProtocol result (WasLost s.config.local_id_len (conn_config s.config) s.requests (Some []) (Some link.events) [] served)
+  pub out_of_rounds : IfOutOfRounds result (RanOut s.config.local_id_len (conn_config s.config) (rounds_of s) s.requests (Some []) (Some link.events) [] (moments_of link.events) [] served)
 
 -- the bench is as it was when the run began
 pub record IsAsAtEntry (link_before link : PlainLink) (served : List PlainEntry) : Type 0 where

@@ -1,6 +1,6 @@
 -- What the rounds of an exchange leave of its pair.
 use Rattle.std.specs.Prelude.{◌≡◌, ◌≢◌, ◌<◌, ℕ, suc, false, List, [], ◌++◌, Option, Some, Result, IfErr, IfOk, length}
-use Rattle.qh_core.specs.declared.config.ConnConfig.{ConnConfig}
+use Rattle.qh_conn.specs.declared.config.ConnConfig.{ConnConfig}
 use Rattle.qh_roles.specs.Client.{held}
 use Rattle.qh_service.specs.declared.service.Limits.{Limits}
 use Rattle.qh_spec.specs.declared.link.Event.{Event}
@@ -13,7 +13,7 @@ use Rattle.qh_exchange.specs.Exchange.{IfOutOfRounds, IfProtocol, IfTimedOut}
 use Rattle.qh_exchange.specs.Full.{AreFullTurns, EndsInFullTurn}
 use Rattle.qh_exchange.specs.Pair.{PairState, Running, GoesOn, id_length}
 use Rattle.qh_exchange.specs.Sound.{EndsFairly}
-use Rattle.qh_exchange.specs.Turn.{Adds, IsProtocolLoss, WasIdle}
+use Rattle.qh_exchange.specs.Turn.{Adds, IsProtocolLoss, WasTimedOut}
 use Rattle.qh_exchange.specs.declared.error.ExchangeError.{ExchangeError}
 use Rattle.qh_exchange.specs.declared.error.ExchangeError.TheVariants.{Invalid}
 
@@ -49,9 +49,11 @@ pub record RoundsMade (rounds : ℕ) (old new : PairState) (told_before told_aft
     (result : Result (Unit {0}) ExchangeError) : Type 0 where
   pub goes : GoesOn old told_before served_before new told_after served_after
   pub requests : new.client.requests ≡ old.client.requests
+  pub config_is : new.config ≡ old.config
+  pub ids : new.ids ≡ old.ids
   pub all : IfOk result (λ _. held new.client.answers ≡ length new.client.requests)
   pub out : IfOutOfRounds result (IsRunOut rounds old new told_before told_after moments_before moments_after served_before)
-  pub timed_out : IfTimedOut result (WasIdle old.config.idle moments_before moments_after)
+  pub timed_out : IfTimedOut result (WasTimedOut new moments_before moments_after)
   pub lost : IfProtocol result (λ e. IsProtocolLoss e new)
   pub errors : IfErr result IsRoundsError
 

@@ -1,14 +1,15 @@
 -- What the steps of a turn do (own).
-use Rattle.std.specs.Prelude.{◌≡◌, ◌⊎◌, ℕ, ◌≤◌, Bool, true, false, List, [], ◌++◌, ◌∷◌, Option, Some, None, Result, Ok, Err, IfOk, MatchBool, MatchOption, is_some, length}
+use Rattle.std.specs.Prelude.{◌≡◌, ◌⊎◌, ℕ, ◌≤◌, ◌^◌, Bool, true, false, List, [], ◌++◌, ◌∷◌, Option, Some, None, Result, Ok, Err, IfOk, MatchBool, is_some, length}
 use Rattle.qh_base.specs.declared.connection_error.ConnectionError.{ConnectionError}
 use Rattle.qh_base.specs.declared.connection_error.ConnectionError.TheVariants as lost
 use Rattle.qh_base.specs.declared.time.Moment.{Moment}
 use Rattle.qh_base.specs.declared.time.Span.{Span}
-use Rattle.qh_conduct.specs.Peers.{AreLinked, ArePeers}
-use Rattle.qh_conduct.specs.Restarting.{AreSealed, IsCounting, IsSealedTo}
-use Rattle.qh_core.specs.Inner.{HaveSameCounts, IsSameEnd, is_open, with_streams}
-use Rattle.qh_core.specs.Timers.{IsTimedOut, IsUndisturbed}
-use Rattle.qh_core.specs.declared.config.ConnConfig.{ConnConfig}
+use Rattle.qh_conduct.specs.Restarting.{IsCounting}
+use Rattle.qh_conn.specs.Whole.{Stands as ConnStands}
+use Rattle.qh_conn.specs.declared.config.ConnConfig.{ConnConfig}
+use Rattle.qh_core.specs.Inner.{is_open, with_streams}
+use Rattle.qh_packet.specs.Session.{plain_accepts, plain_sealed}
+use Rattle.qh_peers.specs.Ends.{IsHonestEnd}
 use Rattle.qh_roles.specs.Client.{PlainClient, Asking, HasOpened}
 use Rattle.qh_roles.specs.Going.{WentFrom}
 use Rattle.qh_roles.specs.Server.{PlainServer, HasAccepted, ServerStep}
@@ -18,19 +19,20 @@ use Rattle.qh_spec.specs.declared.link.Event.TheVariants.{Given}
 use Rattle.qh_spec.specs.declared.sides.Side.{Side}
 use Rattle.qh_spec.specs.declared.sides.Side.TheVariants.{Client, Server}
 use Rattle.qh_spec.specs.Honest.{IsHonest}
-use Rattle.qh_spec.specs.Link.{given_to, other, sent_by, told}
+use Rattle.qh_spec.specs.Link.{given_to, other, told}
 use Rattle.qh_spec.specs.Lists.{In}
 use Rattle.qh_spec.specs.Record.{PlainEntry}
-use Rattle.qh_spec.specs.Tag.{tag_bytes}
 use Rattle.qh_spec.specs.Transcript.{Act, handed_in, handed_out}
 use Rattle.qh_spec.specs.Turns.{IsIntake, IsOutput}
-use Rattle.qh_exchange.specs.Clock.{HasPassed}
-use Rattle.qh_exchange.specs.EndCalls.{HasWaited, IsPolledOut}
+use Rattle.qh_exchange.specs.Clock.{HasTimedOut}
+use Rattle.qh_exchange.specs.EndCalls.{HasAcceptedCount, HasOpenedCount, HasWaited, IsDueDone, IsPolledOut, IsUndisturbedBy, KeepsCounts}
+use Rattle.qh_exchange.specs.Ends.{End, HasKept, IsEndOf, Stands, first_destination, own_id}
 use Rattle.qh_exchange.specs.Error.{error_of_loss}
 use Rattle.qh_exchange.specs.Exchange.{IfTimedOut}
-use Rattle.qh_exchange.specs.Full.{IsSentOut}
-use Rattle.qh_exchange.specs.Pair.{End, EndAccords, IsEndOf, IsRunning, IsSound, IsToldIf, PairState, Stands, told_acts}
-use Rattle.qh_exchange.specs.Sound.{AreBy, own_id}
+use Rattle.qh_exchange.specs.Full.{IsSentOut, OpensBy}
+use Rattle.qh_exchange.specs.Pair.{IsRunning, IsRunningSoundly, IsToldIf, PairState, told_acts}
+use Rattle.qh_exchange.specs.Sound.{AreBy, AreSoundEnds}
+use Rattle.qh_exchange.specs.Timed.{IsTimedBy}
 use Rattle.qh_exchange.specs.Turn.{IsNotLost}
 use Rattle.qh_exchange.specs.declared.ends.Ids.{Ids}
 use Rattle.qh_exchange.specs.declared.error.ExchangeError.{ExchangeError}
@@ -48,102 +50,112 @@ is_done (Err e) = false
 
 -- ---- one end
 
--- an end before its first packet, which opened at this moment
-pub record IsNewEnd (side : Side) (id_length : ℕ) (config : ConnConfig) (now : Moment) (c : End) : Type 0 where
-  pub of : IsEndOf side id_length config c
-  pub accords : EndAccords c []
-  pub opened : c.space.streams.bi.opened ≡ 0
-  pub accepted : c.space.streams.bi.accepted ≡ 0
-  pub since : c.idle.since ≡ now
-  pub timeout : c.idle.timeout ≡ config.idle
-  pub not_lost : c.error ≡ None
-  pub up : is_open c.state ≡ true
-
--- it has these ids, the peer's by its length, and this key
-pub record HasNames (side : Side) (ids : Ids) (c : End) : Type 0 where
-  pub local_is : c.local_id ≡ own_id side ids
-  pub remote_is : length c.remote_id ≡ length (own_id (other side) ids)
-  pub key_is : c.session.key_id ≡ ids.key
+-- an end that opened at this moment, and did nothing yet
+pub record IsNewEnd (side : Side) (ids : Ids) (config : ConnConfig) (now : Moment) (c : End) : Type 0 where
+  pub of : IsEndOf side ids config c
+  pub hello : List ℕ
+  pub stands : ConnStands plain_accepts plain_sealed hello c []
+  pub kept : HasKept side (length ids.client) c []
+  pub honest : (config.limits.max_bidi ≤ 2 ^ 60) × (config.limits.max_uni ≤ 2 ^ 60) → IsHonestEnd plain_accepts plain_sealed hello c []
+  pub key_is : c.core.session.key_id ≡ ids.key
+  pub unretried : c.handshake.retry_id ≡ None
+  pub unknown : c.handshake.peer ≡ None
+  pub there : c.handshake.remote_id ≡ first_destination side ids
+  pub opened : c.core.space.streams.bi.opened ≡ 0
+  pub accepted : c.core.space.streams.bi.accepted ≡ 0
+  pub since : c.core.idle.since ≡ now
+  pub timed : IsTimedBy config.idle c
+  pub not_lost : c.core.error ≡ None
+  pub up : is_open c.core.state ≡ true
 
 -- acts that no writer and no reader of a stream sees
 abbrev pub IsQuiet : List Act → Type 0
 IsQuiet acts = (stream : ℕ) → IsFresh acts stream
 
+-- an end that came to be at this moment
+pub record IsOpenedAt (now : Moment) (idle : Option Span) (d : End) : Type 0 where
+  pub opened : HasOpenedCount 0 d
+  pub accepted : HasAcceptedCount 0 d
+  pub timed : IsTimedBy idle d
+  pub since : d.core.idle.since ≡ now
+  pub timed_out : d.core.error ≡ Some lost.TimedOut → ⊥
+
+-- what no datagram tells is as it was, but where want of memory ended the end; one that wasn't there begins
+abbrev pub IsEndUndisturbed : (is_whole : Bool) → Moment → (idle : Option Span) → (old new : Option End) → Type 0
+IsEndUndisturbed is_whole now idle None None = Unit {0}
+IsEndUndisturbed is_whole now idle None (Some d) = MatchBool is_whole (IsOpenedAt now idle d) (IsOpenedAt now idle d ⊎ (d.core.error ≡ Some lost.Memory))
+IsEndUndisturbed is_whole now idle (Some c) None = ⊥
+IsEndUndisturbed is_whole now idle (Some c) (Some d) = MatchBool is_whole (IsUndisturbedBy now c d) (IsUndisturbedBy now c d ⊎ (d.core.error ≡ Some lost.Memory))
+
+-- the idle time of an end that is there runs from this moment
+abbrev pub IsRestartedAt : Moment → Option End → Type 0
+IsRestartedAt now None = ⊥
+IsRestartedAt now (Some d) = d.core.idle.since ≡ now
+
+-- What more events leave of two sound ends, whose other one did nothing meanwhile: they are sound; and a datagram that counts restarted the
+-- idle time.
+pub record StaysSound (now : Moment) (side : Side) (ids : Ids) (config : ConnConfig) (new peer : Option End) (t acts u : List Act) (more : List Event) : Type 0 where
+  pub ends : AreSoundEnds side ids config new peer (t ++ acts) u
+  pub restarted : (before after : List Event) (datagram : List ℕ) → more ≡ before ++ Given side datagram ∷ after
+      → IsCounting (length (own_id side ids)) (other side) (handed_in t ++ given_to side before) datagram → IsRestartedAt now new
+
+-- so it is where the call went well, and the link gave the end only what its peer handed out
+abbrev pub KeepsSound : (is_whole : Bool) → Moment → Side → Ids → ConnConfig → (old new : Option End) → (t acts : List Act) → List Event → Type 0
+KeepsSound is_whole now side ids config old new t acts more = (peer : Option End) (u : List Act) → is_whole ≡ true → AreSoundEnds side ids config old peer t u
+    → ((datagram : List ℕ) → In datagram (given_to side more) → In datagram (handed_out u)) → StaysSound now side ids config new peer t acts u more
+
 -- behind this transcript the end did quiet acts, of which the events tell
-pub record Did (is_whole : Bool) (side : Side) (id_length : ℕ) (config : ConnConfig) (new : Option End) (t : List Act) (more : List Event) : Type 0 where
+pub record Did (is_whole : Bool) (now : Moment) (side : Side) (ids : Ids) (config : ConnConfig) (old new : Option End) (t : List Act) (more : List Event) : Type 0 where
   pub acts : List Act
   pub quiet : IsQuiet acts
-  pub stands : Stands side id_length config new (t ++ acts)
+  pub stands : Stands side ids config new (t ++ acts)
   pub told : IsToldIf is_whole side more acts
-
--- what no datagram tells is as it was, but where want of memory ended the end
-abbrev pub IsEndUndisturbed : (is_whole : Bool) → Moment → (old new : Option End) → Type 0
-IsEndUndisturbed is_whole now None None = Unit {0}
-IsEndUndisturbed is_whole now None (Some d) = ⊥
-IsEndUndisturbed is_whole now (Some c) None = ⊥
-IsEndUndisturbed is_whole now (Some c) (Some d) = MatchBool is_whole (IsUndisturbed now c d) (IsUndisturbed now c d ⊎ (d.error ≡ Some lost.Memory))
-
--- The two are the ends of one connection, with one key, and open; what came to each was handed out by the other.
-pub record AreJoined (c q : End) (tc tq : List Act) : Type 0 where
-  pub peers : ArePeers c q
-  pub key_is : q.session.key_id ≡ c.session.key_id
-  pub short : length c.session.key_id ≤ 20
-  pub linked : AreLinked tc tq
-  pub accords : EndAccords c tc
-  pub peer_accords : EndAccords q tq
-  pub sealed : AreSealed (tag_bytes q.session.key_id) q tq
-  pub up : is_open c.state ≡ true
-  pub peer_open : is_open q.state ≡ true
-  pub peer_not_lost : q.error ≡ None
-
--- What more events leave of an end that is open: it has its session, and is open; what it sent has its tag; and a datagram that
--- counts restarts its idle time.
-pub record StaysSound (now : Moment) (side : Side) (c d : End) (t : List Act) (more : List Event) : Type 0 where
-  pub same_end : IsSameEnd c d
-  pub session_is : d.session ≡ c.session
-  pub up : is_open d.state ≡ true
-  pub not_lost : d.error ≡ None
-  pub sealed : (datagram : List ℕ) → In datagram (sent_by side more) → IsSealedTo (tag_bytes c.session.key_id) side (length c.remote_id) datagram
-  pub restarted : (before after : List Event) (datagram : List ℕ) → more ≡ before ++ Given side datagram ∷ after
-      → IsCounting (length c.local_id) (other side) (handed_in t ++ given_to side before) datagram → d.idle.since ≡ now
-
--- so it is where the link gave it only what its peer handed out
-abbrev pub KeepsSound : (is_whole : Bool) → Moment → Side → (old new : Option End) → List Event → Type 0
-KeepsSound is_whole now side old new more = (c d q : End) (tc tq : List Act) → old ≡ Some c → new ≡ Some d → is_whole ≡ true → c.side ≡ side → AreJoined c q tc tq
-    → ((datagram : List ℕ) → In datagram (given_to side more) → In datagram (handed_out tq)) → StaysSound now side c d tc more
+  pub sound : KeepsSound is_whole now side ids config old new t acts more
 
 -- an end went on at this moment by what the link tells more, which is of this kind; the other end did nothing meanwhile
-pub record EndStep (is_whole : Bool) (now : Moment) (side : Side) (old new : Option End) (before after : Option (List Event)) (Kind : List Event → Type 0) : Type 0 where
+pub record EndStep (is_whole : Bool) (now : Moment) (side : Side) (ids : Ids) (config : ConnConfig) (old new : Option End) (before after : Option (List Event)) (Kind : List Event → Type 0) : Type 0 where
   pub more : List Event
   pub told_is : after ≡ told before more
   pub kind : Kind more
   pub silent : told_acts (other side) more ≡ []
-  pub does : (id_length : ℕ) (config : ConnConfig) (t : List Act) → Stands side id_length config old t → Did is_whole side id_length config new t more
-  pub undisturbed : IsEndUndisturbed is_whole now old new
-  pub sound : KeepsSound is_whole now side old new more
+  pub does : (t : List Act) → Stands side ids config old t → Did is_whole now side ids config old new t more
+  pub undisturbed : IsEndUndisturbed is_whole now config.idle old new
 
 -- why an end is lost over an honest link
 abbrev pub IsLostFairly : (now : ℕ) → ConnectionError → Option End → Type 0
 IsLostFairly now e None = ⊥
-IsLostFairly now e (Some c) = (e ≡ lost.TimedOut) × HasWaited now c
+IsLostFairly now e (Some c) = (e ≡ lost.Memory) ⊎ ((e ≡ lost.TimedOut) × HasWaited now c)
 
--- the moments that were due did this to an end: its streams and its transcript stay
+-- the counts of an end that isn't lost for want of memory are as they were
+abbrev pub KeepsCountsAt : (old new : Option End) → Type 0
+KeepsCountsAt None None = Unit {0}
+KeepsCountsAt None (Some d) = ⊥
+KeepsCountsAt (Some c) None = ⊥
+KeepsCountsAt (Some c) (Some d) = (d.core.error ≡ Some lost.Memory) ⊎ KeepsCounts c d
+
+-- what was due was done of an end that is there, and then events were taken; or want of memory ended it
+abbrev pub IsDueDoneAt : (now : ℕ) → (old new : Option End) → Type 0
+IsDueDoneAt now None None = Unit {0}
+IsDueDoneAt now None (Some d) = ⊥
+IsDueDoneAt now (Some c) None = ⊥
+IsDueDoneAt now (Some c) (Some d) = (d.core.error ≡ Some lost.Memory) ⊎ ((mid : End) × IsDueDone now c mid × IsPolledOut mid d)
+
+-- the moments that were due did this to an end: its transcript stays
 pub record EndTicked (now : ℕ) (side : Side) (old new : Option End) : Type 0 where
-  pub due : (c : End) → old ≡ Some c → (mid : End) × IsTimedOut now c mid × MatchOption new ⊥ (λ d. IsPolledOut mid d)
-  pub stands : (id_length : ℕ) (config : ConnConfig) (t : List Act) → Stands side id_length config old t → Stands side id_length config new t
-  pub counts : (c : End) → old ≡ Some c → (d : End) × (new ≡ Some d) × HaveSameCounts c.space.streams d.space.streams
-  pub kept : (c d : End) → old ≡ Some c → new ≡ Some d → c.error ≡ Some lost.Memory → d.error ≡ Some lost.Memory
+  pub due : IsDueDoneAt now old new
+  pub stands : (ids : Ids) (config : ConnConfig) (t : List Act) → Stands side ids config old t → Stands side ids config new t
+  pub counts : KeepsCountsAt old new
 
 -- ---- a pair
 
--- as many streams were opened and accepted as the client and the server say, also where want of memory ended an end
+-- as many streams were opened and accepted as the client and the server say, and none before the end was greeted
 abbrev pub HasOpenedAll : PlainClient → Option End → Type 0
 HasOpenedAll c None = c.next ≡ 0
-HasOpenedAll c (Some end) = end.space.streams.bi.opened ≡ c.next
+HasOpenedAll c (Some end) = HasOpenedCount c.next end
 
 abbrev pub HasAcceptedAll : PlainServer → Option End → Type 0
 HasAcceptedAll s None = s.accepted ≡ 0
-HasAcceptedAll s (Some end) = end.space.streams.bi.accepted ≡ s.accepted
+HasAcceptedAll s (Some end) = HasAcceptedCount s.accepted end
 
 pub record IsCounted (p : PairState) : Type 0 where
   pub client : HasOpenedAll p.client p.client_end
@@ -176,43 +188,48 @@ pub record PairStep (now : ℕ) (is_whole : Bool) (old new : PairState) (before 
   pub served_is : served_after ≡ served_before ++ fresh
   pub running : (events : List Event) (entries : List PlainEntry) → IsRunning true old events entries → IsRunning is_whole new (events ++ more) (entries ++ fresh)
   pub counted : is_whole ≡ true → IsCounted new
-  pub sound : is_whole ≡ true → (events : List Event) (entries : List PlainEntry) → IsRunning true old events entries → IsHonest (events ++ more) → AreBy now (events ++ more)
-      → IsSound old events → IsSound new (events ++ more)
+  pub soundly : is_whole ≡ true → (events : List Event) (entries : List PlainEntry) → IsHonest (events ++ more) → AreBy now (events ++ more)
+      → IsRunningSoundly old events entries → IsRunningSoundly new (events ++ more) (entries ++ fresh)
 
 -- nothing passed on the link and nothing was served
 pub record IsStill (old new : PairState) : Type 0 where
   pub same : IsSamePair old new
   pub running : (events : List Event) (entries : List PlainEntry) → IsRunning true old events entries → IsRunning true new events entries
   pub counted : IsCounted new
-  pub sound : (events : List Event) (entries : List PlainEntry) → IsRunning true old events entries → IsSound old events → IsSound new events
+  pub soundly : (events : List Event) (entries : List PlainEntry) → IsRunningSoundly old events entries → IsRunningSoundly new events entries
 
 -- this side's end, of a connection
 abbrev pub IsOnSide : Side → Option End → Type 0
 IsOnSide side None = Unit {0}
-IsOnSide side (Some c) = c.side ≡ side
+IsOnSide side (Some c) = c.core.side ≡ side
 
 -- A client went on at its end, without a datagram.
-pub record ClientPolled (old new : PlainClient) (old_end new_end : Option End) : Type 0 where
-  pub before : End
-  pub after : End
-  pub before_is : old_end ≡ Some before
-  pub after_is : new_end ≡ Some after
-  pub rest : after ≡ with_streams before after.space.streams
+pub record ClientWent (old new : PlainClient) (before after : End) : Type 0 where
+  pub greeted : is_some before.handshake.peer ≡ true
+  pub rest : after ≡ record before { core = with_streams before.core after.core.space.streams }
   pub requests : new.requests ≡ old.requests
   pub places : length new.answers ≡ length old.answers
-  pub opened : HasOpened old before → HasOpened new after
-  pub asks : (start : End) (done t : List Act) → WentFrom start done before t → HasOpened old before → Asking old t → Acted start done (Asking new) after t
+  pub opened : HasOpened old before.core → HasOpened new after.core
+  pub asks : (done t : List Act) → WentFrom before.core done before.core t → HasOpened old before.core → Asking old t → Acted before.core done (Asking new) after.core t
+
+-- It did so, or its end isn't greeted.
+pub data ClientPolled (old new : PlainClient) (old_end new_end : Option End) : Type 0 where
+  went : (before after : End) → old_end ≡ Some before → new_end ≡ Some after → ClientWent old new before after → ClientPolled old new old_end new_end
+  waits : new ≡ old → new_end ≡ old_end → ClientPolled old new old_end new_end
 
 -- A server went on at its end, without a datagram.
-pub record ServerPolled (old new : PlainServer) (old_end new_end : Option End) (served_before served_after : List PlainEntry) : Type 0 where
-  pub before : End
-  pub after : End
-  pub before_is : old_end ≡ Some before
-  pub after_is : new_end ≡ Some after
-  pub rest : after ≡ with_streams before after.space.streams
+pub record ServerWent (old new : PlainServer) (before after : End) (served_before served_after : List PlainEntry) : Type 0 where
+  pub greeted : is_some before.handshake.peer ≡ true
+  pub rest : after ≡ record before { core = with_streams before.core after.core.space.streams }
   pub limits : new.limits ≡ old.limits
-  pub accepted : HasAccepted old before → HasAccepted new after
-  pub serves : HasAccepted old before → ServerStep old new before after served_before served_after
+  pub accepted : HasAccepted old before.core → HasAccepted new after.core
+  pub serves : HasAccepted old before.core → ServerStep old new before.core after.core served_before served_after
+
+-- It did so, or its end isn't greeted, or isn't there.
+pub data ServerPolled (old new : PlainServer) (old_end new_end : Option End) (served_before served_after : List PlainEntry) : Type 0 where
+  went : (before after : End) → old_end ≡ Some before → new_end ≡ Some after → ServerWent old new before after served_before served_after
+      → ServerPolled old new old_end new_end served_before served_after
+  waits : new ≡ old → new_end ≡ old_end → served_after ≡ served_before → ServerPolled old new old_end new_end served_before served_after
 
 -- how a turn ends by what its ends lost, the client's loss first
 abbrev pub ended_by : (client server : Option ConnectionError) → Result (Unit {0}) ExchangeError
@@ -232,9 +249,9 @@ pub record IsTicking (idle : Option Span) (moments : List ℕ) (c : End) : Type 
   pub first : ℕ
   pub rest : List ℕ
   pub are : moments ≡ first ∷ rest
-  pub since : first ≤ c.idle.since.0
-  pub timeout : c.idle.timeout ≡ idle
-  pub not_timed_out : c.error ≡ Some lost.TimedOut → ⊥
+  pub since : first ≤ c.core.idle.since.0
+  pub timed : IsTimedBy idle c
+  pub not_timed_out : c.core.error ≡ Some lost.TimedOut → ⊥
 
 abbrev pub IsEndTicking : Option Span → List ℕ → Option End → Type 0
 IsEndTicking idle moments None = Unit {0}
@@ -268,20 +285,20 @@ pub record TicksOn {T : Type 0} (old new : PairState) (before moments after : Li
   pub more : List ℕ
   pub are : after ≡ before ++ (moments ++ more)
   pub ticking : IfOk result (λ _. AreTicking new (moments ++ more))
-  pub timed_out : IfTimedOut result (HasPassed old.config.idle (moments ++ more))
+  pub timed_out : IfTimedOut result (HasTimedOut new (moments ++ more))
 
--- both ends are there
-pub record IsOpen (p : PairState) : Type 0 where
-  pub client : is_some p.client_end ≡ true
-  pub server : is_some p.server_end ≡ true
+-- the client's end is there
+abbrev pub IsOpen : PairState → Type 0
+IsOpen p = is_some p.client_end ≡ true
 
--- the client takes, and then the server
-pub record AreIntakes (events : List Event) : Type 0 where
+-- the client takes, and then the server, which is there if a client's first datagram was given to it
+pub record AreIntakes (ids : Ids) (is_there : Bool) (events : List Event) : Type 0 where
   pub to_client : List Event
   pub to_server : List Event
   pub are : events ≡ to_client ++ to_server
   pub client_takes : IsIntake Client to_client
   pub server_takes : IsIntake Server to_server
+  pub opened : OpensBy ids Server to_server (is_there ≡ true)
 
 -- the client sends all that it has, and then the server
 pub record AreOutputs (p : PairState) (events : List Event) : Type 0 where

@@ -2,15 +2,18 @@
 use Rattle.std.specs.Prelude.{◌≡◌, ◌≢◌, ◌⊎◌, ◌<◌, ℕ, suc, Bool, true, false, List, [], ◌∷◌, ◌++◌, Option, Some, None, Result, Ok, Err, length}
 use Rattle.qh_base.specs.declared.connection_error.ConnectionError.{ConnectionError}
 use Rattle.qh_base.specs.declared.connection_error.ConnectionError.TheVariants as lost
+use Rattle.qh_conn.specs.declared.config.ConnConfig.{ConnConfig}
+use Rattle.qh_converse.specs.Settled.{idle_of, milliseconds}
 use Rattle.qh_roles.specs.Client.{held}
 use Rattle.qh_spec.specs.declared.link.Event.{Event}
 use Rattle.qh_spec.specs.declared.link.Event.TheVariants.{Fault}
 use Rattle.qh_spec.specs.Message.{PlainMessage}
 use Rattle.qh_spec.specs.Record.{PlainEntry}
 use Rattle.qh_spec.specs.Turns.{AreWholeTurns}
-use Rattle.qh_exchange.specs.Clock.{HasPassed}
+use Rattle.qh_exchange.specs.Clock.{HasPassed, HasTimedOut}
 use Rattle.qh_exchange.specs.Full.{AreFullTurns, EndsInFullTurn}
-use Rattle.qh_exchange.specs.Pair.{End, PairState, Running}
+use Rattle.qh_exchange.specs.Ends.{End}
+use Rattle.qh_exchange.specs.Pair.{PairState, Running}
 use Rattle.qh_exchange.specs.declared.error.ExchangeError.{ExchangeError}
 use Rattle.qh_exchange.specs.declared.error.ExchangeError.TheVariants.{Invalid, Link, OutOfRounds}
 use Rattle.qh_base.specs.declared.time.Span.{Span}
@@ -48,11 +51,11 @@ IsTurnError _ = Unit {0}
 -- the end is lost, with this error
 abbrev pub IsLostWith : ConnectionError → Option End → Type 0
 IsLostWith e None = ⊥
-IsLostWith e (Some c) = c.error ≡ Some e
+IsLostWith e (Some c) = c.core.error ≡ Some e
 
 abbrev pub IsNotLost : Option End → Type 0
 IsNotLost None = Unit {0}
-IsNotLost (Some c) = c.error ≡ None
+IsNotLost (Some c) = c.core.error ≡ None
 
 -- it is the error of the end that is lost, the client's where both are
 abbrev pub IsKeptError : ConnectionError → PairState → Type 0
@@ -66,16 +69,18 @@ pub record IsProtocolLoss (e : ConnectionError) (p : PairState) : Type 0 where
 
 -- ---- how an exchange ends without its answers
 
--- a pair with these requests stands where these turns leave it
-pub record WasMade (requests : List PlainMessage) (told_before told_after : Option (List Event)) (served_before served_after : List PlainEntry) (p : PairState) : Type 0 where
+-- a pair with these requests and settings stands where these turns leave it
+pub record WasMade (id_length : ℕ) (config : ConnConfig) (requests : List PlainMessage) (told_before told_after : Option (List Event)) (served_before served_after : List PlainEntry) (p : PairState) : Type 0 where
   pub asked : p.client.requests ≡ requests
+  pub config_is : p.config ≡ config
+  pub ids : length p.ids.client ≡ id_length
   pub stands : (events more : List Event) (fresh : List PlainEntry) → told_before ≡ Some events → told_after ≡ Some (events ++ more)
       → served_after ≡ served_before ++ fresh → Running p more fresh
 
 -- There were requests, and exactly so many rounds were made, each a whole turn where the events are told, and for each there is a pair
 -- of which it was a full one. There is a pair that stands where all of them leave it, with fewer answers than requests, and the last
 -- turn was a full one of it. That these are one pair, or the pair that ran, isn't said.
-pub record RanOut (rounds : ℕ) (requests : List PlainMessage) (told_before told_after : Option (List Event)) (moments_before moments_after : List ℕ) (served_before served_after : List PlainEntry) : Type 0 where
+pub record RanOut (id_length : ℕ) (config : ConnConfig) (rounds : ℕ) (requests : List PlainMessage) (told_before told_after : Option (List Event)) (moments_before moments_after : List ℕ) (served_before served_after : List PlainEntry) : Type 0 where
   pub some : requests ≢ []
   pub turns : Adds (AreWholeTurns rounds) told_before told_after
   pub full : Adds (AreFullTurns requests rounds []) told_before told_after
@@ -83,15 +88,15 @@ pub record RanOut (rounds : ℕ) (requests : List PlainMessage) (told_before tol
   pub moments_are : moments_after ≡ moments_before ++ moments
   pub rounds_are : length moments ≡ rounds
   pub pair : PairState
-  pub made : WasMade requests told_before told_after served_before served_after pair
+  pub made : WasMade id_length config requests told_before told_after served_before served_after pair
   pub last : (n : ℕ) → rounds ≡ suc n → Adds (EndsInFullTurn pair) told_before told_after
   pub fewer : held pair.client.answers < length requests
 
 -- there is a pair with these requests, standing where the events and the record leave it, that lost the connection of one of its ends
 -- with this error; that it is the pair that ran isn't said
-pub record WasLost (requests : List PlainMessage) (told_before told_after : Option (List Event)) (served_before served_after : List PlainEntry) (e : ConnectionError) : Type 0 where
+pub record WasLost (id_length : ℕ) (config : ConnConfig) (requests : List PlainMessage) (told_before told_after : Option (List Event)) (served_before served_after : List PlainEntry) (e : ConnectionError) : Type 0 where
   pub pair : PairState
-  pub made : WasMade requests told_before told_after served_before served_after pair
+  pub made : WasMade id_length config requests told_before told_after served_before served_after pair
   pub loss : IsProtocolLoss e pair
 
 -- as long as the idle time passed in this call, from its first round to its last
@@ -99,3 +104,13 @@ pub record WasIdle (idle : Option Span) (moments_before moments_after : List ℕ
   pub moments : List ℕ
   pub are : moments_after ≡ moments_before ++ moments
   pub passed : HasPassed idle moments
+
+-- as long as an idle time of its own passed, or as one that is in force by what some hello says
+abbrev pub HasWaitedFor : (own : Option Span) → (moments_before moments_after : List ℕ) → Type 0
+HasWaitedFor own before after = WasIdle own before after ⊎ ((said : ℕ) × WasIdle (idle_of (milliseconds own) said) before after)
+
+-- an end of this pair waited in this call as long as its idle time, from the first round of the call to the last
+pub record WasTimedOut (p : PairState) (moments_before moments_after : List ℕ) : Type 0 where
+  pub moments : List ℕ
+  pub are : moments_after ≡ moments_before ++ moments
+  pub timed_out : HasTimedOut p moments

@@ -11,9 +11,10 @@ ghost use Rattle.qh_exchange.specs.Clock.{IsClocked};
 ghost use Rattle.qh_exchange.specs.Pair.{KeepWithin};
 ghost use Rattle.qh_exchange.specs.Rounds.{AreFair, IsAsked, RoundsMade};
 ghost use Rattle.qh_roles.specs.Client.{held};
-ghost use Rattle.qh_exchange.specs.Settings.{conn_config, limits_of};
+ghost use Rattle.qh_exchange.specs.Hellos.{AreGreetedAsSet, AreGreetedFirst, AreSaidAsSet, HaveIdsOfLength, LeaveIdleTime};
+ghost use Rattle.qh_exchange.specs.Settings.{conn_config, limits_of, whole_idle};
 ghost use Rattle.qh_exchange.specs.Sound.{EndsFairly};
-ghost use Rattle.qh_exchange.specs.Turn.{AddsFault, RanOut, WasIdle, WasLost, has_link_failed};
+ghost use Rattle.qh_exchange.specs.Turn.{AddsFault, HasWaitedFor, RanOut, WasIdle, WasLost, has_link_failed};
 ghost use Rattle.qh_roles.specs.Server.{GrewByAnswers};
 
 use crate::{Config, ExchangeError, Link, Message, Pair, Service, pairs, valid};
@@ -44,13 +45,23 @@ pub fn exchange<V: Service, L: Link>(
     // given to the server.
     ensures never_twice { (events : List Event) → L.events link.old ≡ Some [] → L.events link.new ≡ Some events → IsHonest events
         → ServedOnce config.now.local_id_len events requests.now (V.served service.old) (V.served service.new) }
-    // Over a fresh honest link no connection is lost but by its idle time, and by that only where nothing that counts came for as long.
+    // Over a fresh honest link no connection is lost but by its idle time or for want of memory, and by its idle time only if nothing that
+    // counts came for as long, rounded down to whole milliseconds.
     ensures fair { (events : List Event) → L.events link.old ≡ Some [] → L.events link.new ≡ Some events → IsHonest events
         → EndsFairly config.now.local_id_len (conn_config config.now).idle events result }
-    // Whatever is answered, over any link, the STREAM and RESET_STREAM frames of each datagram that an end sent kept within the limits
-    // that it was given before.
+    // If the events of this call are honest, both ends were greeted before the first datagram of an end that has a 1-RTT packet, and so
+    // before a byte of a stream.
+    ensures greeted_first { (before more : List Event) → L.events link.old ≡ Some before → L.events link.new ≡ Some (before ++ more) → IsHonest more
+        → AreGreetedFirst config.now.local_id_len more }
+    // If they are, each hello that came to an end whole says what the settings do. So does each that an end sent, over any link.
+    ensures greeted_as_set { (before more : List Event) → L.events link.old ≡ Some before → L.events link.new ≡ Some (before ++ more) → IsHonest more
+        → AreGreetedAsSet config.now.local_id_len (conn_config config.now) more }
+    ensures sent_as_set { (before more : List Event) → L.events link.old ≡ Some before → L.events link.new ≡ Some (before ++ more)
+        → AreSaidAsSet config.now.local_id_len (conn_config config.now) more }
+    // Whatever is answered, over any link that tells its events and gives no whole hello with an id of another length, the STREAM and
+    // RESET_STREAM frames of each datagram that an end sent kept within what was announced to it before.
     ensures within_announced { (before more : List Event) → L.events link.old ≡ Some before → L.events link.new ≡ Some (before ++ more)
-        → KeepWithin config.now.local_id_len (conn_config config.now) more }
+        → HaveIdsOfLength config.now.local_id_len more → KeepWithin config.now.local_id_len more }
     // A link that told its events tells them still.
     ensures told { (events : List Event) → L.events link.old ≡ Some events → (more : List Event) × (L.events link.new ≡ Some (events ++ more)) }
     ensures plan { L.plan link.new ≡ L.plan link.old }
@@ -68,10 +79,16 @@ pub fn exchange<V: Service, L: Link>(
     ensures answers { GrewByAnswers (V.may_answer (limits_of config.now)) (V.served service.old) (V.served service.new) }
     ensures cause { CountsFaults (L.faults link.old) (L.faults link.new) (has_link_failed result) }
     ensures fault { IfLink result (AddsFault (L.events link.old) (L.events link.new)) }
-    ensures timed_out { IfTimedOut result (WasIdle (conn_config config.now).idle (L.moments link.old) (L.moments link.new)) }
-    ensures lost { IfProtocol result (WasLost requests.now (L.events link.old) (L.events link.new) (V.served service.old) (V.served service.new)) }
+    // Over any link that tells its events and gives no whole hello that puts a shorter idle time in force, an end that timed out waited for the
+    // idle time of the settings, rounded down to whole milliseconds, from the first round of this call on.
+    ensures timed_out { (before more : List Event) → L.events link.old ≡ Some before → L.events link.new ≡ Some (before ++ more)
+        → LeaveIdleTime config.now.local_id_len (conn_config config.now) more
+        → IfTimedOut result (WasIdle (whole_idle (conn_config config.now).idle) (L.moments link.old) (L.moments link.new)) }
+    // Over any link it waited for that idle time, or for the one that some hello put in force.
+    ensures waited { IfTimedOut result (HasWaitedFor (conn_config config.now).idle (L.moments link.old) (L.moments link.new)) }
+    ensures lost { IfProtocol result (WasLost config.now.local_id_len (conn_config config.now) requests.now (L.events link.old) (L.events link.new) (V.served service.old) (V.served service.new)) }
     ensures out_of_rounds { IfOutOfRounds result
-        (RanOut rounds requests.now (L.events link.old) (L.events link.new) (L.moments link.old) (L.moments link.new) (V.served service.old) (V.served service.new)) }
+        (RanOut config.now.local_id_len (conn_config config.now) rounds requests.now (L.events link.old) (L.events link.new) (L.moments link.old) (L.moments link.new) (V.served service.old) (V.served service.new)) }
 {
     if requests.is_empty() {
         return Ok(Vec::new(alloc));

@@ -1,9 +1,12 @@
 ghost use Rattle.std.specs.Prelude.{◌≡◌, ◌⊎◌, ◌≤◌, ◌<◌, ◌^◌, ◌↔◌, ◌++◌, ◌∷◌, [], ℕ, List, Option, Some, None, true, false, length, is_some, All, IfOk, IfErr, IsTrue, OnOk, map};
 ghost use Rattle.qh_core.specs.Inner.{is_open};
-ghost use Rattle.qh_exchange.specs.Clock.{HasPassed, IsClocked, RunsByTheClock};
+ghost use Rattle.qh_conn.specs.declared.config.ConnConfig.{ConnConfig as AConfig};
+ghost use Rattle.qh_exchange.specs.Clock.{HasPassed, HasTimedOut, IsClocked, RunsByTheClock};
+ghost use Rattle.qh_exchange.specs.Ends.{End as AnEnd};
 ghost use Rattle.qh_exchange.specs.Exchange.{IfLink, IfProtocol, IfTimedOut};
-ghost use Rattle.qh_exchange.specs.Pair.{End as AnEnd, PairState, Running, GoesOn, IsFair, IsRunning, IsSound, Means, KeepWithin, id_length};
-ghost use Rattle.qh_exchange.specs.Settings.{conn_config, limits_of};
+ghost use Rattle.qh_exchange.specs.Pair.{PairState, Running, GoesOn, IsFair, IsRunningSoundly, Means, KeepWithin, id_length};
+ghost use Rattle.qh_exchange.specs.Hellos.{AreGreetedAsSet, AreSaidAsSet, HaveIdsOfLength, LeaveIdleTime};
+ghost use Rattle.qh_exchange.specs.Settings.{conn_config, limits_of, whole_idle};
 ghost use Rattle.qh_exchange.specs.Full.{AsksWhereItMay, HasAcceptedWhatArrived, IsFullTurn, ToldAsBefore};
 ghost use Rattle.qh_exchange.specs.Sound.{EndsFairly, last_of};
 ghost use Rattle.qh_exchange.specs.Steps.{AreIntakes, AreNotLost, AreOutputs, AreTicking, BeginsAt, ClientPolled, IsCounted, IsLastOf, IsLinkError, IsOnSide, IsOpen, IsStill, KeepsTicking, PairStep, ServerPolled, TicksOn, ended_by, is_done};
@@ -20,12 +23,16 @@ ghost use Rattle.qh_spec.specs.Link.{moments_of};
 ghost use Rattle.qh_spec.specs.Message.{PlainMessage};
 ghost use Rattle.qh_spec.specs.Record.{PlainEntry};
 
-use crate::ends::{End, Ids, MAX_NAME, open_end, receive_at, tick_at, transmit_at};
+use crate::ends::{End, Ids, MAX_NAME, Opening, open_end, receive_at, tick_at, transmit_at};
 use crate::{Config, ExchangeError, Head, Link, Message, Service};
 use qh_base::{ConnectionError, Memory, Moment, Side};
-use qh_core::{ConnConfig, PlainSession, first_limits, lawful};
+use qh_conn::{ConnConfig, same_connection};
+use qh_converse::{converses, sends};
+use qh_packet::{PlainSession, Version};
+use qh_peers::honest_ends;
 use qh_roles::{Client, Server};
 use qh_service::Limits;
+use qh_spec::laws::greetings::greeted_first;
 use qh_streams::StreamLimits;
 use std::alloc::Global;
 use std::marker::Model;
@@ -60,18 +67,29 @@ impl Model for Pair {
         × HasRun (record { ids = p.ids; config = p.config; client = p.client; server = p.server; client_end = p.client_end; server_end = p.server_end; is_over = p.is_over }) };
 }
 
-/// What a pair that stands where these events and entries leave it means: over an honest link what it served and what it holds,
-/// and over any link that what it sent in STREAM and RESET_STREAM frames kept within the limits that it was given before.
+/// What a pair means that stands where these events and entries leave it.
+///
+/// Over an honest link (`honest`): what it served and what it holds; that each hello which came says what the settings do; and that both ends
+/// were greeted before either sent a 1-RTT packet. Over any link each hello that an end sent says so (`said`). If no hello came that has an id of
+/// another length, what was sent in STREAM and RESET_STREAM frames kept within what was announced to its sender before (`within`). If none came
+/// that puts a shorter idle time in force, an end that timed out waited for that of the settings, rounded down to whole milliseconds
+/// (`timed_out`). Hellos that say what the settings do are such (`fitting`).
 pub fn pairs()
     ensures honest { (p : PairState) (events : List Event) (before entries : List PlainEntry) → IsHonest events → Running p events entries
         → Means p events before entries }
-    ensures within { (p : PairState) (events : List Event) (entries : List PlainEntry) → Running p events entries → KeepWithin (id_length p) p.config events }
+    ensures within { (p : PairState) (events : List Event) (entries : List PlainEntry) → HaveIdsOfLength (id_length p) events → Running p events entries
+        → KeepWithin (id_length p) events }
+    ensures said { (p : PairState) (events : List Event) (entries : List PlainEntry) → Running p events entries → AreSaidAsSet (id_length p) p.config events }
+    ensures fitting { (n : ℕ) (config : AConfig) (events : List Event) → AreGreetedAsSet n config events → HaveIdsOfLength n events × LeaveIdleTime n config events }
+    ensures timed_out { (p : PairState) (events : List Event) (entries : List PlainEntry) (moments : List ℕ) → LeaveIdleTime (id_length p) p.config events
+        → Running p events entries → HasTimedOut p moments → HasPassed (whole_idle p.config.idle) moments }
 {
-    lawful::<PlainSession>();
+    converses::<PlainSession>();
+    greeted_first();
 }
 
 impl Pair {
-    /// A pair before anything passed. The client connects in the first turn, and the server's end opens then too.
+    /// A pair before anything passed. The client connects in the first turn, and the server's end opens by the client's first datagram.
     pub fn open_pair(alloc: Global, config: &Config, now: Moment) -> Result<Pair, Memory>
         requires { Fits config.now }
         ensures running { IfOk result (λ p. Running p [] []) }
@@ -127,10 +145,12 @@ impl Pair {
         self.client.held()
     }
 
-    /// Makes one turn, and says whether an answer is held for each request: the link begins a round; each end takes what came for
-    /// it; what is due by now is done; the client asks and takes answers, and the server serves; each end
-    /// sends. How far a stream goes in one turn is in no clause. It isn't called again after an `Err`. The errors: `Link` where the link failed, `TimedOut` where an end heard nothing for its
-    /// idle time, `Protocol` where an end lost its connection otherwise, which none does over an honest link, `Memory`.
+    /// Makes one turn, and says whether an answer is held for each request: the link begins a round; each end takes what came for it; what is
+    /// due by now is done; the client asks and takes answers, and the server serves, once their ends are greeted; each end sends. How far a
+    /// stream goes in one turn is in no clause. The client's end opens in the first turn, and the server's by the client's first datagram.
+    ///
+    /// It isn't called again after an `Err`. The errors: `Link` if the link failed; `TimedOut` if an end waited for its idle time; `Protocol` if an
+    /// end lost its connection otherwise, which none does over an honest link; `Memory`.
     pub fn turn<V: Service, L: Link>(
         &mut self,
         service: &mut V,
@@ -198,7 +218,7 @@ impl Pair {
         ensures plan { L.plan link.new ≡ L.plan link.old }
         ensures errors { IfErr result IsTurnError }
         ensures order { IfOk result (λ _. All (λ moment. moment ≤ last_of (L.moments link.new)) (L.moments link.new)) }
-        ensures fair { (earlier events more : List Event) (entries : List PlainEntry) → IsRunning true self.old events entries → IsSound self.old events
+        ensures fair { (earlier events more : List Event) (entries : List PlainEntry) → IsRunningSoundly self.old events entries
             → L.events link.old ≡ Some (earlier ++ events) → L.events link.new ≡ Some (earlier ++ (events ++ more)) → IsHonest (events ++ more)
             → EndsFairly (id_length self.old) self.old.config.idle (events ++ more) result }
         ensures answered { GrewByAnswers (V.may_answer self.old.server.limits) (V.served service.old) (V.served service.new) }
@@ -214,14 +234,14 @@ impl Pair {
     // The client's end is open where it isn't lost: the contract of an end says so.
     fn is_up(&self)
         requires { AreNotLost self.now }
-        ensures { (end : AnEnd) → self.now.client_end ≡ Some end → is_open end.state ≡ true }
+        ensures { (end : AnEnd) → self.now.client_end ≡ Some end → is_open end.core.state ≡ true }
     {
         if let Some(end) = &self.client_end {
-            end.is_owed();
+            end.core.is_owed();
         }
     }
 
-    // Begins a round, and opens the ends in the first one.
+    // Begins a round, and opens the client's end in the first one.
     fn begin<L: Link>(&mut self, link: &mut L) -> Result<Moment, ExchangeError>
         requires over { self.old.is_over ≡ true }
         requires counted { IsCounted self.old }
@@ -239,7 +259,6 @@ impl Pair {
     {
         let now = link.next_round(self.alloc)?;
         self.open_client(now)?;
-        self.open_server(now)?;
         Ok(now)
     }
 
@@ -253,25 +272,13 @@ impl Pair {
         if self.client_end.is_some() {
             return Ok(());
         }
+        let opening = Opening {
+            ids: self.ids,
+            config: self.config,
+        };
         let name = server_name(self.client.requests());
-        let end = open_end(self.alloc, Side::Client, &self.ids, self.config, name, now)?;
+        let end = open_end(self.alloc, Side::Client, &opening, name, now)?;
         self.client_end = Some(end);
-        Ok(())
-    }
-
-    fn open_server(&mut self, now: Moment) -> Result<(), Memory>
-        requires over { self.old.is_over ≡ true }
-        requires counted { IsCounted self.old }
-        ensures still { IsStill self.old self.new }
-        ensures client { self.new.client_end ≡ self.old.client_end }
-        ensures open { IfOk result (λ _. is_some self.new.server_end ≡ true) }
-        ensures ticking { KeepsTicking now.0 self.old self.new }
-    {
-        if self.server_end.is_some() {
-            return Ok(());
-        }
-        let end = open_end(self.alloc, Side::Server, &self.ids, self.config, "", now)?;
-        self.server_end = Some(end);
         Ok(())
     }
 
@@ -280,7 +287,7 @@ impl Pair {
         requires open { IsOpen self.old }
         requires over { self.old.is_over ≡ true }
         requires counted { IsCounted self.old }
-        ensures step { (served : List PlainEntry) → PairStep now.0 (is_done result) self.old self.new (L.events link.old) (L.events link.new) served served (λ more. IfOk result (λ _. AreIntakes more)) }
+        ensures step { (served : List PlainEntry) → PairStep now.0 (is_done result) self.old self.new (L.events link.old) (L.events link.new) served served (λ more. IfOk result (λ _. AreIntakes self.new.ids (is_some self.new.server_end) more)) }
         ensures open { IfOk result (λ _. IsOpen self.new) }
         ensures ticking { IfOk result (λ _. KeepsTicking now.0 self.old self.new) }
         ensures moments { L.moments link.new ≡ L.moments link.old }
@@ -289,8 +296,13 @@ impl Pair {
         ensures plan { L.plan link.new ≡ L.plan link.old }
         ensures errors { IfErr result IsLinkError }
     {
-        receive_at(self.alloc, &mut self.client_end, Side::Client, now, link)?;
-        receive_at(self.alloc, &mut self.server_end, Side::Server, now, link)
+        let opening = Opening {
+            ids: self.ids,
+            config: self.config,
+        };
+        let (client, server) = (&mut self.client_end, &mut self.server_end);
+        receive_at(self.alloc, client, &opening, Side::Client, now, link)?;
+        receive_at(self.alloc, server, &opening, Side::Server, now, link)
     }
 
     // Does what is due by now. An end that is lost ends the exchange, the client's first.
@@ -301,16 +313,17 @@ impl Pair {
         requires bound { now.0 < 2 ^ 62 }
         ensures step { (told : Option (List Event)) (served : List PlainEntry) → PairStep now.0 (is_done result) self.old self.new told told served served (λ more. more ≡ []) }
         ensures open { IsOpen self.new }
+        ensures there { is_some self.new.server_end ≡ is_some self.old.server_end }
         ensures going { IfOk result (λ _. AreNotLost self.new) }
-        ensures fair { (events : List Event) → IsSound self.old events → last_of (moments_of events) ≡ now.0 → EndsFairly (id_length self.old) self.old.config.idle events result }
+        ensures fair { (events : List Event) (entries : List PlainEntry) → IsHonest events → IsRunningSoundly self.old events entries → last_of (moments_of events) ≡ now.0 → EndsFairly (id_length self.old) self.old.config.idle events result }
         ensures ticking { IfOk result (λ _. KeepsTicking now.0 self.old self.new) }
-        ensures timed_out { (moments : List ℕ) → IsLastOf moments now.0 → AreTicking self.old moments → IfTimedOut result (HasPassed self.old.config.idle moments) }
+        ensures timed_out { (moments : List ℕ) → IsLastOf moments now.0 → AreTicking self.old moments → IfTimedOut result (HasTimedOut self.new moments) }
         ensures lost { IfProtocol result (λ e. IsProtocolLoss e self.new) }
         ensures cause { has_link_failed result ≡ false }
         ensures errors { IfErr result IsTurnError }
     {
-        let client = tick_at(&mut self.client_end, Side::Client, now);
-        let server = tick_at(&mut self.server_end, Side::Server, now);
+        let client = tick_at(&mut self.client_end, now);
+        let server = tick_at(&mut self.server_end, now);
         ended_by(client, server)
     }
 
@@ -322,12 +335,17 @@ impl Pair {
         requires counted { IsCounted self.old }
         ensures step { (now : ℕ) (told : Option (List Event)) → PairStep now true self.old self.new told told (V.served service.old) (V.served service.new) (λ more. more ≡ []) }
         ensures open { IsOpen self.new }
+        ensures there { is_some self.old.server_end ≡ true → is_some self.new.server_end ≡ true }
         ensures going { AreNotLost self.new }
         ensures asks { OnOk result (AsksWhereItMay self.new.client self.new.client_end) }
         ensures accepts { OnOk result (HasAcceptedWhatArrived self.new.server_end) }
         ensures ticking { (moments : List ℕ) → AreTicking self.old moments → AreTicking self.new moments }
         ensures answered { GrewByAnswers (V.may_answer self.old.server.limits) (V.served service.old) (V.served service.new) }
     {
+        converses::<PlainSession>();
+        sends::<PlainSession>();
+        honest_ends::<PlainSession>();
+        same_connection::<PlainSession>();
         ask_at(self.alloc, &mut self.client, &mut self.client_end)?;
         serve_at(self.alloc, &mut self.server, &mut self.server_end, service)
     }
@@ -340,6 +358,7 @@ impl Pair {
         requires counted { IsCounted self.old }
         ensures step { (served : List PlainEntry) → PairStep now.0 (is_done result) self.old self.new (L.events link.old) (L.events link.new) served served (λ more. IfOk result (λ _. AreOutputs self.new more)) }
         ensures open { IfOk result (λ _. IsOpen self.new) }
+        ensures there { is_some self.new.server_end ≡ is_some self.old.server_end }
         ensures told { IfOk result (λ _. ToldAsBefore self.old.client_end self.new.client_end × ToldAsBefore self.old.server_end self.new.server_end) }
         ensures roles { (self.new.client ≡ self.old.client) × (self.new.server ≡ self.old.server) }
         ensures ticking { IfOk result (λ _. KeepsTicking now.0 self.old self.new) }
@@ -370,29 +389,36 @@ fn ended_by(
     }
 }
 
-// A client goes on at its end.
+// A client goes on at its end, if that is greeted.
 fn ask_at(alloc: Global, client: &mut Client, slot: &mut Option<End>) -> Result<(), Memory>
     requires open { is_some slot.old ≡ true }
     requires side { IsOnSide TheClient slot.old }
+    requires going { IsNotLost slot.old }
+    ensures up { (end : AnEnd) → slot.old ≡ Some end → is_open end.core.state ≡ true }
     ensures polled { ClientPolled client.old client.new slot.old slot.new }
     ensures asks { OnOk result (AsksWhereItMay client.new slot.new) }
 {
     let Some(end) = slot else {
         return Ok(());
     };
-    client.poll(alloc, end)
+    // Its contract says that an end which isn't lost is open.
+    end.core.is_owed();
+    if !end.is_greeted() {
+        return Ok(());
+    }
+    client.poll(alloc, &mut end.core)
 }
 
-// A server goes on at its end.
+// A server goes on at its end, if that is there, and greeted.
 fn serve_at<V: Service>(
     alloc: Global,
     server: &mut Server,
     slot: &mut Option<End>,
     service: &mut V,
 ) -> Result<(), Memory>
-    requires open { is_some slot.old ≡ true }
     requires side { IsOnSide TheServer slot.old }
     requires going { IsNotLost slot.old }
+    ensures up { (end : AnEnd) → slot.old ≡ Some end → is_open end.core.state ≡ true }
     ensures polled { ServerPolled server.old server.new slot.old slot.new (V.served service.old) (V.served service.new) }
     ensures accepts { OnOk result (HasAcceptedWhatArrived slot.new) }
     ensures answered { GrewByAnswers (V.may_answer server.old.limits) (V.served service.old) (V.served service.new) }
@@ -400,8 +426,12 @@ fn serve_at<V: Service>(
     let Some(end) = slot else {
         return Ok(());
     };
-    end.is_owed();
-    server.poll(alloc, end, service)
+    // Its contract says that an end which isn't lost is open.
+    end.core.is_owed();
+    if !end.is_greeted() {
+        return Ok(());
+    }
+    server.poll(alloc, &mut end.core, service)
 }
 
 // What both ends begin with.
@@ -417,12 +447,12 @@ fn conn_config(config: &Config) -> ConnConfig
     };
     ConnConfig {
         limits,
-        peer: first_limits(limits),
         idle: config.idle,
         initial_rtt: config.initial_rtt,
         initial_window: config.initial_window,
         datagram_receive: None,
-        peer_datagram: None,
+        datagram_send: 0,
+        version: Version::One,
     }
 }
 

@@ -115,12 +115,21 @@ fn ended(alloc: Global, fates: &[Fate]) -> Result<(usize, usize, bool, bool), Fa
 #[test]
 fn a_rough_link_is_met(rt: HostRuntime) -> Result<(), Fail> {
     let alloc = rt.alloc();
-    let rows: [(&[Fate], (usize, usize, bool, bool)); 5] = [
+    // The first two datagrams are the hellos, the third has the request, and the fourth the answer.
+    let rows: [(&[Fate], (usize, usize, bool, bool)); 7] = [
         (&[], (1, 1, true, true)),
         (&[Fate::Twice, Fate::Twice], (1, 1, true, true)),
         (&[Fate::First, Fate::First], (1, 1, true, true)),
         (&[Fate::Lost], (0, 0, false, false)),
-        (&[Fate::Twice, Fate::Lost], (0, 1, true, false)),
+        (&[Fate::Twice, Fate::Lost], (0, 0, false, false)),
+        (
+            &[Fate::Twice, Fate::Twice, Fate::Lost],
+            (0, 0, false, false),
+        ),
+        (
+            &[Fate::Twice, Fate::Twice, Fate::Twice, Fate::Lost],
+            (0, 1, true, false),
+        ),
     ];
     for (fates, expected) in &rows {
         assert!(rt; ended(alloc, fates)? == *expected);

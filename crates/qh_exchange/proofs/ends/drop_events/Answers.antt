@@ -1,15 +1,19 @@
-use Rattle.qh_exchange.proofs.EndPolls.{polled_none, polled_on}
+use Rattle.qh_exchange.specs.Ends.{key_of}
+use Rattle.qh_exchange.proofs.EndPolls.{polled_none, one_told}
 use Rattle.qh_exchange.proofs.ends.drop_events.Goals as goal
 
 pub loop-event-init : goal.loop-event-init
-loop-event-init c = polled_none _
+loop-event-init c = polled_none c.same_connection.ensures.same _ c.requires
+
+pub poll-requires : goal.poll-requires
+poll-requires c = c.loop-event.invariant.made.whole
 
 pub loop-event-preserved : goal.loop-event-preserved
 loop-event-preserved c =
     let e = c.poll.ensures in
-    polled_on c.args.end.now c.loop-event.end c.poll.new.self c.poll.result c.loop-event.invariant e.told e.kept e.same_end (c.made.ensures.poll c.poll.result _ _ e.told e.follows e.same_end)
+    one_told c.same_connection.ensures.both c.honest_ends.ensures.told c.args.end.now c.loop-event.end c.poll.new.self c.poll.result c.loop-event.invariant e.told (e.same key_of) e.whole e.stands
 
 pub returns-then-is_none : goal.returns-then-is_none
 returns-then-is_none c =
     let e = c.poll.ensures in
-    polled_on c.args.end.now c.loop-event.end c.poll.new.self c.poll.result c.loop-event.invariant e.told e.kept e.same_end (c.made.ensures.poll c.poll.result _ _ e.told e.follows e.same_end)
+    one_told c.same_connection.ensures.both c.honest_ends.ensures.told c.args.end.now c.loop-event.end c.poll.new.self c.poll.result c.loop-event.invariant e.told (e.same key_of) e.whole e.stands

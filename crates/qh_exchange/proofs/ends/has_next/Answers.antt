@@ -1,71 +1,82 @@
-use Rattle.std.proofs.Common.{◌≡◌, ◌∷◌, ◌++◌, [], ℕ, Bool, true, List, Option, Some, None, Ok, Err, refl, length, subst, sym, ap, ◌∙◌}
-use Rattle.std.specs.Prelude.{IfSome, drop, is_some}
-use Rattle.std.proofs.lemmas.Bool.{false≢true}
+use Rattle.std.proofs.Common.{◌≤◌, List, subst, length}
 use Rattle.std.proofs.lemmas.Result.{err_from_is_err_and}
-use Rattle.qh_base.specs.declared.path.Transmit.{Transmit}
-use Rattle.qh_base.specs.declared.time.Moment.{Moment}
-use Rattle.qh_conduct.specs.Calls.{ToldTheSame}
-use Rattle.qh_conduct.specs.Restarting.{IsSealed}
-use Rattle.qh_core.specs.Follows.{transmit_acts}
-use Rattle.qh_core.specs.Sending.{IsDatagramMade, datagram_of}
-use Rattle.qh_spec.specs.Tag.{tag_bytes}
-use Rattle.qh_spec.specs.Transcript.{Act, HandedOut}
-use Rattle.qh_exchange.specs.EndCalls.{polled_acts}
-use Rattle.qh_exchange.specs.Pair.{End, IsMadeBy}
+use Rattle.qh_conn.specs.Whole.{CarriesOnBy}
+use Rattle.qh_packet.proofs.Sessions.{plain_makes, plain_names}
 use Rattle.qh_packet.specs.Session.{plain_accepts, plain_sealed}
+use Rattle.qh_spec.specs.Transcript.{Act}
+use Rattle.qh_exchange.specs.Ends.{End}
+use Rattle.qh_exchange.proofs.EndNext.{Asks, asked_as, asked_first, asked_honest, asked_leaves, asked_made, failed_made, made_as}
+use Rattle.qh_exchange.proofs.EndSent.{LeavesOpen}
+use Rattle.qh_exchange.proofs.EndSounds.{key_short}
+use Rattle.qh_exchange.proofs.FullTurns.{unset_of}
 use Rattle.qh_exchange.proofs.ends.has_next.Goals as goal
-
--- the datagram, where there is one, stands alone in the buffer
-polled_as : (o : Option Transmit) (found : Bool) (before after : List ℕ) → found ≡ is_some o → before ≡ [] → transmit_acts before after (Ok o) ≡ polled_acts after (Ok found)
-polled_as None found before after e b = ap (λ (z : Bool). polled_acts after (Ok z)) (sym e)
-polled_as (Some x) found before after e b = ap (λ (z : List ℕ). HandedOut (drop (length z) after) ∷ []) b ∙ ap (λ (z : Bool). polled_acts after (Ok z)) (sym e)
-
--- what an end sends, or doesn't, tells it nothing
-told_on : (old new : End) (o : Option Transmit) → ((x : Transmit) → o ≡ Some x → ToldTheSame old.space.streams new.space.streams)
-    → (o ≡ None → ToldTheSame old.space.streams new.space.streams) → ToldTheSame old.space.streams new.space.streams
-told_on old new None made none = none refl
-told_on old new (Some x) made none = made x refl
-
--- the datagram, where there is one, has its number and its tag
-sealed_as : (now : Moment) (old new : End) (o : Option Transmit) (found : Bool) (before after : List ℕ) → found ≡ is_some o → before ≡ []
-    → IfSome o (λ x. IsDatagramMade (tag_bytes old.session.key_id) now old new before after x) → found ≡ true → IsSealed (tag_bytes old.session.key_id) old.side old.remote_id after
-sealed_as now old new None found before after e b m there = absurd (false≢true (sym e ∙ there))
-sealed_as now old new (Some x) found before after e b m there = record {
-  number = old.space.next_number;
-  frames = m.bytes.frames;
-  is_number = m.bytes.number;
-  is = m.bytes.after_is ∙ ap (λ (z : List ℕ). z ++ datagram_of (tag_bytes old.session.key_id) old m.bytes.frames) b;
-}
 
 pub returns-in_err-transmit-clause-made : goal.returns-in_err-transmit-clause-made
 returns-in_err-transmit-clause-made c =
-    let failed = c.in_err-transmit.ensures in
+    let old : End = c.args.end.now in
+    let short : length old.core.session.key_id ≤ 20 = key_short _ _ _ c.key_id.ensures.value c.session.ensures c.key_id.ensures.short in
+    let e = c.in_err-transmit.ensures in
     rw (err_from_is_err_and c.from_residual.result c.from_residual.ensures.1).1
-    (c.made_together.ensures.one_of_all plain_accepts plain_sealed _ _ _
-    (c.made.ensures.transmit plain_accepts plain_sealed c.args.now c.clear.new.self.items c.poll_transmit.new.buf.items (Err c.in_err-transmit.field-0.0) _ _ tt tt tt tt failed.err failed.follows failed.same_end))
+    (failed_made old c.poll_transmit.new.self e.same e.whole (e.carries (plain_names old.core.session short) (plain_makes old.core.session short)))
+
+pub returns-in_err-transmit-clause-lost : goal.returns-in_err-transmit-clause-lost
+returns-in_err-transmit-clause-lost c = rw (err_from_is_err_and c.from_residual.result c.from_residual.ensures.1).1 c.in_err-transmit.ensures.err.1.error
 
 pub returns-clause-made : goal.returns-clause-made
 returns-clause-made c =
     let old : End = c.args.end.now in
     let new : End = c.poll_transmit.new.self in
-    let before = c.clear.new.self.items in
     let after = c.poll_transmit.new.buf.items in
-    let sent = c.in_ok-transmit.ensures in
-    subst (λ (z : List Act). IsMadeBy old new z) (polled_as c.in_ok-transmit.transmit c.is_some.result before after c.is_some.ensures c.clear.ensures.items)
-    (c.made_together.ensures.one_of_all plain_accepts plain_sealed old new _
-    (c.made.ensures.transmit plain_accepts plain_sealed c.args.now before after (Ok c.in_ok-transmit.transmit) old new sent.some sent.read_back sent.undisturbed sent.none tt sent.follows sent.same_end))
+    let short : length old.core.session.key_id ≤ 20 = key_short _ _ _ c.key_id.ensures.value c.session.ensures c.key_id.ensures.short in
+    let e = c.in_ok-transmit.ensures in
+    let asks : Asks c.args.now old new after c.is_some.result = asked_as c.args.now old new c.in_ok-transmit.transmit c.is_some.result c.clear.new.self.items after c.is_some.ensures c.clear.ensures.items e.some e.none in
+    let l : LeavesOpen c.args.now old new = asked_leaves c.permits.ensures.made c.args.now old new after c.is_some.result c.requires.open asks in
+    asked_made c.converses.ensures.lawful_open c.converses.ensures.within_open c.converses.ensures.announced old new after c.is_some.result e.same e.whole l.up
+    (subst (λ (z : List Act). CarriesOnBy plain_accepts plain_sealed old new z) (made_as c.in_ok-transmit.transmit c.is_some.result c.clear.new.self.items after c.is_some.ensures c.clear.ensures.items)
+    (e.carries (plain_names old.core.session short) (plain_makes old.core.session short)))
+
+pub returns-clause-undisturbed : goal.returns-clause-undisturbed
+returns-clause-undisturbed c =
+    let e = c.in_ok-transmit.ensures in
+    (asked_leaves c.permits.ensures.made c.args.now c.args.end.now c.poll_transmit.new.self _ c.is_some.result c.requires.open
+    (asked_as c.args.now c.args.end.now c.poll_transmit.new.self c.in_ok-transmit.transmit c.is_some.result _ _ c.is_some.ensures c.clear.ensures.items e.some e.none)).undisturbed
+
+pub returns-clause-open : goal.returns-clause-open
+returns-clause-open c =
+    let e = c.in_ok-transmit.ensures in
+    (asked_leaves c.permits.ensures.made c.args.now c.args.end.now c.poll_transmit.new.self _ c.is_some.result c.requires.open
+    (asked_as c.args.now c.args.end.now c.poll_transmit.new.self c.in_ok-transmit.transmit c.is_some.result _ _ c.is_some.ensures c.clear.ensures.items e.some e.none)).up
+
+pub returns-clause-names : goal.returns-clause-names
+returns-clause-names c =
+    let e = c.in_ok-transmit.ensures in
+    let l : LeavesOpen c.args.now c.args.end.now c.poll_transmit.new.self = asked_leaves c.permits.ensures.made c.args.now c.args.end.now c.poll_transmit.new.self _ c.is_some.result c.requires.open
+    (asked_as c.args.now c.args.end.now c.poll_transmit.new.self c.in_ok-transmit.transmit c.is_some.result _ _ c.is_some.ensures c.clear.ensures.items e.some e.none) in
+    (l.peer, l.retry, l.remote)
 
 pub returns-clause-told : goal.returns-clause-told
 returns-clause-told c =
+    let e = c.in_ok-transmit.ensures in
+    (asked_leaves c.permits.ensures.made c.args.now c.args.end.now c.poll_transmit.new.self _ c.is_some.result c.requires.open
+    (asked_as c.args.now c.args.end.now c.poll_transmit.new.self c.in_ok-transmit.transmit c.is_some.result _ _ c.is_some.ensures c.clear.ensures.items e.some e.none)).told
+
+pub returns-clause-honest : goal.returns-clause-honest
+returns-clause-honest c =
     let old : End = c.args.end.now in
     let new : End = c.poll_transmit.new.self in
-    let sent = c.in_ok-transmit.ensures in
-    told_on old new c.in_ok-transmit.transmit
-    (λ x e. c.permits.ensures.made (tag_bytes old.session.key_id) c.args.now old new c.clear.new.self.items c.poll_transmit.new.buf.items x
-    (subst (λ (z : Option Transmit). IfSome z (λ y. IsDatagramMade (tag_bytes old.session.key_id) c.args.now old new c.clear.new.self.items c.poll_transmit.new.buf.items y)) e sent.some))
-    (λ e. c.permits.ensures.none old new (sent.none e).1)
+    let after = c.poll_transmit.new.buf.items in
+    let short : length old.core.session.key_id ≤ 20 = key_short _ _ _ c.key_id.ensures.value c.session.ensures c.key_id.ensures.short in
+    let e = c.in_ok-transmit.ensures in
+    asked_honest c.honest_ends.ensures.sent c.honest_ends.ensures.still c.args.now old new after c.is_some.result short e.same e.whole
+    (subst (λ (z : List Act). CarriesOnBy plain_accepts plain_sealed old new z) (made_as c.in_ok-transmit.transmit c.is_some.result c.clear.new.self.items after c.is_some.ensures c.clear.ensures.items)
+    (e.carries (plain_names old.core.session short) (plain_makes old.core.session short)))
+    (asked_as c.args.now old new c.in_ok-transmit.transmit c.is_some.result c.clear.new.self.items after c.is_some.ensures c.clear.ensures.items e.some e.none)
 
-pub returns-clause-sealed : goal.returns-clause-sealed
-returns-clause-sealed c =
-    sealed_as c.args.now c.args.end.now c.poll_transmit.new.self c.in_ok-transmit.transmit c.is_some.result c.clear.new.self.items c.poll_transmit.new.buf.items c.is_some.ensures c.clear.ensures.items
-    c.in_ok-transmit.ensures.some
+pub returns-clause-first : goal.returns-clause-first
+returns-clause-first c =
+    let e = c.in_ok-transmit.ensures in
+    asked_first c.args.now c.args.end.now c.poll_transmit.new.self _ c.is_some.result c.requires.whole c.requires.open
+    (asked_as c.args.now c.args.end.now c.poll_transmit.new.self c.in_ok-transmit.transmit c.is_some.result _ _ c.is_some.ensures c.clear.ensures.items e.some e.none)
+
+pub returns-clause-none : goal.returns-clause-none
+returns-clause-none c = λ none. let n = c.in_ok-transmit.ensures.none (unset_of _ _ c.is_some.ensures none) in (n.2, n.1)

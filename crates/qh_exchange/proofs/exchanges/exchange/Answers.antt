@@ -1,4 +1,4 @@
-use Rattle.std.proofs.Common.{refl, subst, sym, List}
+use Rattle.std.proofs.Common.{◌∙◌, refl, subst, sym, List}
 use Rattle.std.proofs.lemmas.Result.{err_from_is_err_and}
 use Rattle.qh_spec.specs.Headline.{AnsweredOnce}
 use Rattle.qh_spec.specs.Message.{PlainMessage}
@@ -7,9 +7,11 @@ use Rattle.qh_exchange.proofs.Turns.{grew_same, never_failed}
 use Rattle.qh_exchange.proofs.RoundsFair.{fair_by, list_fairly}
 use Rattle.qh_exchange.proofs.AskedLists.{invalid_still, is_invalid, is_nothing, is_something, list_no_link, list_not_idle, list_not_lost, list_not_out, nothing_valid}
 use Rattle.qh_spec.specs.Fault.{CountsFaults}
+use Rattle.qh_exchange.specs.Settings.{conn_config}
 use Rattle.qh_exchange.specs.Turn.{has_link_failed}
-use Rattle.qh_exchange.proofs.ExchangeEnds.{answered_by, count_by, ends_by, fault_by, held_by, idle_by, invalid_by, lost_by, nothing_asked, out_by, served_once, tells, within_all, within_none}
+use Rattle.qh_exchange.proofs.ExchangeEnds.{answered_by, count_by, ends_by, fault_by, held_by, idle_by, invalid_by, lost_by, nothing_asked, out_by, served_once, tells, within_all, within_none, greeted_none, set_none, said_none, greeted_all, said_all, set_all, stays_pair, idle_all}
 use Rattle.qh_exchange.proofs.Faults.{no_fault}
+use Rattle.qh_exchange.proofs.TimedOut.{waited_for}
 use Rattle.qh_exchange.proofs.exchanges.exchange.Goals as goal
 
 -- ---- an empty list
@@ -25,7 +27,16 @@ returns-then-is_empty-clause-answered_once g c =
     (nothing_asked _ events c.args.requests.now _ (is_nothing _ c.if-is_empty.ensures))
 
 pub returns-then-is_empty-clause-within_announced : goal.returns-then-is_empty-clause-within_announced
-returns-then-is_empty-clause-within_announced g c = λ before more te ue. within_none _ _ _ before more te ue
+returns-then-is_empty-clause-within_announced g c = λ before more te ue set. within_none _ _ before more te ue
+
+pub returns-then-is_empty-clause-greeted_first : goal.returns-then-is_empty-clause-greeted_first
+returns-then-is_empty-clause-greeted_first g c = λ before more te ue honest. greeted_none _ _ before more te ue
+
+pub returns-then-is_empty-clause-greeted_as_set : goal.returns-then-is_empty-clause-greeted_as_set
+returns-then-is_empty-clause-greeted_as_set g c = λ before more te ue honest. set_none _ _ _ before more te ue
+
+pub returns-then-is_empty-clause-sent_as_set : goal.returns-then-is_empty-clause-sent_as_set
+returns-then-is_empty-clause-sent_as_set g c = λ before more te ue. said_none _ _ _ before more te ue
 
 pub returns-then-is_empty-clause-not_valid : goal.returns-then-is_empty-clause-not_valid
 returns-then-is_empty-clause-not_valid g c = λ bad. absurd (bad (nothing_valid _ _ _ _ (is_nothing _ c.if-is_empty.ensures)))
@@ -36,7 +47,16 @@ pub returns-in_err-pair-clause-never_twice : goal.returns-in_err-pair-clause-nev
 returns-in_err-pair-clause-never_twice g c = λ events te ue honest. served_nothing _ events c.args.requests.now _
 
 pub returns-in_err-pair-clause-within_announced : goal.returns-in_err-pair-clause-within_announced
-returns-in_err-pair-clause-within_announced g c = λ before more te ue. within_none _ _ _ before more te ue
+returns-in_err-pair-clause-within_announced g c = λ before more te ue set. within_none _ _ before more te ue
+
+pub returns-in_err-pair-clause-greeted_first : goal.returns-in_err-pair-clause-greeted_first
+returns-in_err-pair-clause-greeted_first g c = λ before more te ue honest. greeted_none _ _ before more te ue
+
+pub returns-in_err-pair-clause-greeted_as_set : goal.returns-in_err-pair-clause-greeted_as_set
+returns-in_err-pair-clause-greeted_as_set g c = λ before more te ue honest. set_none _ _ _ before more te ue
+
+pub returns-in_err-pair-clause-sent_as_set : goal.returns-in_err-pair-clause-sent_as_set
+returns-in_err-pair-clause-sent_as_set g c = λ before more te ue. said_none _ _ _ before more te ue
 
 pub returns-in_err-pair-clause-invalid : goal.returns-in_err-pair-clause-invalid
 returns-in_err-pair-clause-invalid g c =
@@ -64,6 +84,11 @@ returns-in_err-pair-clause-fault g c =
 pub returns-in_err-pair-clause-timed_out : goal.returns-in_err-pair-clause-timed_out
 returns-in_err-pair-clause-timed_out g c =
     let p = err_from_is_err_and c.from_residual.result c.from_residual.ensures.1 in
+    rw (p.1, p.2) (λ before more te ue set. list_not_idle (held_by _ _ c.from_residual.result) _ _ c.in_err-pair.ensures.errors)
+
+pub returns-in_err-pair-clause-waited : goal.returns-in_err-pair-clause-waited
+returns-in_err-pair-clause-waited g c =
+    let p = err_from_is_err_and c.from_residual.result c.from_residual.ensures.1 in
     rw (p.1, p.2) (list_not_idle (held_by _ _ c.from_residual.result) _ _ c.in_err-pair.ensures.errors)
 
 pub returns-in_err-pair-clause-fair : goal.returns-in_err-pair-clause-fair
@@ -90,7 +115,7 @@ pub returns-clause-never_twice : goal.returns-clause-never_twice
 returns-clause-never_twice g c = served_once c.pairs.ensures.honest _ _ _ _ _ _ _ _ c.in_ok-pair.ensures.asked.running c.in_ok-pair.ensures.asked.asked c.in_ok-pair.ensures.asked.ids c.make_rounds-made.ensures.made.goes
 
 pub returns-clause-within_announced : goal.returns-clause-within_announced
-returns-clause-within_announced g c = within_all c.pairs.ensures.within _ _ _ _ _ _ _ _ c.in_ok-pair.ensures.asked.running c.in_ok-pair.ensures.asked.ids c.in_ok-pair.ensures.asked.config_is c.make_rounds-made.ensures.made.goes
+returns-clause-within_announced g c = within_all c.pairs.ensures.within _ (conn_config c.args.config.now) _ _ _ _ _ _ c.in_ok-pair.ensures.asked.running c.in_ok-pair.ensures.asked.ids c.in_ok-pair.ensures.asked.config_is c.make_rounds-made.ensures.made.goes
 
 pub returns-clause-answers : goal.returns-clause-answers
 returns-clause-answers g c = grew_same g.V.Service.may_answer _ _ _ _ c.in_ok-pair.ensures.asked.limits_are c.make_rounds-made.ensures.answered
@@ -114,9 +139,25 @@ returns-clause-cause g c =
 pub returns-clause-fault : goal.returns-clause-fault
 returns-clause-fault g c = fault_by c.make_rounds-made.result c.answers_of.result _ c.answers_of.ensures.ends c.make_rounds-made.ensures.fault
 
+pub returns-clause-greeted_first : goal.returns-clause-greeted_first
+returns-clause-greeted_first g c = greeted_all c.pairs.ensures.honest _ _ _ _ _ _ _ c.in_ok-pair.ensures.asked.running c.in_ok-pair.ensures.asked.ids c.make_rounds-made.ensures.made.goes
+
+pub returns-clause-greeted_as_set : goal.returns-clause-greeted_as_set
+returns-clause-greeted_as_set g c = set_all c.pairs.ensures.honest _ _ _ _ _ _ _ _ c.in_ok-pair.ensures.asked.running c.in_ok-pair.ensures.asked.ids c.in_ok-pair.ensures.asked.config_is c.make_rounds-made.ensures.made.goes
+
+pub returns-clause-sent_as_set : goal.returns-clause-sent_as_set
+returns-clause-sent_as_set g c = said_all c.pairs.ensures.said _ _ _ _ _ _ _ _ c.in_ok-pair.ensures.asked.running c.in_ok-pair.ensures.asked.ids c.in_ok-pair.ensures.asked.config_is c.make_rounds-made.ensures.made.goes
+
+pub returns-clause-waited : goal.returns-clause-waited
+returns-clause-waited g c =
+    idle_by c.make_rounds-made.result c.answers_of.result _ _ c.answers_of.ensures.ends
+    (waited_for _ _ _ _ (c.make_rounds-made.ensures.made.config_is ∙ c.in_ok-pair.ensures.asked.config_is)) c.make_rounds-made.ensures.made.timed_out
+
 pub returns-clause-timed_out : goal.returns-clause-timed_out
 returns-clause-timed_out g c =
-    idle_by c.make_rounds-made.result c.answers_of.result c.in_ok-pair.pair _ _ _ c.answers_of.ensures.ends c.in_ok-pair.ensures.asked.config_is c.make_rounds-made.ensures.made.timed_out
+    λ before more te ue set. idle_by c.make_rounds-made.result c.answers_of.result _ _ c.answers_of.ensures.ends
+    (idle_all c.pairs.ensures.timed_out _ _ _ _ _ _ _ _ _ _ c.in_ok-pair.ensures.asked.running c.in_ok-pair.ensures.asked.ids c.in_ok-pair.ensures.asked.config_is c.make_rounds-made.ensures.made.goes before more te ue set)
+    c.make_rounds-made.ensures.made.timed_out
 
 pub returns-clause-fair : goal.returns-clause-fair
 returns-clause-fair g c =
@@ -125,13 +166,13 @@ returns-clause-fair g c =
 
 pub returns-clause-lost : goal.returns-clause-lost
 returns-clause-lost g c =
-    lost_by c.make_rounds-made.result c.answers_of.result _ _ _ _ _ _ _ c.answers_of.ensures.ends c.in_ok-pair.ensures.asked.running c.in_ok-pair.ensures.asked.asked
-    c.make_rounds-made.ensures.made.requests c.make_rounds-made.ensures.made.goes c.make_rounds-made.ensures.made.lost
+    lost_by c.make_rounds-made.result c.answers_of.result _ _ _ _ _ _ _ _ _ c.answers_of.ensures.ends c.in_ok-pair.ensures.asked.running
+    (stays_pair c.in_ok-pair.ensures.asked c.make_rounds-made.ensures.made) c.make_rounds-made.ensures.made.goes c.make_rounds-made.ensures.made.lost
 
 pub returns-clause-out_of_rounds : goal.returns-clause-out_of_rounds
 returns-clause-out_of_rounds g c =
-    out_by c.make_rounds-made.result c.answers_of.result _ _ _ _ _ _ _ _ _ _ c.answers_of.ensures.ends (is_something _ c.if-is_empty.ensures) c.in_ok-pair.ensures.asked.running
-    c.in_ok-pair.ensures.asked.asked c.make_rounds-made.ensures.made
+    out_by c.make_rounds-made.result c.answers_of.result _ _ _ _ _ _ _ _ _ _ _ _ c.answers_of.ensures.ends (is_something _ c.if-is_empty.ensures) c.in_ok-pair.ensures.asked.running
+    (stays_pair c.in_ok-pair.ensures.asked c.make_rounds-made.ensures.made) c.make_rounds-made.ensures.made
 
 -- ---- the answers
 

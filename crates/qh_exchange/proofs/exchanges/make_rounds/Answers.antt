@@ -13,7 +13,7 @@ loop-round-init g c = record { made = none_made _ _ _ _ _ c.requires.going c.req
 pub loop-round-preserved : goal.loop-round-preserved
 loop-round-preserved g c = record {
   made = one_more _ _ _ _ _ _ _ _ _ _ _ _ _ _ _ _ c.in_ok-turn.field-0 c.loop-round.invariant.made c.turn.ensures.goes_on c.in_ok-turn.ensures.clock c.in_ok-turn.ensures.going c.turn.ensures.requests
-      c.turn.ensures.settings.0 c.turn.ensures.settings.2
+      c.turn.ensures.settings.0 c.turn.ensures.settings.1 c.turn.ensures.settings.2
       (λ e. let t : c.in_ok-turn.field-0 ≡ true = c.in_ok-turn.ensures.done.1 e in let f : c.in_ok-turn.field-0 ≡ false = c.if-branch.false in cc)
       c.in_ok-turn.ensures.turned c.in_ok-turn.ensures.round (c.in_ok-turn.ensures.cause.still refl);
   plan = c.turn.ensures.plan ∙ c.loop-round.invariant.plan;
@@ -30,7 +30,7 @@ pub returns-in_err-turn-clause-made : goal.returns-in_err-turn-clause-made
 returns-in_err-turn-clause-made g c =
     let p = err_from_is_err_and c.from_residual.result c.from_residual.ensures.1 in
     rw (p.1, p.2)
-    (rounds_lost _ _ _ _ _ _ _ _ _ _ _ _ _ _ _ _ _ c.loop-round.invariant.made c.turn.ensures.goes_on c.turn.ensures.requests c.in_err-turn.ensures.clock c.in_err-turn.ensures.lost c.in_err-turn.ensures.errors)
+    (rounds_lost _ _ _ _ _ _ _ _ _ _ _ _ _ _ _ _ _ c.loop-round.invariant.made c.turn.ensures.goes_on c.turn.ensures.requests c.turn.ensures.settings.0 c.turn.ensures.settings.1 c.in_err-turn.ensures.clock c.in_err-turn.ensures.lost c.in_err-turn.ensures.errors)
 
 pub returns-in_err-turn-clause-cause : goal.returns-in_err-turn-clause-cause
 returns-in_err-turn-clause-cause g c =
@@ -48,7 +48,7 @@ returns-in_err-turn-clause-answered g c =
 
 pub returns-then-branch-clause-made : goal.returns-then-branch-clause-made
 returns-then-branch-clause-made g c =
-    rounds_done _ _ _ _ _ _ _ _ _ _ _ _ _ _ _ _ _ c.loop-round.invariant.made c.turn.ensures.goes_on c.turn.ensures.requests (c.in_ok-turn.ensures.done.0 c.if-branch.true)
+    rounds_done _ _ _ _ _ _ _ _ _ _ _ _ _ _ _ _ _ c.loop-round.invariant.made c.turn.ensures.goes_on c.turn.ensures.requests c.turn.ensures.settings.0 c.turn.ensures.settings.1 (c.in_ok-turn.ensures.done.0 c.if-branch.true)
 
 pub returns-then-branch-clause-cause : goal.returns-then-branch-clause-cause
 returns-then-branch-clause-cause g c = counts_after _ _ _ false c.loop-round.invariant.made.still c.in_ok-turn.ensures.cause

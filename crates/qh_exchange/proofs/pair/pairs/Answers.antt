@@ -1,9 +1,21 @@
-use Rattle.qh_exchange.proofs.Bridged.{means}
+use Rattle.qh_exchange.proofs.Bridged.{means, says}
+use Rattle.qh_exchange.proofs.Hellos.{set_ids}
+use Rattle.qh_exchange.proofs.IdleWhole.{set_idle}
+use Rattle.qh_exchange.proofs.TimedOut.{timed_passed}
 use Rattle.qh_exchange.proofs.Within.{keeps_within}
 use Rattle.qh_exchange.proofs.pair.pairs.Goals as goal
 
 pub returns-clause-honest : goal.returns-clause-honest
-returns-clause-honest c = means c.lawful.ensures.faithful
+returns-clause-honest c = means c.greeted_first.ensures c.converses.ensures.order
 
 pub returns-clause-within : goal.returns-clause-within
-returns-clause-within c = keeps_within c.lawful.ensures.within
+returns-clause-within c = keeps_within
+
+pub returns-clause-said : goal.returns-clause-said
+returns-clause-said c = says
+
+pub returns-clause-fitting : goal.returns-clause-fitting
+returns-clause-fitting c n config events set = (set_ids n config events set, set_idle n config events set)
+
+pub returns-clause-timed_out : goal.returns-clause-timed_out
+returns-clause-timed_out c = timed_passed

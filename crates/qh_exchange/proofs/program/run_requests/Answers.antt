@@ -9,6 +9,9 @@ returns c = λ s as_.
     (record {
       answered = x.answered_once;
       once = x.never_twice;
+      greeted = x.greeted_first;
+      set = x.greeted_as_set;
+      said = x.sent_as_set;
       within = x.within_announced;
       count = x.count;
       empty = x.empty;
@@ -18,6 +21,7 @@ returns c = λ s as_.
       cause = x.cause;
       fault = x.fault;
       timed_out = x.timed_out;
+      waited = x.waited;
       fair = x.fair;
       lost = x.lost;
       out_of_rounds = x.out_of_rounds;

@@ -1,3 +1,4 @@
+use Rattle.std.specs.Prelude.{is_some}
 use Rattle.std.proofs.Common.{◌≡◌, refl, ◌∙◌, ap, ◌++◌, ◌∷◌, [], List, Err, Some}
 use Rattle.std.proofs.lemmas.Result.{err_from_is_err_and, IfErr-weaker}
 use Rattle.qh_base.specs.declared.time.Moment.{Moment}
@@ -91,7 +92,7 @@ returns-in_err-now-clause-fault g c =
 pub returns-in_err-now-clause-fair : goal.returns-in_err-now-clause-fair
 returns-in_err-now-clause-fair g c =
     let p = err_from_is_err_and c.from_residual.result c.from_residual.ensures.1 in
-    rw (p.1, p.2) (λ earlier events more entries run sound told_old told_new honest. fair_link (Unit {0}) _ _ _ _ c.in_err-now.ensures.errors)
+    rw (p.1, p.2) (λ earlier events more entries sound told_old told_new honest. fair_link (Unit {0}) _ _ _ _ c.in_err-now.ensures.errors)
 
 pub returns-in_err-now-clause-lost : goal.returns-in_err-now-clause-lost
 returns-in_err-now-clause-lost g c =
@@ -135,7 +136,7 @@ returns-in_err-receive-clause-fault g c =
 pub returns-in_err-receive-clause-fair : goal.returns-in_err-receive-clause-fair
 returns-in_err-receive-clause-fair g c =
     let p = err_from_is_err_and c.from_residual-in_err-receive.result c.from_residual-in_err-receive.ensures.1 in
-    rw (p.1, p.2) (λ earlier events more entries run sound told_old told_new honest. fair_link (Unit {0}) _ _ _ _ c.in_err-receive.ensures.errors)
+    rw (p.1, p.2) (λ earlier events more entries sound told_old told_new honest. fair_link (Unit {0}) _ _ _ _ c.in_err-receive.ensures.errors)
 
 pub returns-in_err-receive-clause-lost : goal.returns-in_err-receive-clause-lost
 returns-in_err-receive-clause-lost g c =
@@ -179,8 +180,7 @@ returns-in_err-tick-clause-clock g c =
     let b = c.in_ok-now.ensures.clock before moments is t in
     let last = b.begun.0 in
     let taken = c.in_ok-receive.ensures.ticking _ last b.begun.1 in
-    ticks_lost _ _ _ _ _ _ b.more _ (c.receive.ensures.moments ∙ b.are) ((c.in_ok-receive.ensures.step []).same.config ∙ (c.in_ok-now.ensures.step []).same.config)
-    (c.in_err-tick.ensures.timed_out _ last taken))
+    ticks_lost _ _ _ _ _ b.more _ (c.receive.ensures.moments ∙ b.are) (c.in_err-tick.ensures.timed_out _ last taken))
 
 pub returns-in_err-tick-clause-cause : goal.returns-in_err-tick-clause-cause
 returns-in_err-tick-clause-cause g c =
@@ -234,7 +234,7 @@ returns-in_err-converse-clause-fault g c =
 pub returns-in_err-converse-clause-fair : goal.returns-in_err-converse-clause-fair
 returns-in_err-converse-clause-fair g c =
     let p = err_from_is_err_and c.from_residual-in_err-converse.result c.from_residual-in_err-converse.ensures.1 in
-    rw (p.1, p.2) (λ earlier events more entries run sound told_old told_new honest. tt)
+    rw (p.1, p.2) (λ earlier events more entries sound told_old told_new honest. tt)
 
 pub returns-in_err-converse-clause-lost : goal.returns-in_err-converse-clause-lost
 returns-in_err-converse-clause-lost g c =
@@ -254,16 +254,18 @@ pub returns-clause-step : goal.returns-clause-step
 returns-clause-step g c =
     ended_at _ _ _ _ _ _ _ _ _ _ _ (c.transmit.ensures.moments ∙ c.receive.ensures.moments ∙ c.in_ok-now.ensures.round)
     (step_trans _ _ _ _ _ _ _ _ _ _ _ _ _ _
-    (step_trans _ _ _ _ _ _ _ _ _ _ _ _ _ (λ (more : List Event). (b1 b2 : List Event) × (more ≡ ((b1 ++ b2) ++ []) ++ []) × (b1 ≡ Round c.in_ok-now.now.0 ∷ []) × AreIntakes b2)
-    (step_trans _ _ _ _ _ _ _ _ _ _ _ _ _ (λ (more : List Event). (b1 b2 : List Event) × (more ≡ (b1 ++ b2) ++ []) × (b1 ≡ Round c.in_ok-now.now.0 ∷ []) × AreIntakes b2)
-    (step_trans _ _ _ _ _ _ _ _ _ _ _ _ _ (λ (more : List Event). (b1 b2 : List Event) × (more ≡ b1 ++ b2) × (b1 ≡ Round c.in_ok-now.now.0 ∷ []) × AreIntakes b2)
+    (step_trans _ _ _ _ _ _ _ _ _ _ _ _ _ (λ (more : List Event). (b1 b2 : List Event) × (more ≡ ((b1 ++ b2) ++ []) ++ []) × (b1 ≡ Round c.in_ok-now.now.0 ∷ []) × AreIntakes c.receive.new.self.ids (is_some c.receive.new.self.server_end) b2)
+    (step_trans _ _ _ _ _ _ _ _ _ _ _ _ _ (λ (more : List Event). (b1 b2 : List Event) × (more ≡ (b1 ++ b2) ++ []) × (b1 ≡ Round c.in_ok-now.now.0 ∷ []) × AreIntakes c.receive.new.self.ids (is_some c.receive.new.self.server_end) b2)
+    (step_trans _ _ _ _ _ _ _ _ _ _ _ _ _ (λ (more : List Event). (b1 b2 : List Event) × (more ≡ b1 ++ b2) × (b1 ≡ Round c.in_ok-now.now.0 ∷ []) × AreIntakes c.receive.new.self.ids (is_some c.receive.new.self.server_end) b2)
     (begun _ _ _ _ _ _ _ _ _ _ _ c.in_ok-now.ensures.round (c.in_ok-now.ensures.step _)) (c.in_ok-receive.ensures.step _) (λ x y k m. (x, y, refl, k, m)))
     (c.in_ok-tick.ensures.step _ _)
     (λ x y k m. (k.0, k.1, ap (λ (z : List Event). z ++ y) k.2 ∙ ap (λ (z : List Event). (k.0 ++ k.1) ++ z) m, k.3, k.4)))
     (c.converse.ensures.step _ _)
     (λ x y k m. (k.0, k.1, ap (λ (z : List Event). z ++ y) k.2 ∙ ap (λ (z : List Event). ((k.0 ++ k.1) ++ []) ++ z) m, k.3, k.4)))
     (c.transmit.ensures.step _)
-    (λ x y k m. turned_full c.transmit.result c.converse.new.self c.transmit.new.self c.in_ok-now.now.0 k.0 k.1 y x k.2 k.3 k.4 m c.transmit.ensures.told c.transmit.ensures.roles
+    (λ x y k m. turned_full c.transmit.result c.receive.new.self c.converse.new.self c.transmit.new.self c.in_ok-now.now.0 k.0 k.1 y x k.2 k.3 k.4
+    ((c.transmit.ensures.step []).same.ids ∙ (c.converse.ensures.step 0 (Some [])).same.ids ∙ (c.tick.ensures.step (Some []) []).same.ids)
+    (λ there. c.transmit.ensures.there ∙ c.converse.ensures.there (c.tick.ensures.there ∙ there)) m c.transmit.ensures.told c.transmit.ensures.roles
     ((c.converse.ensures.step 0 (Some [])).counted refl) (c.transmit.ensures.step []).counted c.is_up.ensures c.in_ok-converse.ensures.asks c.in_ok-converse.ensures.accepts))
 
 pub returns-clause-fault : goal.returns-clause-fault
@@ -277,7 +279,7 @@ returns-clause-order g c =
     ok_always c.transmit.result _ (in_order _ _ _ (c.transmit.ensures.moments ∙ c.receive.ensures.moments ∙ c.in_ok-now.ensures.round) c.in_ok-now.ensures.order)
 
 pub returns-clause-fair : goal.returns-clause-fair
-returns-clause-fair g c = λ earlier events more entries run sound told_old told_new honest. fair_last _ _ _ c.transmit.result c.transmit.ensures.errors
+returns-clause-fair g c = λ earlier events more entries sound told_old told_new honest. fair_last _ _ _ c.transmit.result c.transmit.ensures.errors
 
 pub returns-clause-clock : goal.returns-clause-clock
 returns-clause-clock g c = λ before moments is t.

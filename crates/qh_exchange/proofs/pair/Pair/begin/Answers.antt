@@ -6,7 +6,7 @@ use Rattle.qh_spec.specs.declared.sides.Side.TheVariants.{Client, Server}
 use Rattle.qh_link.specs.Link.{fault_events}
 use Rattle.qh_exchange.proofs.ClockSteps.{fault_tells_nothing, counts_link_fault, is_link_error}
 use Rattle.qh_exchange.proofs.Faults.{fault_here}
-use Rattle.qh_exchange.proofs.PairSteps.{step_waits, step_rests, step_fails, still_trans}
+use Rattle.qh_exchange.proofs.PairSteps.{step_waits, step_rests, step_fails}
 use Rattle.qh_exchange.proofs.Turns.{begins_err, begins_ok}
 use Rattle.qh_exchange.proofs.pair.Pair.begin.Goals as goal
 
@@ -49,25 +49,10 @@ returns-in_err-open_client-clause-clock g c =
     let p = err_from_is_err_and c.from_residual-in_err-open_client.result c.from_residual-in_err-open_client.ensures.1 in
     rw p.1 (λ before moments is t. begins_err _ _ _ before moments (c.in_ok-now.now.0 ∷ []) _ c.in_ok-now.ensures.moments is)
 
-pub returns-in_err-open_server-clause-step : goal.returns-in_err-open_server-clause-step
-returns-in_err-open_server-clause-step g c =
-    let p = err_from_is_err_and c.from_residual-in_err-open_server.result c.from_residual-in_err-open_server.ensures.1 in
-    rw p.1
-    (λ served. step_fails _ _ _ _ _ _ _ _ _ _ _
-    (step_rests 0 _ _ _ _ _ _ _ (λ more. more ≡ more) (step_waits _ _ _ _ _ served (Round c.in_ok-now.now.0 ∷ []) _ c.requires.counted refl refl c.in_ok-now.ensures.events refl)
-    (still_trans _ _ _ c.open_client.ensures.still c.open_server.ensures.still))
-    (λ x k. tt))
-
-pub returns-in_err-open_server-clause-clock : goal.returns-in_err-open_server-clause-clock
-returns-in_err-open_server-clause-clock g c =
-    let p = err_from_is_err_and c.from_residual-in_err-open_server.result c.from_residual-in_err-open_server.ensures.1 in
-    rw p.1 (λ before moments is t. begins_err _ _ _ before moments (c.in_ok-now.now.0 ∷ []) _ c.in_ok-now.ensures.moments is)
-
 pub returns-clause-step : goal.returns-clause-step
 returns-clause-step g c =
-    λ served. step_rests _ _ _ _ _ _ _ _ _ (step_waits _ _ _ _ _ served (Round c.in_ok-now.now.0 ∷ []) _ c.requires.counted refl refl c.in_ok-now.ensures.events refl)
-    (still_trans _ _ _ c.open_client.ensures.still c.open_server.ensures.still)
+    λ served. step_rests _ _ _ _ _ _ _ _ _ (step_waits _ _ _ _ _ served (Round c.in_ok-now.now.0 ∷ []) _ c.requires.counted refl refl c.in_ok-now.ensures.events refl) c.in_ok-open_client.ensures.still
 
 pub returns-clause-clock : goal.returns-clause-clock
 returns-clause-clock g c =
-    λ before moments is t. begins_ok _ _ _ _ _ before moments _ c.in_ok-now.ensures.moments is c.in_ok-now.ensures.order t c.open_client.ensures.ticking c.open_server.ensures.ticking
+    λ before moments is t. begins_ok _ _ _ _ before moments _ c.in_ok-now.ensures.moments is c.in_ok-now.ensures.order t c.in_ok-open_client.ensures.ticking

@@ -1,7 +1,6 @@
-use Rattle.std.proofs.Common.{[], refl, ap, sym, ◌∙◌}
+use Rattle.std.proofs.Common.{refl, ap, sym, ◌∙◌}
 use Rattle.qh_roles.specs.Server.{PlainServer}
-use Rattle.qh_spec.specs.Config.{PlainConfig}
-use Rattle.qh_exchange.proofs.PairFirst.{first_running, runs_first, run_first, sound_first}
+use Rattle.qh_exchange.proofs.PairFirst.{first_running, runs_first, run_first, first_soundly}
 use Rattle.qh_exchange.proofs.pair.Pair.of_client.Goals as goal
 
 pub invariant_of-result : goal.invariant_of-result
@@ -12,7 +11,7 @@ invariant_of-result c = (
 
 pub returns-clause-running : goal.returns-clause-running
 returns-clause-running c =
+    let accepted = ap (λ (z : PlainServer). z.accepted) c.new.ensures.value in
     first_running _
-    (runs_first _ _ refl refl c.requires.asking c.requires.unopened c.new.ensures.serving (ap (λ (z : PlainServer). z.accepted) c.new.ensures.value))
-    (sound_first _ c.args.config.now [] refl refl c.conn_config.ensures c.requires.fits (c.of.ensures.lengths.1 ∙ sym c.of.ensures.lengths.0)
-    (c.of.ensures.key ∙ ap (λ (z : PlainConfig). z.first_id_len) c.config.view_is))
+    (runs_first _ _ refl refl c.requires.asking c.requires.unopened c.new.ensures.serving accepted)
+    (first_soundly _ c.args.config.now refl refl c.requires.asking c.requires.unopened c.new.ensures.serving accepted c.conn_config.ensures c.requires.fits (c.of.ensures.lengths.1 ∙ sym c.of.ensures.lengths.0))
