@@ -1,0 +1,3 @@
+pub mod ConnectionMeta
+pub mod Index
+pub mod Routes

@@ -1,0 +1,12 @@
+use Rattle.std.proofs.Common.{◌%◌, [], ◌∷◌}
+use Rattle.qh_frame.proofs.FramesWritten.{appended}
+use Rattle.qh_stateless.proofs.Resets.{one_drawn}
+use Rattle.qh_stateless.proofs.reset.put_low_bytes.Goals as goal
+
+pub loop-preserved : goal.loop-preserved
+loop-preserved g c = (
+  one_drawn (g.W.Words.given c.args.words.now) (g.W.Words.given c.loop.words) (g.W.Words.given c.next-word.new.self) c.args.out.now.items c.loop.out.items c.push.new.self.items c.loop.counter c.next-word.result
+      c.loop.invariant.0 c.next-word.ensures
+      (appended c.push.result c.loop.out.items c.push.new.self.items ((c.next-word.result % 256) ∷ []) c.if-is_err.ensures.value c.push.ensures.items),
+  c.loop.invariant.1,
+)
