@@ -62,6 +62,15 @@ none_left accepts now bytes rest old new _ end none (ArePacketsTaken.more _ _ af
 none_left accepts now bytes rest old new _ _ none (ArePacketsTaken.ended _ _ _ f _ _ _ _ begins _) =
     absurd (no_form begins.front f.first f.body (no_front begins.front rest (sym none ∙ begins.whole)) begins.form)
 
+-- and what is taken of nothing changes nothing
+pub nothing_taken : (accepts : AcceptsTag) (now : Moment) (bytes rest : List ℕ) (old new : Handshake) (learned : Option (List ℕ)) (end : Option ConnectionError) → bytes ≡ []
+    → ArePacketsTaken accepts now bytes rest old new learned end → new ≡ old
+nothing_taken accepts now bytes _ old _ _ _ none (ArePacketsTaken.done _ _ _) = refl
+nothing_taken accepts now bytes rest old new _ end none (ArePacketsTaken.more _ _ after _ f _ _ _ _ _ _ begins _ _) =
+    absurd (no_form begins.front f.first f.body (no_front begins.front after (sym none ∙ begins.whole)) begins.form)
+nothing_taken accepts now bytes rest old new _ _ none (ArePacketsTaken.ended _ _ _ f _ _ _ _ begins _) =
+    absurd (no_form begins.front f.first f.body (no_front begins.front rest (sym none ∙ begins.whole)) begins.form)
+
 packets_alone : (accepts : AcceptsTag) (now : Moment) (d rest : List ℕ) (old new : Handshake) (learned : Option (List ℕ)) (end : Option ConnectionError) → IsInitialAlone d
     → ArePacketsTaken accepts now d rest old new learned end → rest ≡ []
 packets_alone accepts now d _ old _ _ _ a (ArePacketsTaken.done _ _ behind) = absurd (behind d [] a.body a.first (sym (append-nil d)) a.is)

@@ -3,12 +3,17 @@ pub mod EndCounting
 pub mod EndErrors
 pub mod EndFed
 pub mod EndFedPeers
+pub mod EndGreetable
 pub mod EndGreeted
+pub mod EndGreets
 pub mod EndKinds
 pub mod EndOpen
 pub mod EndPeers
 pub mod EndRetry
 pub mod EndSteps
+pub mod GreetFrames
+pub mod GreetPackets
+pub mod GreetSealed
 pub mod HonestOn
 pub mod HonestSteps
 pub mod IdControls

@@ -1,4 +1,4 @@
-ghost use Rattle.std.specs.Prelude.{◌≡◌, ◌≤◌, ◌^◌, ◌++◌, ◌∷◌, ℕ, [], List, Option, Some, None, Bool, true, length, drop, is_some};
+ghost use Rattle.std.specs.Prelude.{◌≡◌, ◌≤◌, ◌^◌, ◌++◌, ◌∷◌, ℕ, [], List, Option, Some, None, Bool, true, bytes_eq, length, drop, is_some};
 ghost use Rattle.qh_arrival.specs.Accord.{AreTags};
 ghost use Rattle.qh_base.specs.declared.path.FourTuple.{FourTuple as APath};
 ghost use Rattle.qh_base.specs.declared.path.Transmit.{Transmit as ATransmit};
@@ -21,16 +21,20 @@ ghost use Rattle.qh_core.specs.Inner.{is_open, with_streams};
 ghost use Rattle.qh_core.specs.Made.{AcceptsTags, MakesTagsOf};
 ghost use Rattle.qh_core.specs.declared.control.ControlFrame.TheVariants as sending;
 ghost use Rattle.qh_core.specs.declared.inner.Inner.{Inner as AnInner};
+ghost use Rattle.qh_handshake.specs.Follows.{IsFresh};
 ghost use Rattle.qh_handshake.specs.Handshake.{with_origin};
 ghost use Rattle.qh_handshake.specs.Incoming.{SessionView};
 ghost use Rattle.qh_handshake.specs.Peers.{KnowsIds};
+ghost use Rattle.qh_handshake.specs.declared.handshake.Handshake.{Handshake as AHandshake};
 ghost use Rattle.qh_hello.specs.declared.transport_parameters.TransportParameters.{TransportParameters as AParameters};
 ghost use Rattle.qh_packet.specs.Session.{MakesTags, NamesTags, SealsTag};
 ghost use Rattle.qh_peers.specs.Ends.{AreTwoEnds, IsHonestEnd, SaysItsOwn};
+ghost use Rattle.qh_peers.specs.Greets.{AcceptsInitials, AreInitialsSealed, CanBeGreeted, IsGreeting};
 ghost use Rattle.qh_peers.specs.Ids.{HasSameIds, HaveOwnTokens};
 ghost use Rattle.qh_spec.specs.Link.{other};
 ghost use Rattle.qh_spec.specs.Lists.{In};
 ghost use Rattle.qh_spec.specs.Parted.{CameFrom};
+ghost use Rattle.qh_spec.specs.Tag.{tag_bytes};
 ghost use Rattle.qh_spec.specs.Transcript.{Act, HandedIn, HandedOut, handed_in, handed_out};
 ghost use Rattle.qh_spec.specs.declared.sides.Side.{Side as ASide};
 
@@ -127,3 +131,41 @@ pub fn two_ends<S>()
     converses::<S>();
     restarts::<S>();
 }
+
+/// An end is greeted by a datagram of its honest peer's that greets it (`IsGreeting`), if it can be greeted by this peer (`CanBeGreeted`), and the
+/// Initial packets that the peer handed out have the tags that this end's session accepts.
+pub fn greets<S>()
+    ensures greets { (v : SessionView S) (now : AMoment) (d own_hello peer_hello : List ℕ) (c q new : AConnection S) (tc tq : List Act) → NamesTags (v.accepts c.core.session)
+        → AreTags (v.accepts q.core.session) (v.sealed q.core.session) → AcceptsInitials (v.accepts c.core.session) (v.sealed q.core.session)
+        → AreTwoEnds v.accepts v.sealed v.key own_hello peer_hello c q tc tq → AreInitialsSealed (v.sealed q.core.session) q.core.side tq → CanBeGreeted c.handshake q.handshake
+        → In d (handed_out tq) → IsGreeting (length c.core.local_id) q.core.side (handed_in tc) d → IsDatagramHandled v now d c new → is_some new.handshake.peer ≡ true }
+{}
+
+/// An end can be greeted by its peer before its first datagram (`fresh`), where a server knows the peer's id by the packet for which it was made,
+/// and a client knows none; and stays so when a datagram of its honest peer's comes (`given`), when it hands out one (`sent`), when something is
+/// due (`timed`), when `poll` and `poll_endpoint_events` tell something (`told`, `endpoint_told`), when ids are issued (`issued`), and whatever the
+/// peer does (`peer`).
+pub fn can_greet<S>()
+    ensures fresh { (hello : List ℕ) (own peer : AHandshake) → IsFresh hello own → (own.knows_peer ≡ true → own.remote_id ≡ peer.local_id) → CanBeGreeted own peer }
+    ensures given { (v : SessionView S) (now : AMoment) (d own_hello peer_hello : List ℕ) (c q new : AConnection S) (tc tq : List Act) → NamesTags (v.accepts c.core.session)
+        → AreTags (v.accepts q.core.session) (v.sealed q.core.session) → AreTwoEnds v.accepts v.sealed v.key own_hello peer_hello c q tc tq → In d (handed_out tq)
+        → IsDatagramHandled v now d c new → CanBeGreeted c.handshake q.handshake → CanBeGreeted new.handshake q.handshake }
+    ensures sent { (sealed : SealsTag) (now : AMoment) (old new : AConnection S) (before after : List ℕ) (transmit : ATransmit) (peer : AHandshake) → IsTransmitted sealed now old new before after transmit
+        → CanBeGreeted old.handshake peer → CanBeGreeted new.handshake peer }
+    ensures timed { (now : ℕ) (old new : AConnection S) (peer : AHandshake) → IsTimedOut now old new → CanBeGreeted old.handshake peer → CanBeGreeted new.handshake peer }
+    ensures told { (old new : AConnection S) (event : Option AnEvent) (peer : AHandshake) → IsTold old new event → CanBeGreeted old.handshake peer → CanBeGreeted new.handshake peer }
+    ensures endpoint_told { (old new : AConnection S) (event : Option AnEndpointEvent) (peer : AHandshake) → IsEndpointTold old new event → CanBeGreeted old.handshake peer → CanBeGreeted new.handshake peer }
+    ensures issued { (ids : List ACid) (old new : AConnection S) (peer : AHandshake) → AreIdsIssued ids old new → CanBeGreeted old.handshake peer → CanBeGreeted new.handshake peer }
+    ensures peer { (own peer new : AHandshake) → new.local_id ≡ peer.local_id → CanBeGreeted own peer → CanBeGreeted own new }
+{}
+
+/// The Initial packets that an end handed out have the tags that are made for them: before its first datagram (`fresh`), after each datagram that
+/// it hands out (`sent`), and after whatever hands out none (`quiet`). A session without a cipher accepts each tag that is made of its key
+/// (`plain`).
+pub fn initials_sealed<S>()
+    ensures fresh { (sealed : SealsTag) (side : ASide) → AreInitialsSealed sealed side [] }
+    ensures sent { (sealed : SealsTag) (now : AMoment) (before after : List ℕ) (transmit : ATransmit) (c new : AConnection S) (t : List Act) → IsWhole c → IsTransmitted sealed now c new before after transmit
+        → AreInitialsSealed sealed c.core.side t → AreInitialsSealed sealed c.core.side (t ++ HandedOut (drop (length before) after) ∷ []) }
+    ensures quiet { (sealed : SealsTag) (side : ASide) (t more : List Act) → handed_out more ≡ [] → AreInitialsSealed sealed side t → AreInitialsSealed sealed side (t ++ more) }
+    ensures plain { (key_id : List ℕ) → AcceptsInitials (λ from space number tag. bytes_eq tag (tag_bytes key_id from space number)) (tag_bytes key_id) }
+{}

@@ -4,5 +4,7 @@
 mod ends;
 mod ids;
 
-pub use ends::{honest_ends, retry_kept, says_its_own, two_ends};
+pub use ends::{
+    can_greet, greets, honest_ends, initials_sealed, retry_kept, says_its_own, two_ends,
+};
 pub use ids::few_ids;
