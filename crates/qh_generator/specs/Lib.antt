@@ -1,0 +1,4 @@
+pub mod Counted
+pub mod CountingIds
+pub mod Fresh
+pub mod Given
