@@ -1,4 +1,6 @@
+pub mod Both
 pub mod Changes
+pub mod Counts
 pub mod Keys
 pub mod Membership
 pub mod Metas

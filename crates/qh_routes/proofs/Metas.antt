@@ -1,9 +1,10 @@
 -- By what a connection may be found, when its ids or its reset token change.
-use Rattle.std.proofs.Common.{◌≡◌, ◌⊎◌, ◌↔◌, ℕ, Bool, true, false, cond, List, [], ◌∷◌, ◌++◌, Option, Some, None, sym, subst, inl, inr}
+use Rattle.std.proofs.Common.{◌≡◌, ◌⊎◌, ◌↔◌, ℕ, Bool, true, false, cond, List, [], ◌∷◌, ◌++◌, Option, Some, None, refl, sym, ap, subst, inl, inr}
 use Rattle.std.specs.declared.cmp.Ordering.{Ordering}
 use Rattle.std.specs.declared.cmp.Ordering.TheVariants.{Less, Equal, Greater}
 use Rattle.std.specs.declared.net.socket_addr.SocketAddr.{SocketAddr}
 use Rattle.std.specs.BTreeMap.{insert_entry, is_at}
+use Rattle.std.specs.Cmp.{nat_cmp_is}
 use Rattle.std.specs.Map.{lookup, remove_entry, values_of}
 use Rattle.std.specs.Ordering.{is_eq, match_ordering, nat_cmp}
 use Rattle.qh_base.specs.declared.shared.ResetToken.{ResetToken}
@@ -99,3 +100,19 @@ keys_reset m token k =
       λ h. elim ((j k).0 h) [ inl a ↦ inr ((l k).1 (inl a)) | inr b ↦ inl b ],
       λ s. elim s [ inl b ↦ (j k).1 (inr b) | inr a ↦ elim ((l k).0 a) [ inl c ↦ (j k).1 (inl c) | inr n ↦ absurd n ] ],
     )
+
+-- ---- an id that is taken back
+
+nat_cmp_same : (n : ℕ) → nat_cmp n n ≡ Equal
+nat_cmp_same n = sym (nat_cmp_is n n Equal refl)
+
+taken_by : (o : Ordering) (n : ℕ) (id : List ℕ) (e : ℕ × List ℕ) (es rest : List (ℕ × List ℕ)) → nat_cmp n e.0 ≡ o → cond (is_eq o) (Some e.1) (lookup (is_at (nat_cmp n)) es) ≡ None → nat_cmp n n ≡ Equal
+    → (lookup (is_at (nat_cmp n)) es ≡ None → remove_entry (is_at (nat_cmp n)) rest ≡ es)
+    → remove_entry (is_at (nat_cmp n)) (match_ordering o ((n, id) ∷ e ∷ es) ((e.0, id) ∷ es) (e ∷ rest)) ≡ e ∷ es
+taken_by Less n id e es rest is h same w = rw same refl
+taken_by Equal n id e es rest is h same w = not_some e.1 (sym h)
+taken_by Greater n id e es rest is h same w = rw is (ap (λ (z : List (ℕ × List ℕ)). e ∷ z) (w h))
+
+pub put_taken : (n : ℕ) (id : List ℕ) (es : List (ℕ × List ℕ)) → lookup (is_at (nat_cmp n)) es ≡ None → remove_entry (is_at (nat_cmp n)) (insert_entry nat_cmp es n id) ≡ es
+put_taken n id [] h = rw (nat_cmp_same n) refl
+put_taken n id (e ∷ es) h = taken_by (nat_cmp n e.0) n id e es (insert_entry nat_cmp es n id) refl h (nat_cmp_same n) (put_taken n id es)

@@ -1,6 +1,6 @@
 -- How an endpoint finds what a datagram belongs to: by an id in it, by the addresses that it came over, or by a reset token at its end
 -- (RFC 9000, sections 5.2 and 10.3).
-use Rattle.std.specs.Prelude.{◌≡◌, ◌≢◌, ◌⊎◌, ◌↔◌, ℕ, ◌-◌, nat_le, Bool, true, false, List, [], ◌∷◌, ◌++◌, length, drop, Option, Some, None, if◌then◌else◌}
+use Rattle.std.specs.Prelude.{◌≡◌, ◌≢◌, ◌⊎◌, ◌↔◌, ℕ, ◌-◌, nat_le, Bool, true, false, List, [], ◌∷◌, ◌++◌, length, drop, Option, Some, None, count_by, if◌then◌else◌}
 use Rattle.std.specs.Map.{keys_of as keys_in}
 use Rattle.std.specs.declared.net.socket_addr.SocketAddr.{SocketAddr}
 use Rattle.qh_base.specs.declared.path.FourTuple.{FourTuple}
@@ -52,6 +52,30 @@ abbrev pub conn_key : (addresses : FourTuple) → (id : List ℕ) → Side → R
 conn_key addresses (b ∷ id) side = issued (b ∷ id)
 conn_key addresses [] Server = pair addresses
 conn_key addresses [] Client = remote addresses.remote
+
+-- the same routes, in whatever order
+pub record AreSameRoutes (old new : Routes) : Type 0 where
+  pub kept : (k : RouteKey) (t : RouteDatagramTo) → In (k, t) old → In (k, t) new
+  pub none_new : (k : RouteKey) (t : RouteDatagramTo) → In (k, t) new → In (k, t) old
+
+-- a server's connection is found by the id that the client's first packets went to, unless that is empty
+abbrev pub IsFirstAdded : Side → (init_cid : List ℕ) → (target : RouteDatagramTo) → (old new : Routes) → Type 0
+IsFirstAdded Client init_cid target old new = new ≡ old
+IsFirstAdded Server [] target old new = new ≡ old
+IsFirstAdded Server (b ∷ id) target old new = IsAdded (initial (b ∷ id)) target old new
+
+-- ---- how many ids are issued
+
+abbrev pub is_issued_key : RouteKey → Bool
+is_issued_key (issued id) = true
+is_issued_key (initial id) = false
+is_issued_key (pair addresses) = false
+is_issued_key (remote address) = false
+is_issued_key (reset address token) = false
+
+-- how many ids that this end issued have a route
+abbrev pub issued_count : Routes → ℕ
+issued_count routes = count_by (λ (r : RouteKey × RouteDatagramTo). is_issued_key r.0) routes
 
 -- ---- what a datagram is found by
 

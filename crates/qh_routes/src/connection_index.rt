@@ -1,11 +1,12 @@
-ghost use Rattle.std.specs.Prelude.{◌≡◌, ◌≢◌, ◌↔◌, ◌-◌, ◌<◌, ◌≤◌, [], ◌∷◌, length, drop, OnOk, OnErr, IsOk, IsTrue, IfSome, IfNone};
+ghost use Rattle.std.specs.Prelude.{◌≡◌, ◌≢◌, ◌↔◌, ◌-◌, ◌<◌, ◌≤◌, ℕ, List, Some, None, [], ◌∷◌, length, drop, OnOk, OnErr, IsOk, IsTrue, IfSome, IfNone};
 ghost use Rattle.std.specs.Map.{lookup, values_of};
 ghost use Rattle.std.specs.Ordering.{eq_by_cmp};
 ghost use Rattle.std.specs.BTreeMap.{IsOrdered};
 ghost use Rattle.std.specs.HashMap.{IsUnique};
 ghost use Rattle.std.specs.Option.{option_copied, option_map};
 ghost use Rattle.qh_spec.specs.Lists.{In};
-ghost use Rattle.qh_routes.specs.Routes.{issued, initial, pair, remote, reset, NoKeyTwice, HasNoEmptyId, IsAdded, IsRemovedOf, AreRemovedOf, conn_key, address_keys, id_keys, connection_keys, reset_keys, keys_of, IsRouted};
+ghost use Rattle.qh_routes.specs.Routes.{issued, initial, pair, remote, reset, NoKeyTwice, HasNoEmptyId, IsAdded, IsRemovedOf, AreRemovedOf, conn_key, address_keys, id_keys, connection_keys, reset_keys, keys_of, IsRouted, AreSameRoutes, IsFirstAdded, Routes, issued_count};
+ghost use Rattle.qh_spec.specs.declared.sides.Side.TheVariants.{Client, Server};
 ghost use Rattle.qh_routes.specs.Index.{Loses, id_cmp, id_eq};
 ghost use Rattle.qh_routes.specs.ConnectionMeta.{initial_keys, issued_keys, token_keys, keys_of_meta};
 ghost use Rattle.qh_routes.specs.declared.connection_index.RouteDatagramTo.{RouteDatagramTo as Target};
@@ -197,6 +198,36 @@ impl ConnectionIndex {
         remove_of(&mut self.tokens, &ResetKey { remote, token }, handle);
     }
 
+    /// A connection that begins is found by its first id, or by its addresses if that is empty (`insert_conn`), and a server's also by the id that
+    /// the client's first packets went to, unless that is empty (`insert_initial`). Without memory the routes are as they were.
+    pub fn insert_both(
+        &mut self,
+        handle: ConnectionHandle,
+        side: Side,
+        init_cid: ConnectionId,
+        dst_cid: ConnectionId,
+        addresses: FourTuple,
+    ) -> Result<(), Memory>
+        ensures added { OnOk result ((between : Routes) × IsFirstAdded side init_cid (Connection handle) self.old between × IsAdded (conn_key addresses dst_cid side) (Connection handle) between self.new) }
+        ensures unchanged { OnErr result (AreSameRoutes self.old self.new) }
+    {
+        self.keys_are_distinct();
+        let earlier = self.first_of(&init_cid);
+        self.insert_first(handle, side, init_cid)?;
+        if let Err(fault) = self.insert_conn(addresses, dst_cid, handle, side) {
+            self.put_back(handle, side, init_cid, earlier);
+            return Err(fault);
+        }
+        Ok(())
+    }
+
+    /// How many ids that this end issued have a route.
+    pub fn issued_len(&self) -> usize
+        ensures { result ≡ issued_count self.now }
+    {
+        self.ids.len()
+    }
+
     /// Whether the id has a route as one that this end issued.
     pub fn is_issued(&self, id: &ConnectionId) -> bool
         ensures { IsTrue result ↔ ((t : Target) × In (issued id.now, t) self.now) }
@@ -224,6 +255,47 @@ impl ConnectionIndex {
         match self.connection_of(addresses, &packet.dst_cid, packet.is_first) {
             Some(found) => Some(found),
             None => self.reset_of(&addresses.remote, packet.data),
+        }
+    }
+
+    // At a server, the id that the client's first packets went to leads to the connection.
+    fn insert_first(
+        &mut self,
+        handle: ConnectionHandle,
+        side: Side,
+        init_cid: ConnectionId,
+    ) -> Result<(), Memory>
+        ensures added { OnOk result (IsFirstAdded side init_cid (Connection handle) self.old self.new) }
+        ensures unchanged { OnErr result (self.new ≡ self.old) }
+    {
+        match side {
+            Side::Server => self.put_initial(init_cid, RouteDatagramTo::Connection(handle)),
+            Side::Client => Ok(()),
+        }
+    }
+
+    // At a server, that id leads again to what it led to. It needs no memory, since a route has its key.
+    fn put_back(
+        &mut self,
+        handle: ConnectionHandle,
+        side: Side,
+        init_cid: ConnectionId,
+        earlier: Option<RouteDatagramTo>,
+    )
+        requires { (b : ℕ) (id : List ℕ) → side ≡ Server → init_cid ≡ b ∷ id → In (initial init_cid, Connection handle) self.old }
+        ensures client { side ≡ Client → self.new ≡ self.old }
+        ensures empty { init_cid ≡ [] → self.new ≡ self.old }
+        ensures none { (b : ℕ) (id : List ℕ) → side ≡ Server → init_cid ≡ b ∷ id → earlier ≡ None → IsRemovedOf (initial init_cid) (Connection handle) self.old self.new }
+        ensures some { (t : Target) (b : ℕ) (id : List ℕ) → side ≡ Server → init_cid ≡ b ∷ id → earlier ≡ Some t → IsAdded (initial init_cid) t self.old self.new }
+    {
+        if side == Side::Client || init_cid.is_empty() {
+            return;
+        }
+        match earlier {
+            Some(target) => {
+                let _ = self.put_initial(init_cid, target);
+            }
+            None => self.remove_initial(init_cid, RouteDatagramTo::Connection(handle)),
         }
     }
 

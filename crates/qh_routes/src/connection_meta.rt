@@ -1,4 +1,4 @@
-ghost use Rattle.std.specs.Prelude.{◌≡◌, ◌+◌, ◌-◌, ◌^◌, min, None, Some, OnOk, OnErr, []};
+ghost use Rattle.std.specs.Prelude.{◌≡◌, ◌+◌, ◌-◌, ◌<◌, ◌^◌, min, None, Some, OnOk, OnErr, []};
 ghost use Rattle.std.specs.Ordering.{nat_cmp};
 ghost use Rattle.std.specs.List.Sorted.{IsStrictlySortedBy};
 ghost use Rattle.std.specs.Map.{keys_of, lookup, remove_entry, values_of};
@@ -111,6 +111,16 @@ impl ConnectionMeta {
         ensures after { self.new ≡ record self.old { loc_cids = remove_entry (is_at (nat_cmp sequence)) self.old.loc_cids } }
     {
         self.loc_cids.remove(&sequence)
+    }
+
+    /// The id that was issued last is taken back: its sequence is the next one again. Gives it, or None if it was taken already.
+    pub fn take_back(&mut self) -> Option<ConnectionId>
+        requires { 0 < self.old.cids_issued }
+        ensures taken { result ≡ lookup (is_at (nat_cmp (self.old.cids_issued - 1))) self.old.loc_cids }
+        ensures after { self.new ≡ record self.old { cids_issued = self.old.cids_issued - 1; loc_cids = remove_entry (is_at (nat_cmp (self.old.cids_issued - 1))) self.old.loc_cids } }
+    {
+        self.cids_issued -= 1;
+        self.loc_cids.remove(&self.cids_issued)
     }
 
     /// From now on the peer's stateless resets come from this address with this token. Gives the earlier pair.

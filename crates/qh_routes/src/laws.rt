@@ -21,6 +21,12 @@ pub fn removal_is_complete()
     ensures { (keys : List RouteKey) (target : Target) (old new : Routes) → AreRemovedOf keys target old new → ((k : RouteKey) → In (k, target) old → In k keys) → (k : RouteKey) → In (k, target) new → ⊥ }
 {}
 
+/// An id that was issued under a sequence that had none, and is taken back, leaves what was.
+pub fn ids_taken_back()
+    ensures { (entries : List (ℕ × List ℕ)) (sequence : ℕ) (id : List ℕ) → lookup (is_at (nat_cmp sequence)) entries ≡ None
+        → remove_entry (is_at (nat_cmp sequence)) (insert_entry nat_cmp entries sequence id) ≡ entries }
+{}
+
 /// By what a connection may be found after `put_id` with a sequence that has no id, `take_id` and `set_reset_token`.
 pub fn keys_after()
     ensures put { (m : PlainMeta) (n sequence : ℕ) (id : List ℕ) → lookup (is_at (nat_cmp sequence)) m.loc_cids ≡ None

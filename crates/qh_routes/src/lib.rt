@@ -11,4 +11,4 @@ mod route_keys;
 pub use connection_handle::ConnectionHandle;
 pub use connection_index::{ConnectionIndex, RouteDatagramTo, Routed};
 pub use connection_meta::ConnectionMeta;
-pub use laws::{answers_are_one, keys_after, removal_is_complete};
+pub use laws::{answers_are_one, ids_taken_back, keys_after, removal_is_complete};

@@ -1,0 +1,20 @@
+-- An id that a source gives is issued if the routes say so.
+use Rattle.std.proofs.Common.{ℕ, Bool, true, false, List, Option, Some, None}
+use Rattle.std.specs.Prelude.{IfSome}
+use Rattle.std.proofs.lemmas.List.Elements.{All-weaker}
+use Rattle.qh_connections.specs.Ids.{AreNoneFresh, IsFreshId, IsIssued}
+use Rattle.qh_generator.specs.Fresh.{AreIssued, IsFresh}
+use Rattle.qh_routes.specs.Routes.{Routes}
+
+if_some : {A : Type 0} (P Q : A → Type 0) → ((x : A) → P x → Q x) → (o : Option A) → IfSome o P → IfSome o Q
+if_some P Q f None h = tt
+if_some P Q f (Some x) h = f x h
+
+module _ (routes : Routes) (answers : List ℕ → Bool → Type 0) (yes : (id : List ℕ) → answers id true → IsIssued routes id) (no : (id : List ℕ) → answers id false → IsIssued routes id → ⊥) (old new : List (List ℕ)) where
+  pub fresh_here : (found : Option (List ℕ)) → IfSome found (IsFresh answers old new) → IfSome found (IsFreshId routes old new)
+  fresh_here found h =
+      if_some (IsFresh answers old new) (IsFreshId routes old new)
+      (λ id f. record { drawn = f.issued; few = f.few; all_issued = All-weaker (λ other. answers other true) (IsIssued routes) yes f.issued f.answered; free = no id f.free; given = f.given }) found h
+
+  pub none_here : AreIssued answers old new → AreNoneFresh routes old new
+  none_here a = record { drawn = a.issued; all = a.all; all_issued = All-weaker (λ other. answers other true) (IsIssued routes) yes a.issued a.answered; given = a.given }

@@ -1,0 +1,25 @@
+-- The ids of an endpoint, by its routes.
+use Rattle.std.specs.Prelude.{◌≡◌, ℕ, ◌<◌, List, [], ◌∷◌, ◌++◌, length, All}
+use Rattle.qh_generator.specs.Given.{and_ids}
+use Rattle.qh_routes.specs.Routes.{Routes, issued}
+use Rattle.qh_routes.specs.declared.connection_index.RouteDatagramTo.{RouteDatagramTo}
+use Rattle.qh_spec.specs.Lists.{In}
+
+-- the id is issued: it leads to something
+abbrev pub IsIssued : Routes → (id : List ℕ) → Type 0
+IsIssued routes id = (t : RouteDatagramTo) × In (issued id, t) routes
+
+-- Fewer than 64 ids that are issued were drawn before this one, which isn't; no further one was.
+pub record IsFreshId (routes : Routes) (old new : List (List ℕ)) (id : List ℕ) : Type 0 where
+  pub drawn : List (List ℕ)
+  pub few : length drawn < 64
+  pub all_issued : All (IsIssued routes) drawn
+  pub free : IsIssued routes id → ⊥
+  pub given : new ≡ and_ids old (drawn ++ id ∷ [])
+
+-- 64 ids were drawn, all of which are issued.
+pub record AreNoneFresh (routes : Routes) (old new : List (List ℕ)) : Type 0 where
+  pub drawn : List (List ℕ)
+  pub all : length drawn ≡ 64
+  pub all_issued : All (IsIssued routes) drawn
+  pub given : new ≡ and_ids old drawn
