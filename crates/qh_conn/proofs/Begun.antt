@@ -1,14 +1,18 @@
 -- The end of the 1-RTT packets begins when an end is greeted, and with it the log of its streams.
-use Rattle.std.proofs.Common.{◌≡◌, ◌^◌, min, max, ℕ, Bool, true, false, List, Option, None, Some, length, if◌then◌else◌, refl, sym, ap, subst, ◌∙◌, arith}
-use Rattle.qh_conn.specs.Greeting.{IsBegunBy, with_early}
-use Rattle.qh_conn.specs.Items.{streams_logged}
-use Rattle.qh_conn.specs.Whole.{IsSound}
+use Rattle.std.proofs.Common.{◌≡◌, ◌^◌, min, max, ℕ, Bool, true, false, List, [], ◌∷◌, ◌++◌, Option, None, Some, is_some, length, if◌then◌else◌, refl, sym, ap, subst, ◌∙◌, inl, inr, arith}
+use Rattle.std.proofs.lemmas.List.{append-nil}
+use Rattle.qh_conn.proofs.CoreLog.{KeepsTold}
+use Rattle.qh_conn.proofs.LogKept.{GoesOn, logged_both, logged_on, quiet_goes, streamed_own, flags_by}
+use Rattle.qh_conn.specs.Greeting.{IsBegunBy, control_greeted, with_core, with_early}
+use Rattle.qh_conn.specs.Items.{IsLogCurrent, first_limits, log_started, noted_in, streams_logged, streams_started}
+use Rattle.qh_conn.specs.Whole.{IsSound, IsWhole}
 use Rattle.qh_conn.specs.declared.connection.Connection.{Connection}
 use Rattle.qh_conn.specs.declared.connection.EarlyLimits.{EarlyLimits}
 use Rattle.qh_control.specs.Control.{IsSendable}
-use Rattle.qh_control.specs.Items.{logged}
+use Rattle.qh_control.specs.Items.{logged, streamed}
 use Rattle.qh_control.specs.declared.control.ControlState.{ControlState}
 use Rattle.qh_control.specs.declared.items.ConnectionItem.{ConnectionItem}
+use Rattle.qh_control.specs.declared.items.ConnectionItem.TheVariants as item
 use Rattle.qh_converse.specs.Settled.{IsSettledBy, datagram_of, idle_of, peer_limits}
 use Rattle.qh_core.specs.Inner.{IsNewSpace, is_client, with_space, with_streams}
 use Rattle.qh_core.specs.declared.config.ConnConfig.{ConnConfig as CoreConfig}
@@ -64,6 +68,10 @@ new_arrived k side s n two_way = subst (λ (z : PlainStreams). (counts_of z two_
 
 -- ---- the end begins
 
+started_log : (log : Option (List ConnectionItem)) (space : DataSpace) → (is_some log ≡ false → streamed space.log ≡ []) → streamed (streams_logged log space).log ≡ []
+started_log (Some items) space off = refl
+started_log None space off = off refl
+
 module _ {S : Type 0} where
   abbrev pub begun_as : Inner S → (peer : TransportParameters) → (h : Handshake) → DataSpace → Inner S
   begun_as old p h space = record old {
@@ -97,7 +105,7 @@ module _ {S : Type 0} where
     begun = core.space;
     space = subst (λ (z : Inner S). IsNewSpace z.config z.side core.space) (sym new_is) n;
     ping = ping;
-    rest_is = new_is ∙ ap (λ (z : Inner S). with_streams (with_space z (record core.space { log = Some (first_items core.space.streams.peer) })) (with_early e core.space.streams)) is;
+    rest_is = new_is ∙ ap (λ (z : Inner S). with_streams (with_space z (record core.space { log = Some [] })) (with_early e core.space.streams)) is;
   }
 
   pub begun_sound : (old : Connection S) (control : ControlState) (core : Inner S) (peer : TransportParameters) → IsSound old → core.side ≡ old.core.side → core.local_id ≡ old.core.local_id
@@ -124,3 +132,97 @@ module _ {S : Type 0} where
     ungreeted = sound.ungreeted;
     connected = sound.connected;
   }
+
+  -- ---- the log of its streams starts
+
+  -- the connection once its parts have begun
+  abbrev pub begins : Connection S → ControlState → Inner S → Connection S
+  begins c control core = record c { control = control; core = core }
+
+  -- what was set before, and that the handshake data are there
+  abbrev pub set_in : Connection S → Inner S → Connection S
+  set_in c core = record c { core = core; is_data_due = true }
+
+  -- the peer's first limits come behind what datagrams it takes
+  pub begun_rest : (c : Connection S) (control : ControlState) (core last : Inner S) (on : Connection S) (p : TransportParameters)
+      → control ≡ record (control_greeted c.control c.handshake.remote_id p) { log = logged c.control.log (item.MaxDatagramSize (datagram_of p.max_datagram_frame_size) ∷ []) }
+      → core.space.streams.peer ≡ peer_limits p → on ≡ streams_started (begins c control core) → set_in on last ≡ with_core c last p
+  begun_rest c control core last on p is peer started =
+      ap (λ (z : Connection S). set_in z last) started
+      ∙ ap (λ (z : PeerLimits). set_in (begins c (record control { log = logged control.log (first_limits z) }) last) last) peer
+      ∙ ap (λ (z : ControlState). set_in (begins c (record z { log = logged z.log (first_limits (peer_limits p)) }) last) last) is
+      ∙ ap (λ (z : Option (List ConnectionItem)). set_in (begins c (record (control_greeted c.control c.handshake.remote_id p) { log = z }) last) last)
+      (logged_both c.control.log (item.MaxDatagramSize (datagram_of p.max_datagram_frame_size) ∷ []) (first_limits (peer_limits p)))
+
+  -- what holds at every moment holds then
+  pub started_current : (c : Connection S) → (c.handshake.peer ≡ None → streamed c.core.space.log ≡ []) → IsLogCurrent (streams_started c)
+  started_current c ungreeted (inl on) = started_log c.control.log c.core.space (λ off. let z : true ≡ false = sym on ∙ (logged_on c.control.log (first_limits c.core.space.streams.peer) ∙ off) in cc)
+  started_current c ungreeted (inr none) = started_log c.control.log c.core.space (λ _. ungreeted none)
+
+  pub started_whole : (c new : Connection S) → new ≡ streams_started c → IsWhole c → IsSound new → IsWhole new
+  started_whole c new is w sound = subst (λ (z : Connection S). IsWhole z) (sym is) (record {
+    sound = subst (λ (z : Connection S). IsSound z) is sound;
+    current = started_current c (λ none. w.current (inr none));
+    client = w.client;
+  })
+
+  -- the log is off
+  pub unlogged_started : (c : Connection S) → c.control.log ≡ None → c ≡ streams_started c
+  unlogged_started c off =
+      ap (λ (z : Option (List ConnectionItem)). record c { control = record c.control { log = z } }) off
+      ∙ sym (ap (λ (z : Option (List ConnectionItem)). record c { core = with_space c.core (streams_logged z c.core.space); control = record c.control { log = logged z (first_limits c.core.space.streams.peer) } }) off)
+
+  -- it is on, and what that of the streams begins with is moved into it
+  moved_by : (c : Connection S) (log off : Option (List ConnectionItem)) → is_some log ≡ true
+      → noted_in log [] (record c { core = with_space c.core (record c.core.space { log = Some (first_items c.core.space.streams.peer) }); control = record c.control { log = off } })
+      ≡ record c { core = with_space c.core (streams_logged log c.core.space); control = record c.control { log = logged log (first_limits c.core.space.streams.peer) } }
+  moved_by c (Some items) off on =
+      ap (λ (z : List ConnectionItem). record c { core = with_space c.core (record c.core.space { log = Some [] }); control = record c.control { log = Some (items ++ z) } }) (append-nil (first_limits c.core.space.streams.peer))
+  moved_by c None off on = let z : false ≡ true = on in cc
+
+  pub moved_started : (c new : Connection S) (core : Inner S) (log off : Option (List ConnectionItem)) → log ≡ c.control.log → is_some c.control.log ≡ true
+      → core ≡ with_space c.core (record c.core.space { log = Some (first_items c.core.space.streams.peer) })
+      → new ≡ noted_in log [] (record c { core = core; control = record c.control { log = off } }) → new ≡ streams_started c
+  moved_started c new core log off log_is on core_is is =
+      is ∙ ap (λ (z : Inner S). noted_in log [] (record c { core = z; control = record c.control { log = off } })) core_is
+      ∙ ap (λ (z : Option (List ConnectionItem)). noted_in z [] (record c { core = with_space c.core (record c.core.space { log = Some (first_items c.core.space.streams.peer) }); control = record c.control { log = off } })) log_is
+      ∙ moved_by c c.control.log off on
+
+  -- ---- a log is kept from now on
+
+  abbrev with_log : Connection S → Option (List ConnectionItem) → Connection S
+  with_log c log = record c { control = record c.control { log = log } }
+
+  abbrev started_by : Bool → Connection S → Connection S
+  started_by greeted c = record c {
+    core = (if greeted then with_space c.core (record c.core.space { log = Some [] }) else c.core);
+    control = record c.control { log = Some (if greeted then first_limits c.core.space.streams.peer else []) };
+  }
+
+  pub ungreeted_started : (c : Connection S) (log : Option (List ConnectionItem)) → log ≡ Some [] → is_some c.handshake.peer ≡ false → with_log c log ≡ log_started c
+  ungreeted_started c log is unknown = ap (λ (z : Option (List ConnectionItem)). with_log c z) is ∙ ap (λ (z : Bool). started_by z c) (sym unknown)
+
+  pub greeted_started : (c new : Connection S) (log : Option (List ConnectionItem)) → log ≡ Some [] → is_some c.handshake.peer ≡ true → new ≡ streams_started (with_log c log) → new ≡ log_started c
+  greeted_started c new log is known started = started ∙ ap (λ (z : Option (List ConnectionItem)). streams_started (with_log c z)) is ∙ ap (λ (z : Bool). started_by z c) (sym known)
+
+  -- memory is wanting for it
+  pub unstarted : (c mid : Connection S) (log off : Option (List ConnectionItem)) → mid ≡ with_log c log → off ≡ None → c.control.log ≡ None → with_log mid off ≡ c
+  unstarted c mid log off is off_is was = ap (λ (z : Connection S). with_log z off) is ∙ ap (λ (z : Option (List ConnectionItem)). with_log c z) (off_is ∙ sym was)
+
+  -- its log goes on
+  pub begun_goes : (c new : Connection S) (p : TransportParameters) → new ≡ with_core c new.core p → KeepsTold c.core new.core → GoesOn c new
+  begun_goes c new p is told = (
+    item.MaxDatagramSize (datagram_of p.max_datagram_frame_size) ∷ first_limits (peer_limits p),
+    quiet_goes (item.MaxDatagramSize (datagram_of p.max_datagram_frame_size) ∷ first_limits (peer_limits p)) c new
+        (flags_by c new (with_core c new.core p) is (record { connected = refl; due = refl; data_due = λ _. refl; lost_logged = refl; told = told }))
+        (ap (λ (z : Connection S). z.control.log) is) (streamed_own (Some (first_items (peer_limits p)))),
+  )
+
+  -- memory is wanting for the log of the streams
+  pub unstarted_goes : (c new : Connection S) (control : ControlState) (core : Inner S) (most : Option ℕ) → new ≡ begins c control core → control.log ≡ logged c.control.log (item.MaxDatagramSize most ∷ [])
+      → KeepsTold c.core core → GoesOn c new
+  unstarted_goes c new control core most is log told = (
+    item.MaxDatagramSize most ∷ [],
+    quiet_goes (item.MaxDatagramSize most ∷ []) c new (flags_by c new (begins c control core) is (record { connected = refl; due = refl; data_due = λ due. due; lost_logged = refl; told = told }))
+        (ap (λ (z : Connection S). z.control.log) is ∙ log) refl,
+  )

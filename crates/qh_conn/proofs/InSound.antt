@@ -1,6 +1,8 @@
 -- What holds of a connection at every moment holds still as its control frames are taken.
 use Rattle.std.proofs.Common.{◌≡◌, ◌<◌, take, length, true, false, Bool, ℕ, List, is_some, inl, inr, refl, [], ◌∷◌, if◌then◌else◌, Option, None, ap, subst, Result, Ok, Err, ◌∙◌, sym}
 use Rattle.std.specs.Prelude.{OnOk, OnErr}
+use Rattle.qh_conn.proofs.LogKept.{current_by}
+use Rattle.qh_conn.specs.Items.{IsLogCurrent}
 use Rattle.qh_conn.specs.Whole.{IsSafe, IsSound, IsWhole}
 use Rattle.qh_conn.specs.declared.connection.Connection.{Connection}
 use Rattle.qh_control.specs.Control.{IsSendable, KeepsSendable, may_announce, with_all_issued, with_issued}
@@ -46,9 +48,10 @@ module _ {S : Type 0} where
     connected = s.connected;
   }
 
-  pub shut_core : (c : Connection S) (core : Inner S) → IsSound c → IsSameEnd c.core core → is_open core.state ≡ false → IsWhole (record c { core = core })
-  shut_core c core s same shut = record {
+  pub shut_core : (c : Connection S) (core : Inner S) → IsSound c → IsLogCurrent c → IsSameEnd c.core core → is_open core.state ≡ false → core.space.log ≡ c.core.space.log → IsWhole (record c { core = core })
+  shut_core c core s current same shut log = record {
     sound = sound_core c core s same (λ up. let z : true ≡ false = sym up ∙ shut in cc);
+    current = current_by c (record c { core = core }) (λ on. on) refl log current;
     client = λ _ _. inr shut;
   }
 
@@ -106,9 +109,10 @@ module _ {S : Type 0} where
     connected = λ e. (s.connected e).0;
   }
 
-  pub whole_core : (c : Connection S) (core : Inner S) → IsWhole c → IsSameEnd c.core core → is_open c.core.state ≡ true → IsWhole (record c { core = core })
-  whole_core c core w same up = record {
+  pub whole_core : (c : Connection S) (core : Inner S) → IsWhole c → IsSameEnd c.core core → is_open c.core.state ≡ true → core.space.log ≡ c.core.space.log → IsWhole (record c { core = core })
+  whole_core c core w same up log = record {
     sound = sound_core c core w.sound same (λ _. up);
+    current = current_by c (record c { core = core }) (λ on. on) refl log w.current;
     client = λ side greeted. elim (w.client side greeted) [ inl k ↦ inl k | inr shut ↦ let z : true ≡ false = sym up ∙ shut in cc ];
   }
 
@@ -116,8 +120,8 @@ module _ {S : Type 0} where
   sound_queue c q s stays = sound_control c (record c.control { queue = q }) s
       (λ peer_datagram is. record { frames = stays c.core.side peer_datagram is.frames; peer = is.peer; bounded = is.bounded; payloads = is.payloads }) refl
 
-  pub whole_queue : (c : Connection S) (q : ControlQueue) → IsSound c → c.is_connected ≡ true → StaySendable c.control.queue q → IsWhole (record c { control = record c.control { queue = q } })
-  whole_queue c q s k stays = record { sound = sound_queue c q s stays; client = λ _ _. inl k }
+  pub whole_queue : (c : Connection S) (q : ControlQueue) → IsSound c → IsLogCurrent c → c.is_connected ≡ true → StaySendable c.control.queue q → IsWhole (record c { control = record c.control { queue = q } })
+  whole_queue c q s current k stays = record { sound = sound_queue c q s stays; current = current; client = λ _ _. inl k }
 
   pub sound_idle : (c n : Connection S) → IsSound c → n ≡ record c { core = record c.core { idle = n.core.idle } } → IsSound n
   sound_idle c n s e = subst (λ (z : Connection S). IsSound z) (sym e)
@@ -131,8 +135,12 @@ module _ {S : Type 0} where
   unready c s none = (not_connected c c.is_connected refl s none, subst (λ (p : Option ℕ). IsSendable c.core.side p c.control) (s.ungreeted none) s.sendable)
 
   pub whole_control : (c : Connection S) (control : ControlState) → IsWhole c → KeepsSendable c.core.side c.control control → length control.ids.active.id ≡ length c.control.ids.active.id
-      → IsWhole (record c { control = control })
-  whole_control c control w keeps long = record { sound = sound_control c control w.sound keeps long; client = w.client }
+      → control.log ≡ c.control.log → IsWhole (record c { control = control })
+  whole_control c control w keeps long log = record {
+    sound = sound_control c control w.sound keeps long;
+    current = current_by c (record c { control = control }) (λ on. ap is_some (sym log) ∙ on) refl refl w.current;
+    client = w.client;
+  }
 
 if_ids : (b : Bool) (x y : ControlState) → x.ids ≡ y.ids → (if b then x else y).ids ≡ y.ids
 if_ids true x y same = same
@@ -147,3 +155,17 @@ pub issued_long : {E : Type 0} (result : Result Unit E) (old new : ControlState)
     → OnErr result ((count : ℕ) × (count < length cids) × (new ≡ with_all_issued old (take count cids))) → length new.ids.active.id ≡ length old.ids.active.id
 issued_long (Ok x) old new cids ok err = ap (λ (s : ControlState). length s.ids.active.id) ok ∙ ap (λ i. length i.active.id) (issued_ids old cids)
 issued_long (Err e) old new cids ok err = ap (λ (s : ControlState). length s.ids.active.id) err.2 ∙ ap (λ i. length i.active.id) (issued_ids old (take err.0 cids))
+
+if_log : (b : Bool) (x y : ControlState) → x.log ≡ y.log → (if b then x else y).log ≡ y.log
+if_log true x y same = same
+if_log false x y same = refl
+
+issued_log : (s : ControlState) (cids : List IssuedCid) → (with_all_issued s cids).log ≡ s.log
+issued_log s [] = refl
+issued_log s (cid ∷ cids) = issued_log (with_issued s cid) cids ∙ if_log (may_announce s cid) _ s refl
+
+-- nor is anything logged by it
+pub issued_unlogged : {E : Type 0} (result : Result Unit E) (old new : ControlState) (cids : List IssuedCid) → OnOk result (new ≡ with_all_issued old cids)
+    → OnErr result ((count : ℕ) × (count < length cids) × (new ≡ with_all_issued old (take count cids))) → new.log ≡ old.log
+issued_unlogged (Ok x) old new cids ok err = ap (λ (s : ControlState). s.log) ok ∙ issued_log old cids
+issued_unlogged (Err e) old new cids ok err = ap (λ (s : ControlState). s.log) err.2 ∙ issued_log old (take err.0 cids)

@@ -5,6 +5,7 @@ use Rattle.qh_base.specs.declared.connection_error.ConnectionError.{ConnectionEr
 use Rattle.qh_base.specs.declared.connection_error.ConnectionError.TheVariants.{Memory}
 use Rattle.qh_base.specs.declared.time.Moment.{Moment}
 use Rattle.qh_conn.specs.Incoming.{EndsBy, IsClosingHeard, IsDatagramHandled, IsFed, IsMet, IsOpenHandled, IsRestTaken, IsRestarted, counted_at}
+use Rattle.qh_conn.specs.Items.{IsLogCurrent}
 use Rattle.qh_conn.specs.Whole.{IsSound, IsWhole}
 use Rattle.qh_conn.specs.declared.connection.Connection.{Connection}
 use Rattle.qh_control.specs.Control.{IsSendable}
@@ -41,9 +42,10 @@ module _ {S : Type 0} where
       subst (λ (z : Connection S). IsUnready z) (sym f) (subst (λ (z : Connection S). IsUnready (record z { core = record z.core { idle = n.core.idle } })) (sym e) is)
 
   pub still_whole : (c fed n : Connection S) → IsWhole c → is_open c.core.state ≡ true → is_some c.handshake.peer ≡ true → fed.handshake.side ≡ c.handshake.side
-      → fed ≡ record c { handshake = fed.handshake; core = record c.core { session = fed.core.session } } → n ≡ record fed { core = record fed.core { idle = n.core.idle } } → IsSound n → IsWhole n
-  still_whole c fed n w up greeted sides e f sound = record {
+      → fed ≡ record c { handshake = fed.handshake; core = record c.core { session = fed.core.session } } → n ≡ record fed { core = record fed.core { idle = n.core.idle } } → IsSound n → IsLogCurrent n → IsWhole n
+  still_whole c fed n w up greeted sides e f sound current = record {
     sound = sound;
+    current = current;
     client = λ side _. elim (w.client (sym sides ∙ (sym (ap (λ (z : Connection S). z.handshake.side) f) ∙ side)) greeted) [
       | inl k ↦ inl (ap (λ (z : Connection S). z.is_connected) f ∙ (ap (λ (z : Connection S). z.is_connected) e ∙ k))
       | inr shut ↦ let z : true ≡ false = sym up ∙ shut in cc

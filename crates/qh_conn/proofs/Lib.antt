@@ -1,4 +1,5 @@
 pub mod Begun
+pub mod CoreLog
 mod FirstHandshake
 pub mod InClosed
 pub mod InData
@@ -9,6 +10,7 @@ pub mod InReset
 pub mod InRest
 pub mod InSound
 pub mod InTake
+pub mod LogKept
 pub mod Noted
 pub mod OnStreams
 pub mod OutCarries

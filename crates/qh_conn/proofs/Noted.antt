@@ -1,16 +1,17 @@
 -- What came to the streams is moved into the log of a connection.
-use Rattle.std.proofs.Common.{◌≡◌, ℕ, Result, Ok, Err, ◌||◌, ◌&&◌, Bool, true, false, if◌then◌else◌, List, [], ◌∷◌, ◌++◌, Option, None, Some, is_some, refl, sym, ap, subst, ◌∙◌}
+use Rattle.std.proofs.Common.{◌≡◌, ℕ, Result, Ok, Err, ◌||◌, ◌&&◌, not, Bool, true, false, if◌then◌else◌, List, [], ◌∷◌, ◌++◌, length, Option, None, Some, is_some, refl, sym, ap, subst, ◌∙◌, inl, inr}
 use Rattle.std.proofs.lemmas.List.{append-nil}
 use Rattle.std.specs.Prelude.{OnOk, OnErr}
 use Rattle.std.specs.Option.{option_map}
 use Rattle.qh_base.specs.declared.connection_error.ConnectionError.{ConnectionError}
 use Rattle.qh_base.specs.declared.memory.Memory.{Memory as OutOfMemory}
-use Rattle.qh_conn.proofs.InHears.{self_made}
-use Rattle.qh_conn.proofs.InSound.{sound_control, sound_core, whole_control}
-use Rattle.qh_conn.proofs.OutWhole.{handshake_whole}
+use Rattle.qh_conn.proofs.CoreLog.{KeepsTold}
+use Rattle.qh_conn.proofs.InHears.{connected_stands, self_made}
+use Rattle.qh_conn.proofs.InSound.{sound_control, sound_core}
+use Rattle.qh_conn.proofs.LogKept.{GoesOn, current_by, none_left, noted_current, quiet_goes, same_goes, self_flags, streamed_own, told_of, own_both, flags_by}
 use Rattle.qh_base.specs.declared.time.Moment.{Moment}
 use Rattle.qh_conn.specs.Greeting.{connected, ids_asked}
-use Rattle.qh_conn.specs.Items.{is_loss_logged, items_taken as all_taken, loss, loss_noted, noted, streams_taken, untaken}
+use Rattle.qh_conn.specs.Items.{IsLogCurrent, is_connected_since, is_loss_logged, items_taken as all_taken, own_items, loss, loss_noted, noted, noted_in, streams_taken, untaken}
 use Rattle.qh_conn.specs.Whole.{IsSound, IsWhole, Stands}
 use Rattle.qh_conn.specs.declared.connection.Connection.{Connection}
 use Rattle.qh_control.specs.Control.{IsSendable}
@@ -22,24 +23,22 @@ use Rattle.qh_converse.proofs.MidDatagram.{stays}
 use Rattle.qh_converse.specs.Converses.{Converses}
 use Rattle.qh_core.proofs.MadeEnds.{turned_made}
 use Rattle.qh_core.specs.Follows.{Follows}
-use Rattle.qh_core.specs.Inner.{IsSameEnd, is_open, with_space}
+use Rattle.qh_core.specs.Inner.{IsFailedBy, IsSameEnd, is_open, with_space}
 use Rattle.qh_core.specs.Made.{AcceptsTags, IsMadeLocally, MakesTagsOf}
 use Rattle.qh_core.specs.Made.IsTurned.{items_taken, log_started}
 use Rattle.qh_core.specs.declared.inner.Inner.{Inner}
 use Rattle.qh_handshake.specs.Handshake.{IsHandshake, dropping}
 use Rattle.qh_handshake.specs.declared.handshake.Handshake.{Handshake}
 use Rattle.qh_space.specs.Space.{AreUnused}
-use Rattle.qh_spec.specs.Transcript.{Act}
+use Rattle.qh_spec.specs.Greeted.{HasPacketOf}
+use Rattle.qh_spec.specs.Link.{other}
+use Rattle.qh_spec.specs.Transcript.{Act, handed_in}
 use Rattle.qh_spec.specs.declared.sides.Side.{Side}
+use Rattle.qh_spec.specs.declared.sides.Space.TheVariants.{Data}
 use Rattle.qh_streams.specs.Items.{first_items}
 use Rattle.qh_streams.specs.Streams.{counts_of}
-use Rattle.qh_streams.specs.declared.items.Item.{Item}
 
 -- ---- logs
-
-none_left : (streams : Option (List Item)) → streamed (option_map (λ _. []) streams) ≡ []
-none_left None = refl
-none_left (Some items) = refl
 
 -- that the connection is lost is told once
 told_once : (b : Bool) (e : Option ConnectionError) → loss (b || is_some e) e ≡ []
@@ -68,13 +67,16 @@ any_err P (Err e) p = p
 abbrev pub IsCompleted : (old new : Handshake) → Type 0
 IsCompleted old new = new ≡ record (dropping old) { is_validated = true }
 
-pub asked_same : (r : Result Unit OutOfMemory) (now : Moment) (old new : ControlState) → OnOk r (new ≡ ids_asked now old) → OnErr r (new ≡ old)
-    → new ≡ record old { endpoint_events = new.endpoint_events }
-asked_same (Ok x) now old new ok err = ok ∙ ap (λ (z : ControlState). record old { endpoint_events = z.endpoint_events }) (sym ok)
-asked_same (Err e) now old new ok err = err ∙ ap (λ (z : ControlState). record old { endpoint_events = z.endpoint_events }) (sym err)
-
 pub log_sendable : (side : Side) (peer : Option ℕ) (s : ControlState) (log : Option (List ConnectionItem)) → IsSendable side peer s → IsSendable side peer (record s { log = log })
 log_sendable side peer s log is = record { frames = is.frames; peer = is.peer; bounded = is.bounded; payloads = is.payloads }
+
+asked_as : (now : Moment) (b : Bool) (s : ControlState) → (if b then ids_asked now s else s) ≡ record s { endpoint_events = (if b then ids_asked now s else s).endpoint_events }
+asked_as now true s = refl
+asked_as now false s = refl
+
+asked_log : (now : Moment) (b : Bool) (s : ControlState) → (if b then ids_asked now s else s).log ≡ s.log
+asked_log now true s = refl
+asked_log now false s = refl
 
 module _ {S : Type 0} where
   pub taken_session : (log : Option (List ConnectionItem)) (core : Inner S) → (streams_taken log core).session ≡ core.session
@@ -103,21 +105,45 @@ module _ {S : Type 0} where
   pub sound_log : (c : Connection S) (log : Option (List ConnectionItem)) → IsSound c → IsSound (record c { control = record c.control { log = log } })
   sound_log c log s = sound_control c (record c.control { log = log }) s (λ peer is. record { frames = is.frames; peer = is.peer; bounded = is.bounded; payloads = is.payloads }) refl
 
-  pub whole_log : (c : Connection S) (log : Option (List ConnectionItem)) → IsWhole c → IsWhole (record c { control = record c.control { log = log } })
-  whole_log c log w = whole_control c (record c.control { log = log }) w (λ peer is. record { frames = is.frames; peer = is.peer; bounded = is.bounded; payloads = is.payloads }) refl
-
-  -- the end of the 1-RTT packets goes on, whether it is open or not
-  pub whole_on : (c : Connection S) (core : Inner S) → IsWhole c → IsSameEnd c.core core → core.state ≡ c.core.state → IsWhole (record c { core = core })
-  whole_on c core w same state = handshake_whole c c.handshake core w w.sound.handshake refl refl refl (λ e. e) same (λ shut. ap is_open state ∙ shut)
-
   pub sound_on : (c : Connection S) (core : Inner S) → IsSound c → IsSameEnd c.core core → core.state ≡ c.core.state → IsSound (record c { core = core })
   sound_on c core s same state = sound_core c core s same (λ up. ap is_open (sym state) ∙ up)
+
+  -- with another log, that is off or was on before
+  pub whole_log : (c : Connection S) (log : Option (List ConnectionItem)) → IsWhole c → (is_some log ≡ true → is_some c.control.log ≡ true) → IsWhole (record c { control = record c.control { log = log } })
+  whole_log c log w on = record {
+    sound = sound_log c log w.sound;
+    current = current_by c (record c { control = record c.control { log = log } }) on refl refl w.current;
+    client = w.client;
+  }
+
+  -- what came to the streams is moved into it
+  pub noted_whole : (c : Connection S) (log : Option (List ConnectionItem)) (more : List ConnectionItem) → IsWhole c → IsSound (noted_in log more c) → IsWhole (noted_in log more c)
+  noted_whole c log more w sound = record {
+    sound = sound;
+    current = noted_current log more c (λ none. w.current (inr none));
+    client = λ side greeted. elim (w.client side greeted) [ inl k ↦ inl k | inr shut ↦ inr (ap is_open (taken_state log c.core) ∙ shut) ];
+  }
+
+  -- the end of the 1-RTT packets goes on, whether it is open or not, and the streams' log is taken if it was on
+  pub whole_on : (c : Connection S) (core : Inner S) → IsWhole c → IsSameEnd c.core core → core.state ≡ c.core.state → IsLogCurrent (record c { core = core }) → IsWhole (record c { core = core })
+  whole_on c core w same state current = record {
+    sound = sound_on c core w.sound same state;
+    current = current;
+    client = λ side greeted. elim (w.client side greeted) [ inl k ↦ inl k | inr shut ↦ inr (ap is_open state ∙ shut) ];
+  }
 
   -- ---- how it stands to all that was done with it
 
   pub taken_made : (old new : Inner S) → new ≡ with_space old (record old.space { log = option_map (λ _. []) old.space.log }) → ((t : List Act) → Follows old t → Follows new t) → IsSameEnd old new
       → IsMadeLocally old new []
   taken_made old new is follows same = turned_made old new (items_taken is) follows same
+
+  -- want of memory ended it still, once what came to the streams is taken
+  pub failed_taken : (old mid new : Inner S) → IsFailedBy old mid → new ≡ with_space mid (record mid.space { log = option_map (λ _. []) mid.space.log }) → IsFailedBy old new
+  failed_taken old mid new f is = subst (λ (z : Inner S). IsFailedBy old z) (sym is) (record {
+    no_half = f.no_half;
+    rest_is = ap (λ (z : Inner S). record z { space = record mid.space { log = option_map (λ _. []) mid.space.log } }) f.rest_is;
+  })
 
   pub started_made : (r : Result Unit OutOfMemory) (old new : Inner S) → AreUnused old.space.streams old.space.streams.peer → ((two_way : Bool) → (counts_of old.space.streams two_way).arrived ≡ 0)
       → old.space.log ≡ None → OnOk r (new ≡ with_space old (record old.space { log = Some (first_items old.space.streams.peer) })) → OnErr r (new ≡ old)
@@ -141,6 +167,7 @@ module _ {S : Type 0} where
 
   flags_whole : (c : Connection S) (next is_logged : Bool) → IsWhole c → IsWhole (record c { is_control_next = next; is_lost_logged = is_logged })
   flags_whole c next is_logged w = record {
+    current = w.current;
     sound = record {
       handshake = w.sound.handshake;
       side_is = w.sound.side_is;
@@ -180,6 +207,23 @@ module _ {S : Type 0} where
   pub still_untaken : (old mid : Connection S) (log : Option (List ConnectionItem)) → mid ≡ loss_noted old → log ≡ mid.control.log → record mid { control = record mid.control { log = log } } ≡ loss_noted old
   still_untaken old mid log is same = ap (λ (z : Option (List ConnectionItem)). record mid { control = record mid.control { log = z } }) same ∙ is
 
+  -- ---- the log goes on
+
+  taken_keeps : (log : Option (List ConnectionItem)) (core : Inner S) → KeepsTold core (streams_taken log core)
+  taken_keeps None core = record { lost = refl; drained = refl }
+  taken_keeps (Some items) core = record { lost = refl; drained = refl }
+
+  -- what came to the streams is moved into it, or memory is wanting for that
+  pub note_goes : {X E : Type 0} (r : Result X E) (more : List ConnectionItem) (old new : Connection S) → own_items more ≡ [] → OnOk r (new ≡ noted more old) → OnErr r (new ≡ old) → GoesOn old new
+  note_goes (Ok x) more old new quiet ok err = (
+    streamed old.core.space.log ++ more,
+    quiet_goes (streamed old.core.space.log ++ more) old new
+        (flags_by old new (noted more old) ok (record { connected = refl; due = refl; data_due = λ is. is; lost_logged = refl; told = taken_keeps old.control.log old.core }))
+        (ap (λ (z : Connection S). z.control.log) ok)
+        (own_both (streamed old.core.space.log) more ∙ ap (λ (z : List ConnectionItem). z ++ own_items more) (streamed_own old.core.space.log) ∙ quiet),
+  )
+  note_goes (Err e) more old new quiet ok err = ([], same_goes old new (flags_by old new old err (self_flags old)) (ap (λ (z : Connection S). z.control.log) err))
+
   -- ---- the handshake is complete
 
   abbrev pub completed : Connection S → Handshake → Connection S
@@ -196,33 +240,66 @@ module _ {S : Type 0} where
     connected = λ _. (ap (λ (z : Handshake). is_some z.peer) is ∙ greeted, ap (λ (z : Handshake). z.space) is);
   }
 
-  pub asked_sound : (c : Connection S) (control : ControlState) → control ≡ record c.control { endpoint_events = control.endpoint_events } → IsSound c → IsSound (record c { control = control })
-  asked_sound c control is s =
-      subst (λ (z : ControlState). IsSound (record c { control = z })) (sym is)
-      (sound_control c (record c.control { endpoint_events = control.endpoint_events }) s (λ peer is. record { frames = is.frames; peer = is.peer; bounded = is.bounded; payloads = is.payloads }) refl)
+  -- further ids are asked for, if it isn't over
+  abbrev pub asked : Moment → Connection S → Connection S
+  asked now c = record c { control = (if is_open c.core.state then ids_asked now c.control else c.control) }
 
-  pub connected_shut : (now : Moment) (old new : Connection S) (h : Handshake) → IsCompleted old.handshake h → new ≡ noted (item.Connected ∷ []) (completed old h) → is_open old.core.state ≡ false
-      → new ≡ connected now old
-  connected_shut now old new h h_is is shut =
-      is ∙ ap (λ (z : Handshake). noted (item.Connected ∷ []) (completed old z)) h_is
-      ∙ ap (λ (b : Bool). record (noted (item.Connected ∷ []) (completed old (record (dropping old.handshake) { is_validated = true }))) {
-        control = record (if b then ids_asked now old.control else old.control) { log = logged old.control.log (streamed old.core.space.log ++ item.Connected ∷ []) };
-      }) (sym shut)
+  pub only_events : (now : Moment) (old new : Connection S) → new ≡ asked now old → new ≡ record old { control = record old.control { endpoint_events = new.control.endpoint_events } }
+  only_events now old new is =
+      is ∙ ap (λ (z : ControlState). record old { control = z }) (asked_as now (is_open old.core.state) old.control)
+      ∙ ap (λ (z : Connection S). record old { control = record old.control { endpoint_events = z.control.endpoint_events } }) (sym is)
 
-  pub connected_open : (now : Moment) (old mid : Connection S) (control : ControlState) (h : Handshake) → IsCompleted old.handshake h → mid ≡ noted (item.Connected ∷ []) (completed old h)
-      → control ≡ ids_asked now mid.control → is_open old.core.state ≡ true → record mid { control = control } ≡ connected now old
-  connected_open now old mid control h h_is is asked up =
-      ap (λ (z : ControlState). record mid { control = z }) asked
-      ∙ ap (λ (z : Connection S). record z { control = ids_asked now z.control }) (is ∙ ap (λ (z : Handshake). noted (item.Connected ∷ []) (completed old z)) h_is)
-      ∙ ap (λ (b : Bool). record (noted (item.Connected ∷ []) (completed old (record (dropping old.handshake) { is_validated = true }))) {
-        control = record (if b then ids_asked now old.control else old.control) { log = logged old.control.log (streamed old.core.space.log ++ item.Connected ∷ []) };
-      }) (sym up)
+  pub same_events : (old new : Connection S) → new ≡ old → new ≡ record old { control = record old.control { endpoint_events = new.control.endpoint_events } }
+  same_events old new is = is ∙ ap (λ (z : Connection S). record old { control = record old.control { endpoint_events = z.control.endpoint_events } }) (sym is)
 
-  -- of the rest of it nothing else
-  pub connected_rest : (now : Moment) (old new : Connection S) (h : Handshake) → IsCompleted old.handshake h → new ≡ record (completed old h) { core = new.core; control = new.control }
-      → new ≡ record (connected now old) { core = new.core; control = new.control }
-  connected_rest now old new h h_is is = is ∙ ap (λ (z : Handshake). record (completed old z) { core = new.core; control = new.control }) h_is
+  pub events_sound : (old new : Connection S) → new ≡ record old { control = record old.control { endpoint_events = new.control.endpoint_events } } → IsSound old → IsSound new
+  events_sound old new is s =
+      subst (λ (z : Connection S). IsSound z) (sym is)
+      (sound_control old (record old.control { endpoint_events = new.control.endpoint_events }) s (λ peer is. record { frames = is.frames; peer = is.peer; bounded = is.bounded; payloads = is.payloads }) refl)
 
-  pub noted_rest : (old mid : Connection S) (more : List ConnectionItem) (control : ControlState) → mid ≡ noted more old → record mid { control = control } ≡ record old { core = mid.core; control = control }
-  noted_rest old mid more control is =
-      ap (λ (z : Connection S). record z { control = control }) is ∙ ap (λ (z : Connection S). record old { core = z.core; control = control }) (sym is)
+  -- the ids are asked for, then it is noted, and then the handshake is complete
+  pub connected_by : (now : Moment) (old mid : Connection S) (h : Handshake) → mid ≡ noted (item.Connected ∷ []) (asked now old) → IsCompleted mid.handshake h → completed mid h ≡ connected now old
+  connected_by now old mid h is h_is =
+      let hand = h_is ∙ ap (λ (z : Connection S). record (dropping z.handshake) { is_validated = true }) is in
+      let s = if is_open old.core.state then ids_asked now old.control else old.control in
+      ap (λ (z : Handshake). completed mid z) hand
+      ∙ ap (λ (z : Connection S). completed z (record (dropping old.handshake) { is_validated = true })) is
+      ∙ ap (λ (z : Option (List ConnectionItem)). completed (record old {
+        core = streams_taken z old.core;
+        control = record s { log = logged z (streamed old.core.space.log ++ item.Connected ∷ []) };
+      }) (record (dropping old.handshake) { is_validated = true })) (asked_log now (is_open old.core.state) old.control)
+
+  -- that is logged, and to be told
+  pub connect_goes : (now : Moment) (old new : Connection S) → old.is_connected ≡ false → new ≡ connected now old → GoesOn old new
+  connect_goes now old new early is =
+      let more = streamed old.core.space.log ++ item.Connected ∷ [] in
+      let since : is_connected_since old new ≡ true = ap (λ (k : Bool). not k && new.is_connected) early ∙ ap (λ (z : Connection S). z.is_connected) is in
+      let told = taken_keeps old.control.log old.core in (
+        more,
+        record {
+          log_is = ap (λ (z : Connection S). z.control.log) is;
+          own = own_both (streamed old.core.space.log) (item.Connected ∷ []) ∙ ap (λ (z : List ConnectionItem). z ++ item.Connected ∷ []) (streamed_own old.core.space.log) ∙ sym (ap told_of since);
+          connected = λ _. ap (λ (z : Connection S). z.is_connected) is;
+          due = ap (λ (z : Connection S). z.is_connected_due) is ∙ sym (ap (λ (k : Bool). k || old.is_connected_due) since);
+          data_due = λ due. ap (λ (z : Connection S). z.is_data_due) is ∙ due;
+          lost_logged = ap (λ (z : Connection S). z.is_lost_logged) is;
+          lost_told = ap (λ (z : Connection S). z.core.is_lost_told) is ∙ told.lost;
+          drained_told = ap (λ (z : Connection S). z.core.is_drained_told) is ∙ told.drained;
+        },
+      )
+
+  -- memory is wanting: nothing of it changed but that the ids may have been asked for
+  pub unconnected : (old new : Connection S) → new ≡ record old { control = record old.control { endpoint_events = new.control.endpoint_events } } → GoesOn old new
+  unconnected old new is = ([], same_goes old new (flags_by old new _ is (record { connected = refl; due = refl; data_due = λ due. due; lost_logged = refl; told = record { lost = refl; drained = refl } })) (ap (λ (z : Connection S). z.control.log) is))
+
+  -- what came to the streams is in the log of an end that is connected now
+  pub connected_current : (now : Moment) (c : Connection S) → (c.handshake.peer ≡ None → streamed c.core.space.log ≡ []) → IsLogCurrent (connected now c)
+  connected_current now c ungreeted = current_by (noted (item.Connected ∷ []) c) (connected now c) (λ on. on) refl refl (noted_current c.control.log (item.Connected ∷ []) c ungreeted)
+
+  -- how an end stands that is connected now, or for which memory was wanting
+  pub connect_stands : {X E : Type 0} (r : Result X E) (accepts : AcceptsTags S) (sealed : MakesTagsOf S) (hello : List ℕ) (now : Moment) (old new : Connection S) (t : List Act) → OnOk r (new ≡ connected now old)
+      → OnErr r (new ≡ record old { control = record old.control { endpoint_events = new.control.endpoint_events } }) → IsMadeLocally old.core new.core []
+      → HasPacketOf (length old.core.local_id) (handed_in t) (other old.handshake.side) Data → Stands accepts sealed hello old t → Stands accepts sealed hello new t
+  connect_stands (Ok x) accepts sealed hello now old new t ok err made has p =
+      connected_stands accepts sealed hello old new t (ap (λ (z : Connection S). z.handshake) ok) (ap (λ (z : Connection S). z.is_connected) ok) made has p
+  connect_stands (Err e) accepts sealed hello now old new t ok err made has p = subst (λ (z : Connection S). Stands accepts sealed hello z t) (sym err) p

@@ -4,6 +4,7 @@ use Rattle.std.specs.Prelude.{IfOk, IfSome, is_some}
 use Rattle.qh_base.specs.declared.memory.Memory.{Memory as OutOfMemory}
 use Rattle.qh_base.specs.declared.stream_id.StreamId.{StreamId}
 use Rattle.qh_buffers.specs.declared.assembler.Chunk.{Chunk}
+use Rattle.qh_conn.proofs.CoreLog.{stream_log}
 use Rattle.qh_conn.proofs.OutKeys.{shut_of}
 use Rattle.qh_conn.proofs.OutWhole.{handshake_whole}
 use Rattle.qh_conn.specs.Whole.{CarriesOn, IsWhole, Stands}
@@ -25,7 +26,7 @@ abbrev pub Called : Type 0 → Type 0
 Called S = (accepts : AcceptsTags S) (sealed : MakesTagsOf S) (hello : List ℕ) (h : Handshake) (c new : Inner S) (k : Bool) (acts t : List Act) → AreMadeLocally c new acts → (h.peer ≡ None → acts ≡ [])
     → Converses accepts sealed hello h c k t → Converses accepts sealed hello h new k (t ++ acts)
 
-some_or_none : {A : Type 0} (X : Type 0) (o : Option A) → is_some o ≡ true → o ≡ None → X
+pub some_or_none : {A : Type 0} (X : Type 0) (o : Option A) → is_some o ≡ true → o ≡ None → X
 some_or_none X (Some a) some none = cc
 some_or_none X None some none = cc
 
@@ -41,7 +42,7 @@ module _ {S : Type 0} where
   pub whole_after : (old : Connection S) (new : Inner S) (acts : List Act) → IsWhole old → IsMadeOnStreams old.core new acts → IsWhole (record old { core = new })
   whole_after old new acts w made =
       handshake_whole old old.handshake new w w.sound.handshake refl refl refl (λ none. none) made.1.same_end
-      (shut_of (is_open old.core.state) (is_open new.state) (locally_opens old.core new acts (locally old.core new acts made)))
+      (shut_of (is_open old.core.state) (is_open new.state) (locally_opens old.core new acts (locally old.core new acts made))) (stream_log old.core new acts made.0)
 
   -- a stream that was opened is new in all that was done
   pub opened_new : (c : Connection S) (result : Result (Option StreamId) OutOfMemory)

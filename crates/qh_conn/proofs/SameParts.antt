@@ -9,7 +9,7 @@ use Rattle.qh_base.specs.declared.time.Moment.{Moment}
 use Rattle.qh_conn.proofs.Noted.{IsCompleted, completed}
 use Rattle.qh_conn.proofs.Same.{ControlStays, KeepsOwn, Stays, both_same, both_stay, control_by, control_kept, control_same, counted_stays, drains_stays, endpoint_stays, failed_stays, faulted_stays, frames_stay, heard_stays, moment_stays, noted_same, polled_stays, same_as, same_by, same_control, same_core, same_dropped, same_flags, same_of_control, same_rest, same_then, silent_stays, taken_stays, timed_stays, unchanged}
 use Rattle.qh_conn.specs.Incoming.{IsClosingHeard, IsFed, IsShutConnected, heard_at}
-use Rattle.qh_conn.specs.Items.{noted}
+use Rattle.qh_conn.specs.Items.{noted, streams_logged, streams_started}
 use Rattle.qh_conn.specs.Same.{IsSameConnection, IsSameControl, dropped}
 use Rattle.qh_conn.specs.Telling.{IsEndpointTold, IsHandshakeTimed, IsTold}
 use Rattle.qh_conn.specs.declared.connection.Connection.{Connection}
@@ -235,6 +235,13 @@ module _ {S : Type 0} where
     }))
 
     -- ---- the log
+
+    -- that of the streams starts
+    pub started_same : (c new : Connection S) → new ≡ streams_started c → IsSameConnection key c new
+    started_same c new is =
+        let core = with_space c.core (streams_logged c.control.log c.core.space) in
+        let mid : Connection S = record c { core = core } in
+        both_same key c mid new (space_same c mid _ refl) (same_then key mid (streams_started c) new is (same_control key mid (streams_started c).control (control_kept c.control refl)))
 
     pub note_same : {E : Type 0} (r : Result Unit E) (more : List ConnectionItem) (old new : Connection S) → OnOk r (new ≡ noted more old) → OnErr r (new ≡ old) → IsSameConnection key old new
     note_same (Ok x) more old new ok err = same_then key old (noted more old) new ok (noted_same key old.control.log more old)

@@ -1,7 +1,7 @@
 -- What being greeted and being connected do (RFC 9000, sections 5.1.1, 7 and 7.4; RFC 9001, sections 4.1.1 and 4.9.1).
 use Rattle.std.specs.Prelude.{◌≡◌, ℕ, [], ◌∷◌, ◌++◌, min, true, List, Option, Some, None, if◌then◌else◌}
 use Rattle.qh_base.specs.declared.time.Moment.{Moment}
-use Rattle.qh_conn.specs.Items.{streams_logged, streams_taken}
+use Rattle.qh_conn.specs.Items.{first_limits, streams_logged, streams_taken}
 use Rattle.qh_conn.specs.declared.connection.Connection.{Connection}
 use Rattle.qh_conn.specs.declared.connection.EarlyLimits.{EarlyLimits}
 use Rattle.qh_control.specs.Control.{asked_events, first_ids, token_event}
@@ -50,14 +50,15 @@ abbrev pub early_concurrent : Dir → (count : ℕ) → EarlyLimits → EarlyLim
 early_concurrent Bi count e = record e { max_bidi = Some count }
 early_concurrent Uni count e = record e { max_uni = Some count }
 
--- the peer's id, how many ids it keeps, of which at most 8 are used (own), and which datagrams it takes, which is logged
+-- the peer's id, how many ids it keeps, of which at most 8 are used (own), and which datagrams it takes, which is logged, and its first limits
+-- behind that
 abbrev pub control_greeted : ControlState → (id : List ℕ) → TransportParameters → ControlState
 control_greeted s id p = record s {
   ids = first_ids id p.stateless_reset_token;
   id_limit = min p.active_connection_id_limit 8;
   peer_datagram = datagram_of p.max_datagram_frame_size;
   endpoint_events = s.endpoint_events ++ token_event s p.stateless_reset_token;
-  log = logged s.log (item.MaxDatagramSize (datagram_of p.max_datagram_frame_size) ∷ []);
+  log = logged s.log (item.MaxDatagramSize (datagram_of p.max_datagram_frame_size) ∷ first_limits (peer_limits p));
 }
 
 -- further ids are asked for
@@ -77,7 +78,7 @@ module _ {S : Type 0} where
   }
 
   -- The end of the 1-RTT packets begins with the limits and the idle time of the peer's hello, and with what was set before; a client has a
-  -- PING to send. If the connection's log is on, this one, that of the streams begins with the peer's first limits.
+  -- PING to send. If the connection's log is on, this one, so is that of the streams.
   pub record IsBegunBy (p : TransportParameters) (h : Handshake) (e : EarlyLimits) (log : Option (List ConnectionItem)) (old new : Inner S) : Type 0 where
     pub begun : DataSpace
     pub space : IsNewSpace new.config new.side begun

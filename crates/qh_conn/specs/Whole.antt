@@ -1,5 +1,6 @@
 -- What holds of a connection at every moment, and how it stands to all that was done with it (RFC 9000, sections 5 and 7).
 use Rattle.std.specs.Prelude.{◌≡◌, ◌⊎◌, ℕ, true, false, List, ◌++◌, length, None, is_some}
+use Rattle.qh_conn.specs.Items.{IsLogCurrent}
 use Rattle.qh_conn.specs.declared.connection.Connection.{Connection}
 use Rattle.qh_control.specs.Control.{IsSendable}
 use Rattle.qh_converse.specs.Converses.{Converses}
@@ -31,16 +32,18 @@ module _ {S : Type 0} where
     pub ungreeted : c.handshake.peer ≡ None → c.core.config.peer_datagram ≡ None
     pub connected : c.is_connected ≡ true → is_some c.handshake.peer ≡ true
 
-  -- So it is at every moment, and a client that was greeted is connected, unless the connection was over by then.
+  -- So it is at every moment, and a client that was greeted is connected, unless the connection was over by then, and the log is current.
   pub record IsWhole (c : Connection S) : Type 0 where
     pub sound : IsSound c
+    pub current : IsLogCurrent c
     pub client : c.handshake.side ≡ Client → is_some c.handshake.peer ≡ true → (c.is_connected ≡ true) ⊎ (is_open c.core.state ≡ false)
 
-  -- what that is said of is the same, but for the end of the 1-RTT packets
+  -- what that is said of is the same, but for the end of the 1-RTT packets, and of that the log of the streams
   pub record HasSameParts (old new : Connection S) : Type 0 where
     pub handshake : new.handshake ≡ old.handshake
     pub control : new.control ≡ old.control
     pub is_connected : new.is_connected ≡ old.is_connected
+    pub log : new.core.space.log ≡ old.core.space.log
 
   -- it stands so to all that was done with it, if its own hello is this one, and sessions take and make these tags
   abbrev pub Stands : AcceptsTags S → MakesTagsOf S → (hello : List ℕ) → Connection S → List Act → Type 0

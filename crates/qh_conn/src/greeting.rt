@@ -1,14 +1,15 @@
 ghost use Rattle.std.specs.Prelude.{◌≡◌, ◌⊎◌, ◌++◌, ◌∷◌, ℕ, Bool, true, false, List, [], None, Some, is_some, OnOk, OnErr, if◌then◌else◌};
-ghost use Rattle.qh_conn.specs.Greeting.{IsBegunBy, IsGreetedNow, connected, with_core, early_concurrent, or_set, with_concurrent, with_count, with_early};
+ghost use Rattle.qh_conn.specs.Greeting.{IsBegunBy, IsGreetedNow, connected, ids_asked, with_core, early_concurrent, or_set, with_concurrent, with_count, with_early};
 ghost use Rattle.qh_conn.specs.Hearing.{FailsTo, HasRead, HearsIt, HearsStill};
+ghost use Rattle.qh_conn.specs.Items.{IsLogCurrent, LogGoesOn};
 ghost use Rattle.qh_conn.specs.Same.{IsSameConnection};
 ghost use Rattle.qh_conn.specs.Whole.{IsSound, IsWhole, StandsStill};
 ghost use Rattle.qh_conn.specs.declared.connection.Connection.{Connection as AConnection};
 ghost use Rattle.qh_control.specs.Control.{IsSendable};
+ghost use Rattle.qh_control.specs.declared.items.ConnectionItem.{ConnectionItem as AnItem};
 ghost use Rattle.qh_converse.specs.Converses.{Hears};
 ghost use Rattle.qh_core.specs.Inner.{is_open, with_streams};
 ghost use Rattle.qh_core.specs.Made.{AcceptsTags, IsMadeLocally, MakesTagsOf};
-ghost use Rattle.qh_handshake.specs.Handshake.{dropping};
 ghost use Rattle.qh_handshake.specs.declared.handshake.Handshake.{Handshake as AHandshake};
 ghost use Rattle.qh_spec.specs.Transcript.{Act, HandedIn};
 ghost use Rattle.qh_spec.specs.declared.sides.Side.TheVariants.{Client};
@@ -28,13 +29,16 @@ impl<S: Session> Connection<S> {
         requires sound { IsSound self.old }
         requires open { is_open self.old.core.state ≡ true }
         requires first { (self.old.is_connected ≡ false) × IsSendable self.old.core.side None self.old.control }
+        requires current { IsLogCurrent self.old }
         ensures none { self.old.handshake.peer ≡ None → OnOk result (self.new ≡ self.old) }
         ensures some { is_some self.old.handshake.peer ≡ true → OnOk result (IsGreetedNow now self.old self.new) }
         ensures sound { IsSound self.new }
         ensures client { OnOk result (self.old.handshake.side ≡ Client → self.new.is_connected ≡ is_some self.old.handshake.peer) }
         ensures hears { (accepts : AcceptsTags S) (sealed : MakesTagsOf S) (hello d : List ℕ) (before : AHandshake) (t : List Act) → HasRead accepts sealed hello before self.old t d → before.peer ≡ None
             → OnOk result (HearsIt accepts sealed hello self.new t d) × OnErr result (FailsTo accepts sealed hello self.new (t ++ HandedIn d ∷ [])) }
-        ensures err { OnErr result (self.new ≡ record self.old { handshake = self.new.handshake; core = self.new.core; control = self.new.control; is_connected = self.new.is_connected; is_data_due = self.new.is_data_due; is_connected_due = self.new.is_connected_due }) }
+        ensures err { OnErr result (self.new ≡ record self.old { core = self.new.core; control = self.new.control; is_data_due = self.new.is_data_due }) }
+        ensures current { OnOk result (IsLogCurrent self.new) }
+        ensures log { (more : List AnItem) × LogGoesOn more self.old self.new }
         ensures same { (before : AConnection S) → before.handshake.peer ≡ None → IsSameConnection S.key before self.old → IsSameConnection S.key before self.new }
     {
         let Some(peer) = self.handshake.peer else {
@@ -63,6 +67,8 @@ impl<S: Session> Connection<S> {
             → FailsTo accepts sealed hello self.new (t ++ HandedIn d ∷ [])) }
         ensures sound { IsSound self.new }
         ensures err { OnErr result (self.new ≡ record self.old { core = self.new.core; control = self.new.control }) }
+        ensures current { OnOk result (IsLogCurrent self.new) }
+        ensures log { (more : List AnItem) × LogGoesOn more self.old self.new }
         ensures same { (before : AConnection S) → before.handshake.peer ≡ None → IsSameConnection S.key before self.old → IsSameConnection S.key before self.new }
     {
         let remote_id = self.handshake.remote_id;
@@ -80,32 +86,43 @@ impl<S: Session> Connection<S> {
         Ok(())
     }
 
-    /// The handshake is complete, which is logged: further ids are asked for, if the connection isn't over already.
+    /// The handshake is complete, which is logged: further ids are asked for, if the connection isn't over already. For want of memory nothing
+    /// changes but that the ids may have been asked for: it isn't complete then, nor told so, by the log or by an event.
     pub(crate) fn connect(&mut self, now: Moment) -> Result<(), Memory>
         requires sound { IsSound self.old }
         requires greeted { is_some self.old.handshake.peer ≡ true }
+        requires first { self.old.is_connected ≡ false }
         ensures ok { OnOk result (self.new ≡ connected now self.old) }
-        ensures err { OnErr result (self.new ≡ record (connected now self.old) { core = self.new.core; control = self.new.control }) }
+        ensures err { OnErr result (self.new ≡ record self.old { control = record self.old.control { endpoint_events = self.new.control.endpoint_events } }) }
         ensures wanting { OnErr result ((is_open self.old.core.state ≡ true) ⊎ (is_some self.old.control.log ≡ true)) }
-        ensures handshake { self.new.handshake ≡ record (dropping self.old.handshake) { is_validated = true } }
-        ensures connected { self.new.is_connected ≡ true }
         ensures state { self.new.core.state ≡ self.old.core.state }
         ensures made { IsMadeLocally self.old.core self.new.core [] }
         ensures sound { IsSound self.new }
+        ensures log { (more : List AnItem) × LogGoesOn more self.old self.new }
         ensures same { IsSameConnection S.key self.old self.new }
     {
+        self.ask_ids(now)?;
+        self.note(Some(ConnectionItem::Connected))?;
         self.handshake.discard_space();
         self.is_connected = true;
         self.is_connected_due = true;
-        self.note(Some(ConnectionItem::Connected))?;
+        Ok(())
+    }
+}
+
+impl<S> Connection<S> {
+    // Further ids are asked for, if the connection isn't over already. For want of memory nothing changes.
+    fn ask_ids(&mut self, now: Moment) -> Result<(), Memory>
+        ensures ok { OnOk result (self.new ≡ record self.old { control = (if is_open self.old.core.state then ids_asked now self.old.control else self.old.control) }) }
+        ensures err { OnErr result (self.new ≡ self.old) }
+        ensures wanting { OnErr result (is_open self.old.core.state ≡ true) }
+    {
         if self.core.is_closed() {
             return Ok(());
         }
         self.control.ask_ids(now)
     }
-}
 
-impl<S> Connection<S> {
     // What was set before holds on.
     fn set_early(&mut self)
         ensures value { self.new ≡ record self.old { core = with_streams self.old.core (with_early self.old.early self.old.core.space.streams) } }

@@ -2,10 +2,12 @@ ghost use Rattle.std.specs.Prelude.{◌≡◌, ◌⊎◌, ◌∷◌, ◌++◌, [
 ghost use Rattle.qh_base.specs.declared.connection_error.ConnectionError.TheVariants.{Memory as OutOfMemory, Reset};
 ghost use Rattle.qh_conn.specs.Hearing.{FailsTo, HasRead, HearsIt, StandsOrFails};
 ghost use Rattle.qh_conn.specs.Incoming.{AreFramesDone, BeginsWithFrames, BringsData, EndsBy, HasHeard, IsClosingHeard, IsDatagramHandled, IsEventHandled, IsFed, IsKnownOf, IsMet, IsOpenHandled, IsOver, IsRestTaken, IsRestarted, IsShutConnected, acts_of, connected_if, is_reset_by, takes_memory};
+ghost use Rattle.qh_conn.specs.Items.{EndsLogBy, IsLogCurrent, IsLogEnded, LogGoesOn};
 ghost use Rattle.qh_conn.specs.Same.{IsSameConnection, IsSameControl, dropped};
 ghost use Rattle.qh_conn.specs.Whole.{CarriesOnBy, IsSafe, IsSound, IsWhole, Stands, StandsStill};
 ghost use Rattle.qh_conn.specs.declared.connection.Connection.{Connection as AConnection};
 ghost use Rattle.qh_control.specs.Control.{IsControlTaken, IsSendable, control_refusal, keeps};
+ghost use Rattle.qh_control.specs.declared.items.ConnectionItem.{ConnectionItem as AnItem};
 ghost use Rattle.qh_core.specs.Inner.{IsFailedBy, IsSameEnd, is_open};
 ghost use Rattle.qh_core.specs.Event.{is_drained};
 ghost use Rattle.qh_core.specs.Made.{AcceptsTags, IsMadeLocally, MakesTagsOf};
@@ -39,11 +41,13 @@ const LEAST_RESET: usize = 21;
 impl<S: Session> Connection<S> {
     /// Takes what is handed in from outside. Of a datagram the Initial packets with which it begins go to the handshake, and what is behind
     /// them, of an end that was greeted, to the end of the 1-RTT packets. Want of memory ends the connection: the error that it keeps is
-    /// Memory then, and what waited to be read is dropped.
+    /// Memory then, and what waited to be read is dropped. The items of the log that weren't taken stay in it. What a datagram brought until then
+    /// is behind them, but for what it brought to the streams.
     pub fn handle_event(&mut self, event: ConnectionEvent) -> Result<(), Memory>
         requires { IsWhole self.old }
         ensures ok { OnOk result (IsEventHandled (record { name = S.name; knows = S.knows; key = S.key; sealed = S.sealed; accepts = S.accepts }) event self.old self.new) }
         ensures err { OnErr result (IsOver self.new) }
+        ensures log { OnErr result (EndsLogBy event self.old self.new) }
         ensures wanting { OnErr result (is_open self.old.core.state ≡ true) }
         ensures calm { takes_memory event ≡ false → IsOk result }
         ensures carries { NamesTags (S.accepts self.old.core.session) → CarriesOnBy S.accepts S.sealed self.old self.new (acts_of event) }
@@ -78,6 +82,7 @@ impl<S: Session> Connection<S> {
         requires { IsWhole self.old }
         ensures ok { OnOk result (IsDatagramHandled (record { name = S.name; knows = S.knows; key = S.key; sealed = S.sealed; accepts = S.accepts }) now datagram.now self.old self.new) }
         ensures err { OnErr result (IsOver self.new) }
+        ensures log { OnErr result ((more : List AnItem) × IsLogEnded more self.old self.new) }
         ensures wanting { OnErr result (is_open self.old.core.state ≡ true) }
         ensures carries { NamesTags (S.accepts self.old.core.session) → CarriesOnBy S.accepts S.sealed self.old self.new (HandedIn datagram.now ∷ []) }
         ensures whole { IsWhole self.new }
@@ -99,6 +104,7 @@ impl<S: Session> Connection<S> {
         ensures value { result ≡ taken }
         ensures ok { OnOk taken (self.new ≡ self.old) }
         ensures err { OnErr taken (IsOver self.new) }
+        ensures log { OnErr taken ((before : AConnection S) (more : List AnItem) → IsLogCurrent before → LogGoesOn more before self.old → IsLogEnded more before self.new) }
         ensures fails { OnErr taken ((accepts : AcceptsTags S) (sealed : MakesTagsOf S) (hello : List ℕ) (t : List Act) → FailsTo accepts sealed hello self.old t → Stands accepts sealed hello self.new t) }
         ensures stands { StandsStill self.old self.new }
         ensures whole { IsWhole self.new }
@@ -120,6 +126,7 @@ impl<S: Session> Connection<S> {
         ensures whole { OnOk result (IsWhole self.new) }
         ensures same { OnOk result (IsSameConnection S.key self.old self.new) }
         ensures lost { OnErr result (IsSameConnection S.key self.old (dropped self.new)) }
+        ensures log { OnErr result ((more : List AnItem) × LogGoesOn more self.old self.new) }
     {
         let known = self.known();
         let rest = match self.feed(now, datagram) {
@@ -143,6 +150,7 @@ impl<S: Session> Connection<S> {
         requires sound { IsSound self.old }
         requires open { is_open self.old.core.state ≡ true }
         requires first { was_greeted ≡ false → (self.old.is_connected ≡ false) × IsSendable self.old.core.side None self.old.control }
+        requires current { IsLogCurrent self.old }
         requires whole { was_greeted ≡ true → IsWhole self.old }
         ensures ok { OnOk result (IsMet now was_greeted self.old self.new) }
         ensures hears { (accepts : AcceptsTags S) (sealed : MakesTagsOf S) (hello d : List ℕ) (before : AHandshake) (t : List Act) → HasRead accepts sealed hello before self.old t d → was_greeted ≡ is_some before.peer
@@ -150,6 +158,7 @@ impl<S: Session> Connection<S> {
         ensures sound { IsSound self.new }
         ensures whole { OnOk result (IsWhole self.new) }
         ensures open { OnOk result (is_open self.new.core.state ≡ true) }
+        ensures log { (more : List AnItem) × LogGoesOn more self.old self.new }
         ensures same { (before : AConnection S) → was_greeted ≡ is_some before.handshake.peer → IsSameConnection S.key before self.old → IsSameConnection S.key before self.new }
     {
         if was_greeted {
@@ -186,6 +195,7 @@ impl<S: Session> Connection<S> {
         requires ends { EndsWith rest.now datagram.now }
         ensures carries { NamesTags (S.accepts self.old.core.session) → (hello : List ℕ) (t : List Act) → HearsIt S.accepts S.sealed hello self.old t datagram.now → StandsOrFails S.accepts S.sealed result hello self.new (t ++ HandedIn datagram.now ∷ []) }
         ensures ok { OnOk result (IsRestTaken (S.accepts self.old.core.session) now datagram.now rest.now self.old self.new) }
+        ensures log { OnErr result ((more : List AnItem) × LogGoesOn more self.old self.new) }
         ensures safe { IsSafe self.new }
         ensures whole { OnOk result (IsWhole self.new) }
         ensures same { IsSameConnection S.key self.old self.new }
@@ -208,7 +218,9 @@ impl<S: Session> Connection<S> {
         requires sound { IsSound self.old }
         requires greeted { is_some self.old.handshake.peer ≡ true }
         ensures ok { OnOk result (self.new ≡ connected_if now self.old) }
-        ensures connected { self.new.is_connected ≡ true }
+        ensures connected { OnOk result (self.new.is_connected ≡ true) }
+        ensures current { OnOk result (IsLogCurrent self.new) }
+        ensures log { (more : List AnItem) × LogGoesOn more self.old self.new }
         ensures free { self.old.control.log ≡ None → self.old.is_connected ≡ true → IsOk result }
         ensures made { IsMadeLocally self.old.core self.new.core [] }
         ensures state { self.new.core.state ≡ self.old.core.state }
@@ -233,6 +245,8 @@ impl<S: Session> Connection<S> {
         ensures stands { StandsStill self.old self.new }
         ensures open { is_open self.new.core.state ≡ true → self.new.core ≡ self.old.core }
         ensures rest { self.new ≡ record self.old { core = self.new.core; control = self.new.control } }
+        ensures space { self.new.core.space ≡ self.old.core.space }
+        ensures log { (more : List AnItem) × LogGoesOn more self.old self.new }
         ensures wanting { OnErr result (is_open self.new.core.state ≡ true) }
         ensures done { OnOk result ((taken : List AFrame) → BeginsWithFrames accepted.now.frames.now taken → accepted.now.taken ≡ length taken → (read : List AFrame) × BeginsWithFrames accepted.now.frames.now read × (length read ≡ length taken) × AreFramesDone now read self.old self.new) }
         ensures same { IsSameConnection S.key self.old self.new }
@@ -269,6 +283,7 @@ impl<S: Session> Connection<S> {
         ensures refused { IfErr result (λ e. (e ≡ Wanting → ⊥) → self.new ≡ self.old) }
         ensures rest { self.new ≡ record self.old { control = self.new.control } }
         ensures sound { IsSound self.new }
+        ensures log { (more : List AnItem) × LogGoesOn more self.old self.new }
         ensures stays { IsSameControl true self.old.control self.new.control }
     {
         self.control.take_frame(self.alloc, now, frame)
@@ -430,12 +445,13 @@ impl<S> Connection<S> {
         }
     }
 
-    /// Want of memory ended the connection.
+    /// Want of memory ended the connection. What came to the streams and wasn't moved into the log is gone with them.
     pub(crate) fn fail(&mut self)
         requires { IsSafe self.old }
         ensures over { IsOver self.new }
         ensures handshake { self.new.handshake ≡ dropping self.old.handshake }
         ensures core { IsFailedBy self.old.core self.new.core }
+        ensures log { (before : AConnection S) (more : List AnItem) → IsLogCurrent before → LogGoesOn more before self.old → IsLogEnded more before self.new }
         ensures rest { self.new ≡ record self.old { handshake = self.new.handshake; core = self.new.core; control = self.new.control } }
         ensures fails { (accepts : AcceptsTags S) (sealed : MakesTagsOf S) (hello : List ℕ) (t : List Act) → FailsTo accepts sealed hello self.old t → Stands accepts sealed hello self.new t }
         ensures stands { StandsStill self.old self.new }
@@ -444,6 +460,7 @@ impl<S> Connection<S> {
     {
         qh_converse::sends::<S>();
         self.core.fail();
+        let _ = self.core.take_items();
         self.handshake.drop_space();
         self.control.clear_datagrams();
     }

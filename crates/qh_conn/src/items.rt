@@ -1,10 +1,9 @@
 ghost use Rattle.std.specs.Prelude.{◌≡◌, ◌⊎◌, ◌++◌, [], List, Bool, true, None, is_some, IsOk, OnOk, OnErr, IfOk};
-ghost use Rattle.qh_conn.specs.Items.{is_loss_logged, items_taken, log_started, loss, loss_noted, noted, noted_in, streams_logged, streams_taken, untaken};
+ghost use Rattle.qh_conn.specs.Items.{is_loss_logged, items_taken, log_started, loss, loss_noted, noted, noted_in, streams_started, streams_taken, untaken};
 ghost use Rattle.qh_conn.specs.Hearing.{HearsStill};
 ghost use Rattle.qh_conn.specs.Whole.{IsSound, IsWhole, StandsStill};
 ghost use Rattle.qh_control.specs.Items.{HasRoom, held_in, kept_in, logged, only, streamed};
 ghost use Rattle.qh_control.specs.declared.items.ConnectionItem.{ConnectionItem as AnItem};
-ghost use Rattle.qh_core.specs.Inner.{IsNewSpace, with_space};
 ghost use Rattle.qh_core.specs.Made.{IsMadeLocally};
 ghost use Rattle.qh_space.specs.Space.{AreUnused};
 ghost use Rattle.qh_streams.specs.Items.{kept_in as brought_in};
@@ -12,7 +11,7 @@ ghost use Rattle.qh_streams.specs.Streams.{counts_of};
 
 use crate::{Connection, ConnectionItem};
 use qh_base::Memory;
-use qh_control::LogEntry;
+use qh_control::{ConnectionLog, LogEntry};
 use qh_streams::Item;
 
 // The log of a connection: its own items and those of its streams, in the order in which they came.
@@ -33,8 +32,14 @@ impl<S> Connection<S> {
         ensures stands { StandsStill self.old self.new }
         ensures whole { IsWhole self.new }
     {
-        self.start_streams()?;
         self.control.log.start(self.alloc);
+        if !self.is_greeted() {
+            return Ok(());
+        }
+        let Ok(()) = self.log_streams() else {
+            self.control.log = ConnectionLog::off();
+            return Err(Memory);
+        };
         Ok(())
     }
 
@@ -135,35 +140,29 @@ impl<S> Connection<S> {
         self.core.take_items()
     }
 
-    // The log of the streams begins, of an end that was greeted.
-    fn start_streams(&mut self) -> Result<(), Memory>
-        requires unused { is_some self.old.handshake.peer ≡ true → AreUnused self.old.core.space.streams self.old.core.space.streams.peer }
-        requires arrived { is_some self.old.handshake.peer ≡ true → (two_way : Bool) → (counts_of self.old.core.space.streams two_way).arrived ≡ 0 }
-        requires off { is_some self.old.handshake.peer ≡ true → self.old.core.space.log ≡ None }
-        ensures ok { OnOk result (self.new ≡ record self.old { core = (log_started self.old).core }) }
-        ensures err { OnErr result (self.new ≡ self.old) }
-        ensures wanting { OnErr result (is_some self.old.handshake.peer ≡ true) }
-        ensures stands { StandsStill self.old self.new }
-        ensures whole { IsWhole self.old → IsWhole self.new }
-    {
-        if !self.is_greeted() {
-            return Ok(());
-        }
-        self.core.start_log()
-    }
-
-    /// The log of the streams of an end that begins starts, if that of the connection is on. For want of memory nothing changes.
+    /// The log of the streams starts, of an end whose streams aren't used yet, if that of the connection is on, into which the peer's first
+    /// limits are moved. For want of memory nothing changes.
     pub(crate) fn log_streams(&mut self) -> Result<(), Memory>
-        requires { IsNewSpace self.old.core.config self.old.core.side self.old.core.space }
-        ensures ok { OnOk result (self.new ≡ record self.old { core = with_space self.old.core (streams_logged self.old.control.log self.old.core.space) }) }
+        requires unused { AreUnused self.old.core.space.streams self.old.core.space.streams.peer }
+        requires arrived { (two_way : Bool) → (counts_of self.old.core.space.streams two_way).arrived ≡ 0 }
+        requires off { self.old.core.space.log ≡ None }
+        ensures ok { OnOk result (self.new ≡ streams_started self.old) }
         ensures err { OnErr result (self.new ≡ self.old) }
         ensures free { self.old.control.log ≡ None → IsOk result }
         ensures hears { HearsStill self.old.core self.new.core }
+        ensures stands { StandsStill self.old self.new }
         ensures sound { IsSound self.old → IsSound self.new }
+        ensures whole { IsWhole self.old → IsWhole self.new }
     {
         if !self.control.log.is_on() {
             return Ok(());
         }
-        self.core.start_log()
+        let entries = self.control.log.lend()?;
+        let Ok(()) = self.core.start_log() else {
+            self.control.log.give_back(entries);
+            return Err(Memory);
+        };
+        self.note_in(entries, None);
+        Ok(())
     }
 }

@@ -1,9 +1,10 @@
 ghost use Rattle.std.specs.Prelude.{◌≡◌, ◌⊎◌, ◌∷◌, [], None, Some, true, false, length, IfOk, IfSome, OnErr, OnOk};
 ghost use Rattle.qh_base.specs.declared.time.Moment.{Moment as AMoment};
 ghost use Rattle.qh_conn.specs.Incoming.{IsOver};
+ghost use Rattle.qh_conn.specs.Items.{IsLogEnded, LogGoesOn};
 ghost use Rattle.qh_conn.specs.Outgoing.{IsControlHeld, IsDataTransmitted, IsInitialClose, IsSilent, IsStill, IsTransmitted, TakesTurns, handed_on, made_acts};
 ghost use Rattle.qh_conn.specs.Same.{IsSameConnection};
-ghost use Rattle.qh_conn.specs.Whole.{CarriesOnBy, IsWhole};
+ghost use Rattle.qh_conn.specs.Whole.{CarriesOnBy, IsSafe, IsWhole};
 ghost use Rattle.qh_core.specs.Inner.{IsFailedBy, is_open};
 ghost use Rattle.qh_core.specs.Sending.{BearsNoControl, IsDatagramMade as IsCoreMade, IsSilent as IsCoreSilent, is_close_due};
 ghost use Rattle.qh_handshake.specs.Outgoing.{IsCloseKept, IsSilent as IsSilentHandshake};
@@ -30,6 +31,7 @@ impl<S: Session> Connection<S> {
         ensures some { IfOk result (λ o. IfSome o (λ t. IsTransmitted (S.sealed self.old.core.session) now self.old self.new buf.old.items buf.new.items t)) }
         ensures none { IfOk result (λ o. o ≡ None → (buf.new.items ≡ buf.old.items) × IsSilent self.old × IsStill self.old self.new) }
         ensures err { OnErr result ((buf.new.items ≡ buf.old.items) × IsOver self.new) }
+        ensures log { OnErr result (IsLogEnded [] self.old self.new) }
         ensures carries { NamesTags (S.accepts self.old.core.session) → MakesTags (S.sealed self.old.core.session) → CarriesOnBy S.accepts S.sealed self.old self.new (made_acts buf.old.items buf.new.items result) }
         ensures whole { IsWhole self.new }
         ensures same { IsSameConnection S.key self.old self.new }
@@ -50,8 +52,10 @@ impl<S: Session> Connection<S> {
         ensures some { IfOk result (λ o. IfSome o (λ t. IsTransmitted (S.sealed self.old.core.session) now self.old (handed_on t.size self.new) buf.old.items buf.new.items t)) }
         ensures none { IfOk result (λ o. o ≡ None → (buf.new.items ≡ buf.old.items) × IsSilent self.old × IsStill self.old self.new) }
         ensures err { OnErr result (buf.new.items ≡ buf.old.items) }
+        ensures log { OnErr result (LogGoesOn [] self.old self.new) }
         ensures carries { NamesTags (S.accepts self.old.core.session) → MakesTags (S.sealed self.old.core.session) → CarriesOnBy S.accepts S.sealed self.old self.new (made_acts buf.old.items buf.new.items result) }
-        ensures whole { IsWhole self.new }
+        ensures safe { IsSafe self.new }
+        ensures whole { OnOk result (IsWhole self.new) }
         ensures same { IsSameConnection S.key self.old self.new }
     {
         if self.core.is_closed() {
@@ -75,6 +79,7 @@ impl<S: Session> Connection<S> {
         ensures some { IfOk result (λ o. IfSome o (λ t. (now : AMoment) → IsTransmitted (S.sealed self.old.core.session) now self.old (handed_on t.size self.new) buf.old.items buf.new.items t)) }
         ensures none { IfOk result (λ o. o ≡ None → (buf.new.items ≡ buf.old.items) × (self.new ≡ self.old) × ((is_close_due self.old.core.state ≡ false) ⊎ IsCloseKept self.old.handshake)) }
         ensures err { OnErr result (buf.new.items ≡ buf.old.items) }
+        ensures log { OnErr result (LogGoesOn [] self.old self.new) }
         ensures carries { NamesTags (S.accepts self.old.core.session) → MakesTags (S.sealed self.old.core.session) → CarriesOnBy S.accepts S.sealed self.old self.new (made_acts buf.old.items buf.new.items result) }
         ensures whole { IsWhole self.new }
         ensures same { IsSameConnection S.key self.old self.new }
@@ -105,6 +110,7 @@ impl<S: Session> Connection<S> {
         ensures some { IfOk result (λ o. IfSome o (λ t. IsTransmitted (S.sealed self.old.core.session) now self.old (handed_on t.size self.new) buf.old.items buf.new.items t)) }
         ensures none { IfOk result (λ o. o ≡ None → (buf.new.items ≡ buf.old.items) × (self.new ≡ self.old) × IsSilentHandshake self.old.handshake) }
         ensures err { OnErr result (buf.new.items ≡ buf.old.items) }
+        ensures log { OnErr result (LogGoesOn [] self.old self.new) }
         ensures carries { NamesTags (S.accepts self.old.core.session) → MakesTags (S.sealed self.old.core.session) → CarriesOnBy S.accepts S.sealed self.old self.new (made_acts buf.old.items buf.new.items result) }
         ensures whole { IsWhole self.new }
         ensures same { IsSameConnection S.key self.old self.new }
@@ -131,8 +137,10 @@ impl<S: Session> Connection<S> {
         ensures none { IfOk result (λ o. o ≡ None → (buf.new.items ≡ buf.old.items) × IsCoreSilent self.old.core × IsControlHeld self.old × IsStill self.old self.new) }
         ensures turns { IfOk result (λ o. IfSome o (λ t. TakesTurns self.old self.new)) }
         ensures err { OnErr result (buf.new.items ≡ buf.old.items) }
+        ensures log { OnErr result (LogGoesOn [] self.old self.new) }
         ensures carries { NamesTags (S.accepts self.old.core.session) → MakesTags (S.sealed self.old.core.session) → CarriesOnBy S.accepts S.sealed self.old self.new (made_acts buf.old.items buf.new.items result) }
-        ensures whole { IsWhole self.new }
+        ensures safe { IsSafe self.new }
+        ensures whole { OnOk result (IsWhole self.new) }
         ensures same { IsSameConnection S.key self.old self.new }
     {
         if !self.is_control_next {
@@ -157,8 +165,10 @@ impl<S: Session> Connection<S> {
         ensures none { IfOk result (λ o. o ≡ None → (buf.new.items ≡ buf.old.items) × IsCoreSilent self.old.core × IsControlHeld self.old × IsStill self.old self.new) }
         ensures others { IfOk result (λ o. IfSome o (λ t. (self.new.is_control_next ≡ true) ⊎ IsCoreSilent self.old.core)) }
         ensures err { OnErr result (buf.new.items ≡ buf.old.items) }
+        ensures log { OnErr result (LogGoesOn [] self.old self.new) }
         ensures carries { NamesTags (S.accepts self.old.core.session) → MakesTags (S.sealed self.old.core.session) → CarriesOnBy S.accepts S.sealed self.old self.new (made_acts buf.old.items buf.new.items result) }
-        ensures whole { IsWhole self.new }
+        ensures safe { IsSafe self.new }
+        ensures whole { OnOk result (IsWhole self.new) }
         ensures same { IsSameConnection S.key self.old self.new }
     {
         if let Some(transmit) = self.transmit_core(now, buf)? {
@@ -175,9 +185,11 @@ impl<S: Session> Connection<S> {
         ensures some { IfOk result (λ o. IfSome o (λ t. IsCoreMade (S.sealed self.old.core.session) now self.old.core self.new.core buf.old.items buf.new.items t × BearsNoControl (S.sealed self.old.core.session) now self.old.core self.new.core buf.old.items buf.new.items)) }
         ensures none { IfOk result (λ o. o ≡ None → (buf.new.items ≡ buf.old.items) × (self.new ≡ self.old) × IsCoreSilent self.old.core) }
         ensures err { OnErr result (buf.new.items ≡ buf.old.items) }
+        ensures log { OnErr result (LogGoesOn [] self.old self.new) }
         ensures rest { self.new ≡ record self.old { core = self.new.core } }
         ensures carries { NamesTags (S.accepts self.old.core.session) → MakesTags (S.sealed self.old.core.session) → CarriesOnBy S.accepts S.sealed self.old self.new (made_acts buf.old.items buf.new.items result) }
-        ensures whole { IsWhole self.new }
+        ensures safe { IsSafe self.new }
+        ensures whole { OnOk result (IsWhole self.new) }
         ensures same { IsSameConnection S.key self.old self.new }
     {
         sends::<S>();
@@ -197,8 +209,10 @@ impl<S: Session> Connection<S> {
         ensures none { IfOk result (λ o. o ≡ None → (buf.new.items ≡ buf.old.items) × IsControlHeld self.old × IsStill self.old self.new) }
         ensures next { IfOk result (λ o. IfSome o (λ t. self.new.is_control_next ≡ false)) }
         ensures err { OnErr result (buf.new.items ≡ buf.old.items) }
+        ensures log { OnErr result (LogGoesOn [] self.old self.new) }
         ensures carries { NamesTags (S.accepts self.old.core.session) → MakesTags (S.sealed self.old.core.session) → CarriesOnBy S.accepts S.sealed self.old self.new (made_acts buf.old.items buf.new.items result) }
-        ensures whole { IsWhole self.new }
+        ensures safe { IsSafe self.new }
+        ensures whole { OnOk result (IsWhole self.new) }
         ensures same { IsSameConnection S.key self.old self.new }
     {
         if self.control.queue.waiting().is_empty() {
@@ -221,8 +235,10 @@ impl<S: Session> Connection<S> {
         ensures none { IfOk result (λ o. o ≡ None → (buf.new.items ≡ buf.old.items) × IsControlHeld self.old × (self.new ≡ self.old)) }
         ensures next { IfOk result (λ o. IfSome o (λ t. self.new.is_control_next ≡ false)) }
         ensures err { OnErr result (buf.new.items ≡ buf.old.items) }
+        ensures log { OnErr result (LogGoesOn [] self.old self.new) }
         ensures carries { NamesTags (S.accepts self.old.core.session) → MakesTags (S.sealed self.old.core.session) → CarriesOnBy S.accepts S.sealed self.old self.new (made_acts buf.old.items buf.new.items result) }
-        ensures whole { IsWhole self.new }
+        ensures safe { IsSafe self.new }
+        ensures whole { OnOk result (IsWhole self.new) }
         ensures same { IsSameConnection S.key self.old self.new }
     {
         sends::<S>();
@@ -260,8 +276,10 @@ impl<S: Session> Connection<S> {
         ensures none { IfOk result (λ o. o ≡ None → (buf.new.items ≡ buf.old.items) × IsControlHeld self.old × IsStill self.old self.new) }
         ensures next { IfOk result (λ o. IfSome o (λ t. self.new.is_control_next ≡ false)) }
         ensures err { OnErr result (buf.new.items ≡ buf.old.items) }
+        ensures log { OnErr result (LogGoesOn [] self.old self.new) }
         ensures carries { NamesTags (S.accepts self.old.core.session) → MakesTags (S.sealed self.old.core.session) → CarriesOnBy S.accepts S.sealed self.old self.new (made_acts buf.old.items buf.new.items result) }
-        ensures whole { IsWhole self.new }
+        ensures safe { IsSafe self.new }
+        ensures whole { OnOk result (IsWhole self.new) }
         ensures same { IsSameConnection S.key self.old self.new }
     {
         sends::<S>();

@@ -1,6 +1,7 @@
-ghost use Rattle.std.specs.Prelude.{◌≡◌, ℕ, List, Option, true, MatchOption, OnOk, OnErr};
+ghost use Rattle.std.specs.Prelude.{◌≡◌, [], ℕ, List, Option, true, MatchOption, OnOk, OnErr};
 ghost use Rattle.std.specs.Option.{option_map};
 ghost use Rattle.qh_conn.specs.Incoming.{IsOver};
+ghost use Rattle.qh_conn.specs.Items.{IsLogEnded, LogGoesOn};
 ghost use Rattle.qh_conn.specs.Same.{IsSameConnection};
 ghost use Rattle.qh_conn.specs.Telling.{IsDueAt, IsFirstDue, IsHandshakeTimed, IsTimedOut, IsTold, event_of};
 ghost use Rattle.qh_conn.specs.Whole.{IsWhole, StandsStill};
@@ -21,6 +22,7 @@ impl<S: Session> Connection<S> {
         requires { IsWhole self.old }
         ensures ok { OnOk result (IsTimedOut now.0 self.old self.new) }
         ensures err { OnErr result (IsOver self.new) }
+        ensures log { OnErr result (IsLogEnded [] self.old self.new) }
         ensures wanting { OnErr result ((is_open self.old.core.state ≡ true) × (IsIdleDue now.0 self.old.core → ⊥)) }
         ensures stands { StandsStill self.old self.new }
         ensures whole { IsWhole self.new }
@@ -97,6 +99,7 @@ impl<S> Connection<S> {
         ensures core { IsCoreTimedOut now.0 self.old.core self.new.core }
         ensures opens { is_open self.new.core.state ≡ true → (is_open self.old.core.state ≡ true) × (IsIdleDue now.0 self.old.core → ⊥) }
         ensures rest { self.new ≡ record self.old { handshake = self.new.handshake; core = self.new.core } }
+        ensures log { LogGoesOn [] self.old self.new }
         ensures stands { StandsStill self.old self.new }
         ensures whole { IsWhole self.new }
     {

@@ -2,6 +2,7 @@ pub mod AccordKept
 pub mod HandshakeDatagrams
 pub mod IdleKept
 pub mod LawfulParts
+pub mod LinkedParts
 pub mod MadeOpens
 pub mod MadeQuietly
 pub mod MidDatagram

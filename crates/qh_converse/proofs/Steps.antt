@@ -1,10 +1,12 @@
 -- The steps of a handshake carry on how the end stands to all that was done with it.
-use Rattle.std.proofs.Common.{◌≡◌, ℕ, Bool, false, List, [], ◌∷◌, ◌++◌, length, Some, None, refl, ap, subst, inl, inr}
+use Rattle.std.proofs.Common.{◌≡◌, ℕ, Bool, false, List, [], ◌∷◌, ◌++◌, length, Some, None, refl, ap, subst}
 use Rattle.std.specs.Prelude.{is_some}
 use Rattle.qh_converse.proofs.HandshakeDatagrams.{IsStill, honest_alone}
-use Rattle.qh_converse.proofs.ShakeLaws.{shake_in, shake_out, short_behind}
+use Rattle.qh_converse.proofs.LinkedParts.{shake_comes}
+use Rattle.qh_converse.proofs.ShakeLaws.{shake_in}
 use Rattle.qh_converse.proofs.StateKept.{alone_order, came_order, greeted_order, same_begun, same_order, shut_begun}
 use Rattle.qh_converse.specs.Converses.{Converses, Hears}
+use Rattle.qh_converse.specs.Linked.{ComesFrom}
 use Rattle.qh_converse.specs.Parts.IsShakeOf.{came, went}
 use Rattle.qh_core.specs.Inner.{is_open}
 use Rattle.qh_core.specs.Made.{AcceptsTags, MakesTagsOf}
@@ -17,8 +19,6 @@ use Rattle.qh_handshake.specs.declared.handshake.Handshake.{Handshake}
 use Rattle.qh_hello.specs.declared.transport_parameters.TransportParameters.{TransportParameters}
 use Rattle.qh_spec.specs.Greeted.{IsGreeted}
 use Rattle.qh_spec.specs.Link.{other}
-use Rattle.qh_spec.specs.Lists.{In}
-use Rattle.qh_spec.specs.Parted.{CameFrom}
 use Rattle.qh_spec.specs.Parted.IsPartOf.{initial as alone_act}
 use Rattle.qh_spec.specs.Transcript.{Act, HandedIn, HandedOut, handed_in}
 
@@ -84,9 +84,9 @@ module _ {S : Type 0} (accepts : AcceptsTags S) (sealed : MakesTagsOf S) where
     orders = same_order old new c c k t s refl p.orders;
   }
 
-  -- over a link that gives each end only what the other handed out their handshakes are those of two ends
+  -- over a link that gives each end only what the other handed out, and what no end hands out, their handshakes are those of two ends
   pub are_peers : (own_hello peer_hello : List ℕ) (own peer : Handshake) (c q : Inner S) (k m : Bool) (tc tp : List Act) (mine : Converses accepts sealed own_hello own c k tc) (theirs : Converses accepts sealed peer_hello peer q m tp)
-      → peer.side ≡ other own.side → IsHandshake peer → KnowsIds own peer own.side → CameFrom tc tp → CameFrom tp tc → IsPeer own_hello peer_hello own peer mine.shake theirs.shake
+      → peer.side ≡ other own.side → IsHandshake peer → KnowsIds own peer own.side → ComesFrom tc tp → ComesFrom tp tc → IsPeer own_hello peer_hello own peer mine.shake theirs.shake
   are_peers own_hello peer_hello own peer c q k m tc tp mine theirs sides whole ids to back = record {
     side_is = sides;
     peer_whole = whole;
@@ -94,12 +94,6 @@ module _ {S : Type 0} (accepts : AcceptsTags S) (sealed : MakesTagsOf S) where
     peer_follows = theirs.follows;
     peer_sends = theirs.sends;
     ids = ids;
-    came = λ d i. elim (shake_out theirs.shake tp theirs.is_shake d (to d (subst (λ (z : List (List ℕ)). In d z) (shake_in mine.shake tc mine.is_shake) i))) [
-      | inl h ↦ inl h
-      | inr s ↦ inr (short_behind d s)
-    ];
-    went = λ d i. elim (shake_out mine.shake tc mine.is_shake d (back d (subst (λ (z : List (List ℕ)). In d z) (shake_in theirs.shake tp theirs.is_shake) i))) [
-      | inl h ↦ inl h
-      | inr s ↦ inr (short_behind d s)
-    ];
+    came = shake_comes mine.shake tc theirs.shake tp mine.is_shake theirs.is_shake to;
+    went = shake_comes theirs.shake tp mine.shake tc theirs.is_shake mine.is_shake back;
   }

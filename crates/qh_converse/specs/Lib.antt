@@ -1,3 +1,4 @@
 pub mod Converses
+pub mod Linked
 pub mod Parts
 pub mod Settled

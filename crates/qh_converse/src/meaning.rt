@@ -7,6 +7,7 @@ ghost use Rattle.qh_base.specs.declared.transport_error.TransportError.{Transpor
 ghost use Rattle.qh_conduct.specs.Peers.{ArePeers};
 ghost use Rattle.qh_conduct.specs.Reached.{AreNamed};
 ghost use Rattle.qh_converse.specs.Converses.{Converses, HasAccord, IsInAccordBehind, IsPeerLength};
+ghost use Rattle.qh_converse.specs.Linked.{ComesFrom};
 ghost use Rattle.qh_converse.specs.Settled.{peer_limits};
 ghost use Rattle.qh_core.specs.Follows.{IsWithinLimits};
 ghost use Rattle.qh_core.specs.Inner.{is_open};
@@ -25,7 +26,7 @@ ghost use Rattle.qh_spec.specs.Greeted.{AreAnnouncedFirst, HasGreetedInOrder};
 ghost use Rattle.qh_spec.specs.Lawful.{Lawful};
 ghost use Rattle.qh_spec.specs.Link.{other};
 ghost use Rattle.qh_spec.specs.Lists.{In};
-ghost use Rattle.qh_spec.specs.Parted.{CameFrom, EndsWith, IsInitialAlone, IsShort};
+ghost use Rattle.qh_spec.specs.Parted.{EndsWith, IsInitialAlone, IsShort};
 ghost use Rattle.qh_spec.specs.Transcript.{Act, HandedOut, handed_in, handed_out};
 ghost use Rattle.qh_spec.specs.declared.sides.Side.{Side as ASide};
 ghost use Rattle.qh_spec.specs.declared.sides.Space.{Space as ASpace};
@@ -41,7 +42,8 @@ use qh_spec::laws::greetings::parts;
 /// that the handshake knows (`announced`), and an open end goes by these (`within_open`). If the tags of its session are tags, it accords with
 /// the part of all that concerns 1-RTT packets (`accords`): so what it owes of streams, while it is open, waits or is out, and the datagrams of
 /// that part tell which packets it sent and which it accepted (`in_accord`). And between two ends over a link that gives each only what the
-/// other handed out neither refuses what comes: not its handshake (`faults`, `versions`), nor the end of its 1-RTT packets (`open`).
+/// other handed out, and datagrams such as Retry packets (`ComesFrom`), neither refuses what the other handed out: not its handshake (`faults`,
+/// `versions`), nor the end of its 1-RTT packets (`open`).
 pub fn converses<S>()
     ensures lawful { (accepts : AcceptsTags S) (sealed : MakesTagsOf S) (hello : List ℕ) (h : AHandshake) (c : AnInner S) (k : Bool) (t : List Act) → Converses accepts sealed hello h c k t → Lawful c.side (length c.local_id) (length c.remote_id) t }
     ensures lawful_open { (accepts : AcceptsTags S) (sealed : MakesTagsOf S) (hello : List ℕ) (h : AHandshake) (c : AnInner S) (k : Bool) (t : List Act) → is_open c.state ≡ true → Converses accepts sealed hello h c k t
@@ -56,14 +58,14 @@ pub fn converses<S>()
     ensures announced { (accepts : AcceptsTags S) (sealed : MakesTagsOf S) (hello : List ℕ) (h : AHandshake) (c : AnInner S) (k : Bool) (t : List Act) (p : Parameters) → Converses accepts sealed hello h c k t → h.peer ≡ Some p
         → AreAnnouncedFirst (length c.local_id) (handed_in t) (other c.side) (limits_of p) }
     ensures faults { (accepts : AcceptsTags S) (sealed : MakesTagsOf S) (takes : AcceptsTag) (now : AMoment) (datagram rest own_hello peer_hello : List ℕ) (own new peer : AHandshake) (c p : AnInner S) (k m : Bool) (retried learned : Option (List ℕ)) (e : ATransportError) (tc tp : List Act)
-        → NamesTags takes → Converses accepts sealed own_hello own c k tc → Converses accepts sealed peer_hello peer p m tp → peer.side ≡ other own.side → IsHandshake peer → KnowsIds own peer own.side → CameFrom tc tp → CameFrom tp tc
+        → NamesTags takes → Converses accepts sealed own_hello own c k tc → Converses accepts sealed peer_hello peer p m tp → peer.side ≡ other own.side → IsHandshake peer → KnowsIds own peer own.side → ComesFrom tc tp → ComesFrom tp tc
         → In datagram (handed_out tp) → IsDatagramTaken takes now datagram own new rest retried learned (Some (Fault e)) → ⊥ }
     ensures versions { (accepts : AcceptsTags S) (sealed : MakesTagsOf S) (takes : AcceptsTag) (now : AMoment) (datagram rest own_hello peer_hello : List ℕ) (own new peer : AHandshake) (c p : AnInner S) (k m : Bool) (retried learned : Option (List ℕ)) (tc tp : List Act)
-        → Converses accepts sealed own_hello own c k tc → Converses accepts sealed peer_hello peer p m tp → peer.side ≡ other own.side → IsHandshake peer → KnowsIds own peer own.side → CameFrom tc tp → CameFrom tp tc
+        → Converses accepts sealed own_hello own c k tc → Converses accepts sealed peer_hello peer p m tp → peer.side ≡ other own.side → IsHandshake peer → KnowsIds own peer own.side → ComesFrom tc tp → ComesFrom tp tc
         → In datagram (handed_out tp) → IsDatagramTaken takes now datagram own new rest retried learned (Some VersionMismatch) → ⊥ }
     ensures open { (accepts : AcceptsTags S) (sealed : MakesTagsOf S) (takes : ASide → ASpace → ℕ → List ℕ → Bool) → AreNamed takes
         → (own_hello peer_hello : List ℕ) (own peer : AHandshake) (c p new : AnInner S) (k m : Bool) (tc tp : List Act) (now : AMoment) (remote : AnAddress) (tail d : List ℕ)
-        → ArePeers c p → CameFrom tc tp → CameFrom tp tc → Converses accepts sealed own_hello own c k tc → Converses accepts sealed peer_hello peer p m tp → is_open c.state ≡ true → is_open p.state ≡ true → p.error ≡ None
+        → ArePeers c p → ComesFrom tc tp → ComesFrom tp tc → Converses accepts sealed own_hello own c k tc → Converses accepts sealed peer_hello peer p m tp → is_open c.state ≡ true → is_open p.state ≡ true → p.error ≡ None
         → In d (handed_out tp) → EndsWith tail d → IsShort tail → IsEventTaken takes (ADatagram now remote tail) c new → is_open new.state ≡ true }
     ensures accords { (accepts : AcceptsTags S) (sealed : MakesTagsOf S) (hello : List ℕ) (h : AHandshake) (c : AnInner S) (k : Bool) (t : List Act) → AreTags (accepts c.session) (sealed c.session) → Converses accepts sealed hello h c k t
         → HasAccord accepts sealed c t }

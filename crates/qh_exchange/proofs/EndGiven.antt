@@ -1,6 +1,6 @@
 -- What a datagram does to an end that is there.
-use Rattle.std.proofs.Common.{◌≡◌, ◌≤◌, List, [], ◌∷◌, ◌++◌, ℕ, false, sym, subst, length}
-use Rattle.std.specs.Prelude.{OnErr, OnOk, Result, Ok, Err}
+use Rattle.std.proofs.Common.{◌≡◌, ◌≤◌, List, [], ◌∷◌, ◌++◌, ℕ, true, false, sym, subst, length}
+use Rattle.std.specs.Prelude.{OnErr, OnOk, Result, Ok, Err, is_some}
 use Rattle.qh_arrival.specs.Accord.{AreTags}
 use Rattle.qh_base.specs.declared.time.Moment.{Moment}
 use Rattle.qh_conduct.specs.Restarting.{AcceptsWhatIsMade, IsCounting}
@@ -11,12 +11,15 @@ use Rattle.qh_handshake.specs.Incoming.{SessionView}
 use Rattle.qh_packet.proofs.Sessions.{plain_makes, plain_names}
 use Rattle.qh_packet.specs.Session.{NamesTags, PlainKeys, plain_accepts, plain_sealed}
 use Rattle.qh_peers.specs.Ends.{AreTwoEnds, IsHonestEnd}
+use Rattle.qh_peers.specs.Greets.{AcceptsInitials, CanBeGreeted, IsGreeting, IsInitialSealed}
 use Rattle.qh_spec.specs.Lists.{In}
+use Rattle.qh_spec.specs.Parted.{IsInitialAlone}
 use Rattle.qh_spec.specs.Tag.{tag_bytes}
 use Rattle.qh_spec.specs.Transcript.{Act, HandedIn, handed_in, handed_out}
 use Rattle.qh_exchange.specs.EndCalls.{IsMadeBy}
 use Rattle.qh_exchange.specs.Ends.{End, key_of}
-use Rattle.qh_exchange.proofs.EndSounds.{TakesFrom, two_given}
+use Rattle.qh_exchange.specs.Steps.{TakesFrom}
+use Rattle.qh_exchange.proofs.EndSounds.{both_given}
 use Rattle.qh_exchange.proofs.KeptLaws.{kept_in}
 
 -- a plain session
@@ -54,15 +57,46 @@ RestartsTwo = (v : SessionView PlainKeys) (now : Moment) (d own_hello peer_hello
 abbrev pub TakesMade : Type 0
 TakesMade = (key : List ℕ) → AcceptsWhatIsMade (plain_accepts (record { key_id = key; server_name = []; knows_name = false })) (tag_bytes key)
 
-pub given_takes : GivenTwo → RestartsTwo → TakesMade → (now : Moment) (c d : End) (x : List ℕ) → length c.core.session.key_id ≤ 20 → IsSameConnection key_of c d → IsWhole d
+-- what `can_greet` says of a datagram, and `greets` of one that greets
+abbrev pub GivenCan : Type 0
+GivenCan = (v : SessionView PlainKeys) (now : Moment) (d own_hello peer_hello : List ℕ) (c q new : End) (tc tq : List Act) → NamesTags (v.accepts c.core.session)
+    → AreTags (v.accepts q.core.session) (v.sealed q.core.session) → AreTwoEnds v.accepts v.sealed v.key own_hello peer_hello c q tc tq → In d (handed_out tq)
+    → IsDatagramHandled v now d c new → CanBeGreeted c.handshake q.handshake → CanBeGreeted new.handshake q.handshake
+
+abbrev pub GreetsTwo : Type 0
+GreetsTwo = (v : SessionView PlainKeys) (now : Moment) (d own_hello peer_hello : List ℕ) (c q new : End) (tc tq : List Act) → NamesTags (v.accepts c.core.session)
+    → AreTags (v.accepts q.core.session) (v.sealed q.core.session) → AcceptsInitials (v.accepts c.core.session) (v.sealed q.core.session)
+    → AreTwoEnds v.accepts v.sealed v.key own_hello peer_hello c q tc tq → (IsInitialAlone d → IsInitialSealed (v.sealed q.core.session) q.core.side d) → CanBeGreeted c.handshake q.handshake
+    → In d (handed_out tq) → IsGreeting (length c.core.local_id) q.core.side (handed_in tc) d → IsDatagramHandled v now d c new → is_some new.handshake.peer ≡ true
+
+-- what `initials_sealed` says of a plain session
+abbrev pub TakesInitials : Type 0
+TakesInitials = (key : List ℕ) → AcceptsInitials (plain_accepts (record { key_id = key; server_name = []; knows_name = false })) (tag_bytes key)
+
+-- the laws of two ends by which one takes a datagram of the other's
+pub record TakingLaws : Type 0 where
+  pub given : GivenTwo
+  pub restarts : RestartsTwo
+  pub made : TakesMade
+  pub can : GivenCan
+  pub greets : GreetsTwo
+  pub initials : TakesInitials
+
+pub given_takes : TakingLaws → (now : Moment) (c d : End) (x : List ℕ) → length c.core.session.key_id ≤ 20 → IsSameConnection key_of c d → IsWhole d
     → CarriesOnBy plain_accepts plain_sealed c d (HandedIn x ∷ []) → IsDatagramHandled plain_view now x c d → TakesFrom now c d x
-given_takes given restarts takes now c d x short same whole carries handled hello peer_hello q t u two i =
-    let key : q.core.session.key_id ≡ c.core.session.key_id = two.key_is in
+given_takes laws now c d x short same whole carries handled q t u two i =
+    let e = two.ends in
+    let key : q.core.session.key_id ≡ c.core.session.key_id = e.key_is in
     let named = plain_names c.core.session short in
     let tags = plain_are_tags q.core.session (subst (λ (z : List ℕ). length z ≤ 20) (sym key) short) in
     let accepts : AcceptsWhatIsMade (plain_accepts c.core.session) (plain_sealed q.core.session)
-    = subst (λ (z : List ℕ). AcceptsWhatIsMade (plain_accepts c.core.session) (tag_bytes z)) (sym key) (takes c.core.session.key_id) in
-    let honest = given plain_view now x hello peer_hello c q d t u named tags two i handled same whole (carries hello t two.own.stands) in (
-      two_given hello peer_hello c d q t u x two honest.0 same honest.1 i,
-      λ counts. restarts plain_view now x hello peer_hello c q d t u named tags accepts two i counts handled,
-    )
+    = subst (λ (z : List ℕ). AcceptsWhatIsMade (plain_accepts c.core.session) (tag_bytes z)) (sym key) (laws.made c.core.session.key_id) in
+    let initials : AcceptsInitials (plain_accepts c.core.session) (plain_sealed q.core.session)
+    = subst (λ (z : List ℕ). AcceptsInitials (plain_accepts c.core.session) (tag_bytes z)) (sym key) (laws.initials c.core.session.key_id) in
+    let honest = laws.given plain_view now x two.hello two.peer_hello c q d t u named tags e i handled same whole (carries two.hello t e.own.stands) in
+    let can = laws.can plain_view now x two.hello two.peer_hello c q d t u named tags e i handled two.greets.own in
+    record {
+      ends = both_given c d q t u x two honest.0 same honest.1 can i;
+      restarted = λ counts. laws.restarts plain_view now x two.hello two.peer_hello c q d t u named tags accepts e i counts handled;
+      greeted = λ greets. laws.greets plain_view now x two.hello two.peer_hello c q d t u named tags initials e (two.greets.peer_sealed x i) two.greets.own i greets handled;
+    }

@@ -68,7 +68,12 @@ datagram_untimed accepts now d rest old new _ learned (hs_datagram.packets _ _ _
 -- ---- one end behind another
 
 pub still_by : (now : Moment) (c : End) → IsUndisturbedBy now c c
-still_by now c = record { counts = record { opened = λ n h. h; accepted = λ n h. h }; times = λ own h. h; since = inl refl; timed_out = λ e. e }
+still_by now c = record { counts = record { opened = λ n h. h; accepted = λ n h. h }; times = λ own h. h; since = inl refl; timed_out = λ e. e; known = λ some. some }
+
+-- what was known still is
+known_on : (o p : Option TransportParameters) → (p ≡ None → o ≡ None) → is_some o ≡ true → is_some p ≡ true
+known_on o None back some = absurd (false≢true (sym (ap is_some (back refl)) ∙ some))
+known_on o (Some p) back some = refl
 
 pub by_trans : (now : Moment) (a b c : End) → IsUndisturbedBy now a b → IsUndisturbedBy now b c → IsUndisturbedBy now a c
 by_trans now a b c f g = record {
@@ -79,6 +84,7 @@ by_trans now a b c f g = record {
     | inr e ↦ inr e
   ];
   timed_out = λ e. f.timed_out (g.timed_out e);
+  known = λ some. g.known (f.known some);
 }
 
 -- the handshake knows the same of its peer, and the end of the 1-RTT packets is as undisturbed
@@ -96,6 +102,7 @@ by_core now c d peer said opens u = record {
   };
   since = u.idle.since;
   timed_out = u.timed_out;
+  known = λ some. ap is_some peer ∙ some;
 }
 
 -- nothing of that changed but the state, which isn't open, and the error
@@ -113,6 +120,7 @@ by_end now c d e back said space idle shut error = record {
   };
   since = inl (ap (λ (z : IdleTimer). z.since) idle);
   timed_out = λ e2. elim error as (λ _. c.core.error ≡ Some lost.TimedOut) [ inl same ↦ sym same ∙ e2 | inr other ↦ absurd (other.1 (same_Some _ _ (sym other.0 ∙ e2))) ];
+  known = known_on c.handshake.peer d.handshake.peer back;
 }
 
 same_core : (now : Moment) (c : Inner PlainKeys) → IsUndisturbed now c c
@@ -253,6 +261,7 @@ greeted_by now first old new none said up since error g =
         | inr e ↦ inr (ap (λ (z : Inner PlainKeys). z.idle.since) r ∙ e)
       ];
       timed_out = λ e. sym error ∙ (sym (ap (λ (z : Inner PlainKeys). z.error) r) ∙ e);
+      known = λ some. ap is_some g.peer_is;
     } in
     subst (λ (z : End). IsUndisturbedBy now first z) (sym g.new_is) (by_side (is_client old.handshake.side) now first mid begun)
 
@@ -370,6 +379,7 @@ uncounted n now old new u = record {
   times = λ own h. u.times own (record { said = h.said; ungreeted = h.ungreeted; greeted = h.greeted });
   since = u.since;
   timed_out = u.timed_out;
+  known = u.known;
 }
 
 pub handled_by : (v : SessionView PlainKeys) (now : Moment) (d : List ℕ) (old new : End) → IsDatagramHandled v now d old new → IsUndisturbedBy now old new
@@ -397,6 +407,7 @@ handled_by v now d old new (datagram_handled.ended mid rest e up f ends is) =
       };
       since = u.since;
       timed_out = u.timed_out;
+      known = known_on old.handshake.peer f.handshake.peer (back_none old.handshake f.handshake old.handshake.peer refl on);
     })
 handled_by v now d old new (datagram_handled.taken fed restarted met rest up f r m behind) =
     let x = met_on v now d rest (counted_at (length d) old) fed restarted met up f r m in

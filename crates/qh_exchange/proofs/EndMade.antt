@@ -1,9 +1,13 @@
 -- An end that calls made another goes on standing to all that was done with it.
-use Rattle.std.proofs.Common.{ℕ, Some, List, [], ◌++◌, sym, ◌∙◌, ap, subst, append_assoc, append-nil, length}
+use Rattle.std.proofs.Common.{◌≡◌, true, ℕ, Option, Some, None, List, [], ◌++◌, refl, sym, ◌∙◌, ap, subst, append_assoc, append-nil, length}
+use Rattle.std.specs.Prelude.{is_some}
+use Rattle.std.proofs.lemmas.Bool.{false≢true}
 use Rattle.qh_conn.specs.Same.{IsSameConnection}
 use Rattle.qh_conn.specs.Whole.{CarriesOnBy, IsWhole, Stands as ConnStands}
 use Rattle.qh_conn.specs.Parameters.{IsSaid}
 use Rattle.qh_conn.specs.declared.config.ConnConfig.{ConnConfig}
+use Rattle.qh_handshake.specs.GoesOn.{GoesOn}
+use Rattle.qh_handshake.specs.declared.handshake.Handshake.{Handshake}
 use Rattle.qh_hello.specs.declared.transport_parameters.TransportParameters.{TransportParameters}
 use Rattle.qh_packet.specs.Session.{PlainKeys, plain_accepts, plain_sealed}
 use Rattle.qh_spec.specs.Transcript.{Act}
@@ -23,6 +27,14 @@ stays side ids config c d same whole e = record {
   said = subst (λ (z : TransportParameters). IsSaid config side (own_id side ids) ids.key z) (sym same.handshake.parameters) e.said;
   whole = whole;
 }
+
+known_goes : (h g : Handshake) (o : Option TransportParameters) → h.peer ≡ o → GoesOn h g → is_some h.peer ≡ true → is_some g.peer ≡ true
+known_goes h g None e on some = absurd (false≢true (sym (ap is_some e) ∙ some))
+known_goes h g (Some p) e on some = ap is_some (on.peer p e)
+
+-- it knows its peer still
+pub known_made : (c d : End) (acts : List Act) → IsMadeBy c d acts → is_some c.handshake.peer ≡ true → is_some d.handshake.peer ≡ true
+known_made c d acts made = known_goes c.handshake d.handshake c.handshake.peer refl made.same.handshake
 
 -- it stands to these acts more
 pub since_on : (side : Side) (c d : End) (t acts : List Act) → CarriesOnBy plain_accepts plain_sealed c d acts → StandsSince side c t → StandsSince side d (t ++ acts)

@@ -2,6 +2,7 @@
 use Rattle.std.proofs.Common.{◌≡◌, ◌≤◌, ◌^◌, ℕ, List, [], true, Option, Some, None, Result, Ok, Err, IfOk, refl, sym, ◌∙◌, ap, subst, length}
 use Rattle.std.specs.Prelude.{min}
 use Rattle.std.specs.Option.{option_map}
+use Rattle.std.proofs.lemmas.Bool.{false≢true}
 use Rattle.qh_base.specs.declared.memory.Memory.{Memory}
 use Rattle.qh_base.specs.declared.path.FourTuple.{FourTuple}
 use Rattle.qh_base.specs.declared.time.Moment.{Moment}
@@ -19,6 +20,7 @@ use Rattle.qh_hello.specs.Greetings.{limits_of}
 use Rattle.qh_hello.specs.declared.transport_parameters.TransportParameters.{TransportParameters}
 use Rattle.qh_packet.specs.Session.{PlainKeys, plain_accepts, plain_sealed}
 use Rattle.qh_peers.specs.Ends.{IsHonestEnd, SaysItsOwn}
+use Rattle.qh_peers.specs.Greets.{CanBeGreeted}
 use Rattle.qh_spec.specs.Lawful.{Lawful}
 use Rattle.qh_spec.specs.declared.sides.Side.{Side}
 use Rattle.qh_spec.specs.declared.sides.Side.TheVariants.{Client, Server}
@@ -29,6 +31,10 @@ use Rattle.qh_exchange.specs.Timed.{IsTimedBy}
 use Rattle.qh_exchange.specs.declared.ends.Ids.{Ids}
 use Rattle.qh_exchange.proofs.KeptLaws.{not_nothing}
 use Rattle.qh_exchange.proofs.KeptOpen.{LawfulOpen}
+
+-- what `can_greet` says of an end before its first datagram
+abbrev pub FreshCan : Type 0
+FreshCan = (hello : List ℕ) (own peer : Handshake) → IsFresh hello own → (own.knows_peer ≡ true → own.remote_id ≡ peer.local_id) → CanBeGreeted own peer
 
 pub key_of_ok : (s r : PlainKeys) → ◌≡◌ {A = Result PlainKeys Memory} (Ok s) (Ok r) → s.key_id ≡ r.key_id
 key_of_ok s r e = let same : s ≡ r = cc in ap (λ (z : PlainKeys). z.key_id) same
@@ -109,6 +115,7 @@ pub record IsNewWith (side : Side) (config : ConnConfig) (session : PlainKeys) (
   pub core : IsFirstCore config side session local remote addresses now c.core
   pub config_is : c.config ≡ config
   pub control : c.control ≡ first_control config local remote addresses.remote c.control.queue.room
+  pub can : (peer : Handshake) → (side ≡ Server → peer.local_id ≡ remote) → CanBeGreeted c.handshake peer
 
 pub new_end_of : FreshHonest → SaysOwn → LawfulOpen → (side : Side) (ids : Ids) (config : ConnConfig) (now : Moment) (session : PlainKeys) (local remote : List ℕ) (addresses : FourTuple) (c : End)
     → IsNewWith side config session ids.key local remote addresses now c → local ≡ own_id side ids → remote ≡ first_destination side ids → length ids.server ≡ length ids.client → session.key_id ≡ ids.key → IsNewEnd side ids config now c
@@ -144,11 +151,17 @@ new_end_of fresh says lawful side ids config now session local remote addresses 
       timed = timed_first config side (own_id side ids) ids.key c said w.unknown (ap (λ (z : Inner PlainKeys). z.idle.timeout) core);
       not_lost = ap (λ (z : Inner PlainKeys). z.error) core;
       up = up;
+      can = λ peer named. w.can peer (λ is. named is ∙ sym (there ∙ ap (λ (z : Side). first_destination z ids) is));
     }
 
 goes_first : (config : ConnConfig) (name key remote : List ℕ) (now : Moment) (h : Handshake) (side : Side) → IsFirstHandshake config name key remote now h side → h.remote_id ≡ first_id side key remote
 goes_first config name key remote now h _ (first.client goes knows valid stats space) = goes
 goes_first config name key remote now h _ (first.server goes knows valid stats space) = goes
+
+can_first : FreshCan → (config : ConnConfig) (name key remote hello : List ℕ) (now : Moment) (h : Handshake) (side : Side) → IsFresh hello h → IsFirstHandshake config name key remote now h side
+    → (peer : Handshake) → (side ≡ Server → peer.local_id ≡ remote) → CanBeGreeted h peer
+can_first can config name key remote hello now h _ fresh (first.client goes knows valid stats space) peer named = can hello h peer fresh (λ known. absurd (false≢true (sym knows ∙ known)))
+can_first can config name key remote hello now h _ fresh (first.server goes knows valid stats space) peer named = can hello h peer fresh (λ known. goes ∙ sym (named refl))
 
 -- what the contract of `new` says of the handshake that the end begins with
 abbrev pub BeginsWith : (side : Side) → (key local : List ℕ) → End → Type 0
@@ -157,13 +170,13 @@ BeginsWith side key local c = (c.handshake.side ≡ side) × (c.handshake.local_
 abbrev pub StandsFirst : End → Type 0
 StandsFirst c = (hello : List ℕ) × IsFresh hello c.handshake × ((accepts : AcceptsTags PlainKeys) (sealed : MakesTagsOf PlainKeys) → ConnStands accepts sealed hello c [])
 
-pub new_end : FreshHonest → SaysOwn → LawfulOpen → (side : Side) (ids : Ids) (config : ConnConfig) (now : Moment) (session : PlainKeys) (name local remote : List ℕ) (addresses : FourTuple) (r : Result End Memory)
+pub new_end : FreshHonest → FreshCan → SaysOwn → LawfulOpen → (side : Side) (ids : Ids) (config : ConnConfig) (now : Moment) (session : PlainKeys) (name local remote : List ℕ) (addresses : FourTuple) (r : Result End Memory)
     → IfOk r (λ c. IsWhole c) → IfOk r StandsFirst → IfOk r (BeginsWith side ids.key local) → IfOk r (λ c. IsFirstHandshake config name ids.key remote now c.handshake side)
     → IfOk r (λ c. IsSaid config side local ids.key c.handshake.parameters) → IfOk r (λ c. IsFirstCore config side session local remote addresses now c.core) → IfOk r (λ c. c.config ≡ config)
     → IfOk r (λ c. c.control ≡ first_control config local remote addresses.remote c.control.queue.room)
     → local ≡ own_id side ids → remote ≡ first_destination side ids → length ids.server ≡ length ids.client → session.key_id ≡ ids.key → IfOk r (IsNewEnd side ids config now)
-new_end fresh says lawful side ids config now session name local remote addresses (Err e) whole stands handshake begins said core parts control own there lengths key = tt
-new_end fresh says lawful side ids config now session name local remote addresses (Ok c) whole stands handshake begins said core parts control own there lengths key =
+new_end fresh able says lawful side ids config now session name local remote addresses (Err e) whole stands handshake begins said core parts control own there lengths key = tt
+new_end fresh able says lawful side ids config now session name local remote addresses (Ok c) whole stands handshake begins said core parts control own there lengths key =
     new_end_of fresh says lawful side ids config now session local remote addresses c
     (record {
       whole = whole;
@@ -179,4 +192,5 @@ new_end fresh says lawful side ids config now session name local remote addresse
       core = core;
       config_is = parts;
       control = control;
+      can = can_first able config name ids.key remote stands.0 now c.handshake side stands.1 begins;
     }) own there lengths key

@@ -13,12 +13,14 @@ use Rattle.qh_core.specs.Inner.{is_open}
 use Rattle.qh_core.specs.Made.{AcceptsTags, MakesTagsOf}
 use Rattle.qh_handshake.specs.Incoming.{SessionView}
 use Rattle.qh_packet.proofs.Sessions.{plain_makes}
-use Rattle.qh_packet.specs.Session.{MakesTags, PlainKeys, plain_accepts, plain_sealed}
+use Rattle.qh_handshake.specs.declared.handshake.Handshake.{Handshake}
+use Rattle.qh_packet.specs.Session.{MakesTags, PlainKeys, SealsTag, plain_accepts, plain_sealed}
 use Rattle.qh_peers.specs.Ends.{IsHonestEnd}
+use Rattle.qh_peers.specs.Greets.{AreInitialsSealed, CanBeGreeted}
 use Rattle.qh_spec.specs.Transcript.{Act, HandedOut, handed_in}
 use Rattle.qh_spec.specs.declared.sides.Side.{Side}
 use Rattle.qh_spec.specs.declared.sides.Side.TheVariants.{Client}
-use Rattle.qh_exchange.specs.EndCalls.{IsMadeBy, KeepsHonest, polled_acts}
+use Rattle.qh_exchange.specs.EndCalls.{IsMadeBy, KeepsGreetable, KeepsHonest, polled_acts}
 use Rattle.qh_exchange.specs.Ends.{End, key_of}
 use Rattle.qh_exchange.specs.Sound.{IsFirst}
 use Rattle.qh_exchange.specs.declared.ends.Ids.{Ids}
@@ -100,6 +102,35 @@ asked_honest sends rests now c d x false short same whole carries (made before t
 asked_honest sends rests now c d x true short same whole carries (none e still silent) = absurd (false≢true (sym e))
 asked_honest sends rests now c d x false short same whole carries (none e still silent) = honest_still rests c d whole carries still
 
+-- what `can_greet` and `initials_sealed` say of a datagram that is handed out
+abbrev pub SentCan : Type 0
+SentCan = (sealed : SealsTag) (now : Moment) (old new : End) (before after : List ℕ) (transmit : Transmit) (peer : Handshake) → IsTransmitted sealed now old new before after transmit
+    → CanBeGreeted old.handshake peer → CanBeGreeted new.handshake peer
+
+abbrev pub SentSealed : Type 0
+SentSealed = (sealed : SealsTag) (now : Moment) (before after : List ℕ) (transmit : Transmit) (c new : End) (t : List Act) → IsWhole c → IsTransmitted sealed now c new before after transmit
+    → AreInitialsSealed sealed c.core.side t → AreInitialsSealed sealed c.core.side (t ++ HandedOut (drop (length before) after) ∷ [])
+
+greetable_sent : SentCan → SentSealed → (now : Moment) (c d : End) (before x : List ℕ) (t : Transmit) → IsWhole c → before ≡ [] → IsTransmitted (plain_sealed c.core.session) now c d before x t
+    → KeepsGreetable c d (HandedOut x ∷ [])
+greetable_sent can seals now c d before x t whole b is = record {
+  can = λ peer. can (plain_sealed c.core.session) now c d before x t peer is;
+  sealed = λ w s. subst (λ (z : List ℕ). AreInitialsSealed (plain_sealed c.core.session) c.core.side (w ++ HandedOut z ∷ [])) (ap (λ (z : List ℕ). drop (length z) x) b)
+      (seals (plain_sealed c.core.session) now before x t c d w whole is s);
+}
+
+greetable_still : (c d : End) → IsStill c d → KeepsGreetable c d []
+greetable_still c d still = record {
+  can = λ peer. subst (λ (z : Handshake). CanBeGreeted c.handshake peer → CanBeGreeted z peer) (sym (ap (λ (z : End). z.handshake) still.rest_is)) (λ h. h);
+  sealed = λ w. subst (λ (z : List Act). AreInitialsSealed (plain_sealed c.core.session) c.core.side z) (sym (append-nil w));
+}
+
+pub asked_greetable : SentCan → SentSealed → (now : Moment) (c d : End) (x : List ℕ) (found : Bool) → IsWhole c → Asks now c d x found → KeepsGreetable c d (polled_acts x (Ok found))
+asked_greetable can seals now c d x true whole (made before t e b is) = greetable_sent can seals now c d before x t whole b is
+asked_greetable can seals now c d x false whole (made before t e b is) = absurd (false≢true e)
+asked_greetable can seals now c d x true whole (none e still silent) = absurd (false≢true (sym e))
+asked_greetable can seals now c d x false whole (none e still silent) = greetable_still c d still
+
 -- a datagram of a client that knows nothing of its server is a first one
 pub asked_first : (now : Moment) (c d : End) (x : List ℕ) (found : Bool) → IsWhole c → is_open c.core.state ≡ true → Asks now c d x found → found ≡ true → (ids : Ids) → c.core.side ≡ Client → c.core.local_id ≡ ids.client
     → c.handshake.remote_id ≡ ids.key → c.handshake.peer ≡ None → IsFirst ids x
@@ -122,8 +153,8 @@ none_in x false = refl
 -- what an end goes by stays behind one more datagram of its own
 pub names_next : (c d : End) (x : List ℕ) (found b : Bool) → found ≡ b → IsMadeBy c d (polled_acts x (Ok found))
     → (d.handshake.peer ≡ c.handshake.peer) × (d.handshake.retry_id ≡ c.handshake.retry_id) × (d.handshake.remote_id ≡ c.handshake.remote_id)
-    → KeepsHonest c d (polled_acts x (Ok found)) → KeepsNames c d (polled_acts x (Ok b))
-names_next c d x found b e m names honest = record {
+    → KeepsHonest c d (polled_acts x (Ok found)) → KeepsGreetable c d (polled_acts x (Ok found)) → KeepsNames c d (polled_acts x (Ok b))
+names_next c d x found b e m names honest greets = record {
   same = m.same;
   whole = m.whole;
   peer = names.0;
@@ -131,6 +162,7 @@ names_next c d x found b e m names honest = record {
   remote = names.2;
   none = none_in x b;
   honest = subst (λ (z : Bool). KeepsHonest c d (polled_acts x (Ok z))) e honest;
+  greets = subst (λ (z : Bool). KeepsGreetable c d (polled_acts x (Ok z))) e greets;
 }
 
 -- what a client sends that is alone is a first datagram

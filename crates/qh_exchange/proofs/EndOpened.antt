@@ -6,19 +6,20 @@ use Rattle.qh_base.specs.declared.memory.Memory.{Memory as OutOfMemory}
 use Rattle.qh_base.specs.declared.time.Moment.{Moment}
 use Rattle.qh_base.specs.declared.time.Span.{Span}
 use Rattle.qh_conn.specs.declared.config.ConnConfig.{ConnConfig}
+use Rattle.qh_peers.specs.Greets.{IsGreeting}
 use Rattle.qh_spec.specs.Lists.{In}
-use Rattle.qh_spec.specs.Transcript.{Act, HandedIn, handed_out}
+use Rattle.qh_spec.specs.Transcript.{Act, HandedIn, handed_in, handed_out}
 use Rattle.qh_spec.specs.declared.link.Event.TheVariants.{Given}
 use Rattle.qh_spec.specs.declared.sides.Side.{Side}
 use Rattle.qh_spec.specs.declared.sides.Side.TheVariants.{Client, Server}
 use Rattle.qh_exchange.specs.EndCalls.{IsMadeBy, IsUndisturbedBy}
 use Rattle.qh_exchange.specs.Ends.{AreDropped, End, Stands}
 use Rattle.qh_exchange.specs.Sound.{AreSoundEnds, AreTwo, IsFirst}
-use Rattle.qh_exchange.specs.Steps.{Did, IsEndUndisturbed, IsNewEnd, IsOpenedAt, StaysSound, is_done}
+use Rattle.qh_exchange.specs.Steps.{Did, IsEndUndisturbed, IsNewEnd, IsOpenedAt, IsTakenFrom, StaysSound, TakesFrom, is_done}
 use Rattle.qh_exchange.specs.declared.ends.Ids.{Ids}
 use Rattle.qh_exchange.proofs.Dropped.{dropped_in, in_more_handed}
 use Rattle.qh_exchange.proofs.EndMade.{stands_on}
-use Rattle.qh_exchange.proofs.EndSounds.{TakesFrom, sound_given, two_first, two_turned}
+use Rattle.qh_exchange.proofs.EndSounds.{both_turned, sound_given, this_one, two_first}
 use Rattle.qh_exchange.proofs.KeptOpen.{kept_first}
 use Rattle.qh_exchange.proofs.SameStreams.{quiet_in}
 use Rattle.qh_exchange.proofs.Wire.{told_given, told_weaker}
@@ -91,11 +92,13 @@ opened_sound : (now : Moment) (ids : Ids) (config : ConnConfig) (c d : End) (pee
     → AreSoundEnds Server ids config None peer t u → In x (handed_out u) → StaysSound now Server ids config (Some d) peer t (HandedIn x ∷ []) u (Given Server x ∷ [])
 opened_sound now ids config c d None x t u new takes since s i = absurd (subst (λ (z : List Act). In x (handed_out z)) s.0 i)
 opened_sound now ids config c d (Some q) x t u new takes since s i =
-    let two : AreTwo q c u [] = two_first ids config q c u new.hello s.0 new.of (new.honest s.0.fits) new.key_is in
-    let r = takes two.peer_hello two.hello q [] u (two_turned two.hello two.peer_hello q c u [] two.ends) i in
+    let two : AreTwo c q [] u = both_turned q c u [] (two_first ids config now q c u s.0 new) in
+    let r : IsTakenFrom now c d q x [] u = takes q [] u two i in
     record {
-      ends = subst (λ (z : List Act). AreTwo q d u (z ++ HandedIn x ∷ [])) (sym s.1) (record { hello = two.hello; peer_hello = two.peer_hello; ends = two_turned two.peer_hello two.hello d q (HandedIn x ∷ []) u r.0 });
+      ends = subst (λ (z : List Act). AreTwo q d u (z ++ HandedIn x ∷ [])) (sym s.1) (both_turned d q (HandedIn x ∷ []) u r.ends);
       restarted = λ before after g e counts. since;
+      greeted = λ w. r.greeted (subst (λ (z : List Act). IsGreeting (length c.core.local_id) q.core.side (handed_in z) x) s.1
+          (this_one IsGreeting Server ids c q x w.datagram t w.before w.after (ap length new.of.local_is) new.of.side_is two.ends.sides w.are w.greets));
     }
 
 -- a server's end opens, and takes the datagram

@@ -10,23 +10,25 @@ use Rattle.qh_handshake.specs.Peers.{KnowsIds}
 use Rattle.qh_handshake.specs.declared.handshake.Handshake.{Handshake}
 use Rattle.qh_hello.specs.declared.transport_parameters.TransportParameters.{TransportParameters}
 use Rattle.qh_packet.specs.Session.{PlainKeys, plain_accepts, plain_sealed}
-use Rattle.qh_peers.specs.Ends.{AreTwoEnds, IsHonestEnd}
+use Rattle.qh_peers.proofs.GreetSealed.{quiet_sealed}
+use Rattle.qh_peers.specs.Ends.{AreTwoEnds, ComesFromOrRetry, IsHonestEnd}
+use Rattle.qh_peers.specs.Greets.{AreInitialsSealed, CanBeGreeted, IsGreeting}
 use Rattle.qh_spec.proofs.EventLaws.{given_to-append}
 use Rattle.qh_spec.proofs.Members.{in_left, in_right, in_split}
 use Rattle.qh_spec.proofs.TranscriptLaws.{handed_in-append, handed_out-append}
 use Rattle.qh_spec.specs.Link.{given_to, other}
 use Rattle.qh_spec.specs.Lists.{In}
-use Rattle.qh_spec.specs.Parted.{CameFrom}
+use Rattle.qh_spec.specs.Tag.{tag_bytes}
 use Rattle.qh_spec.specs.Transcript.{Act, HandedIn, handed_in, handed_out}
 use Rattle.qh_spec.specs.declared.link.Event.{Event}
 use Rattle.qh_spec.specs.declared.link.Event.TheVariants.{Given}
 use Rattle.qh_spec.specs.declared.sides.Side.{Side}
 use Rattle.qh_spec.specs.declared.sides.Side.TheVariants.{Client, Server}
-use Rattle.qh_exchange.specs.EndCalls.{KeepsHonest}
-use Rattle.qh_exchange.specs.Ends.{End, IsEndOf, key_of, own_id}
+use Rattle.qh_exchange.specs.EndCalls.{KeepsGreetable, KeepsHonest}
+use Rattle.qh_exchange.specs.Ends.{End, key_of, own_id}
 use Rattle.qh_exchange.specs.Pair.{told_acts, wire}
-use Rattle.qh_exchange.specs.Sound.{AreSoundEnds, AreTwo, IsAlone, IsFirst}
-use Rattle.qh_exchange.specs.Steps.{IsRestartedAt, KeepsSound, StaysSound}
+use Rattle.qh_exchange.specs.Sound.{AreGreetable, AreSoundEnds, AreTwo, IsAlone, IsFirst, IsGreetedAt}
+use Rattle.qh_exchange.specs.Steps.{IsNewEnd, IsRestartedAt, IsTakenFrom, KeepsSound, StaysSound, TakesFrom}
 use Rattle.qh_exchange.specs.declared.ends.Ids.{Ids}
 use Rattle.qh_exchange.proofs.EndMade.{stays}
 use Rattle.qh_exchange.proofs.Wire.{handed_in-told, handed_in-wire}
@@ -76,8 +78,8 @@ known_on Client c d q on k =
     (ap (λ (z : TransportParameters). z.original_destination_connection_id) on.parameters ∙ k.0, ap (λ (z : TransportParameters). z.retry_source_connection_id) on.parameters ∙ k.1)
 known_on Server c d q on k = tt
 
-pub two_on : (hello peer_hello : List ℕ) (c d q : End) (t v u : List Act) → AreTwoEnds plain_accepts plain_sealed key_of hello peer_hello c q t u → IsHonestEnd plain_accepts plain_sealed hello d v
-    → IsSameConnection key_of c d → d.handshake.retry_id ≡ c.handshake.retry_id → CameFrom v u → CameFrom u v → AreTwoEnds plain_accepts plain_sealed key_of hello peer_hello d q v u
+two_on : (hello peer_hello : List ℕ) (c d q : End) (t v u : List Act) → AreTwoEnds plain_accepts plain_sealed key_of hello peer_hello c q t u → IsHonestEnd plain_accepts plain_sealed hello d v
+    → IsSameConnection key_of c d → d.handshake.retry_id ≡ c.handshake.retry_id → ComesFromOrRetry v u → ComesFromOrRetry u v → AreTwoEnds plain_accepts plain_sealed key_of hello peer_hello d q v u
 two_on hello peer_hello c d q t v u two honest same retry came went = record {
   own = honest;
   peer = two.peer;
@@ -89,7 +91,7 @@ two_on hello peer_hello c d q t v u two honest same retry came went = record {
   went = went;
 }
 
-pub two_turned : (hello peer_hello : List ℕ) (c q : End) (t u : List Act) → AreTwoEnds plain_accepts plain_sealed key_of hello peer_hello c q t u
+two_turned : (hello peer_hello : List ℕ) (c q : End) (t u : List Act) → AreTwoEnds plain_accepts plain_sealed key_of hello peer_hello c q t u
     → AreTwoEnds plain_accepts plain_sealed key_of peer_hello hello q c u t
 two_turned hello peer_hello c q t u two = record {
   own = two.peer;
@@ -103,21 +105,24 @@ two_turned hello peer_hello c q t u two = record {
 }
 
 -- what was handed out stays so
-out_stays : (t acts u : List Act) → CameFrom u t → CameFrom u (t ++ acts)
-out_stays t acts u went x i = subst (λ (z : List (List ℕ)). In x z) (sym (handed_out-append t acts)) (in_left x (handed_out t) (handed_out acts) (went x i))
+out_stays : (t acts u : List Act) → ComesFromOrRetry u t → ComesFromOrRetry u (t ++ acts)
+out_stays t acts u went x i = elim (went x i) [
+  | inl out ↦ inl (subst (λ (z : List (List ℕ)). In x z) (sym (handed_out-append t acts)) (in_left x (handed_out t) (handed_out acts) out))
+  | inr retry ↦ inr retry
+]
 
 -- what came was handed out, and one more
-in_came : (t u : List Act) (d : List ℕ) → CameFrom t u → In d (handed_out u) → CameFrom (t ++ HandedIn d ∷ []) u
+in_came : (t u : List Act) (d : List ℕ) → ComesFromOrRetry t u → In d (handed_out u) → ComesFromOrRetry (t ++ HandedIn d ∷ []) u
 in_came t u d came out x i =
-    elim (in_split x (handed_in t) (d ∷ []) (subst (λ (z : List (List ℕ)). In x z) (handed_in-append t (HandedIn d ∷ [])) i)) as (λ _. In x (handed_out u)) [
+    elim (in_split x (handed_in t) (d ∷ []) (subst (λ (z : List (List ℕ)). In x z) (handed_in-append t (HandedIn d ∷ [])) i)) [
       | inl a ↦ came x a
-      | inr b ↦ elim b as (λ _. In x (handed_out u)) [ inl e ↦ subst (λ (z : List ℕ). In z (handed_out u)) e out | inr none ↦ absurd none ]
+      | inr b ↦ inl (elim b as (λ _. In x (handed_out u)) [ inl e ↦ subst (λ (z : List ℕ). In z (handed_out u)) e out | inr none ↦ absurd none ])
     ]
 
-in_none : (t acts u : List Act) → handed_in acts ≡ [] → CameFrom t u → CameFrom (t ++ acts) u
+in_none : (t acts u : List Act) → handed_in acts ≡ [] → ComesFromOrRetry t u → ComesFromOrRetry (t ++ acts) u
 in_none t acts u none came x i = came x (subst (λ (z : List (List ℕ)). In x z) (handed_in-append t acts ∙ (ap (λ (z : List (List ℕ)). handed_in t ++ z) none ∙ append-nil (handed_in t))) i)
 
-pub two_given : (hello peer_hello : List ℕ) (c d q : End) (t u : List Act) (x : List ℕ) → AreTwoEnds plain_accepts plain_sealed key_of hello peer_hello c q t u
+two_given : (hello peer_hello : List ℕ) (c d q : End) (t u : List Act) (x : List ℕ) → AreTwoEnds plain_accepts plain_sealed key_of hello peer_hello c q t u
     → IsHonestEnd plain_accepts plain_sealed hello d (t ++ HandedIn x ∷ []) → IsSameConnection key_of c d → d.handshake.retry_id ≡ c.handshake.retry_id → In x (handed_out u)
     → AreTwoEnds plain_accepts plain_sealed key_of hello peer_hello d q (t ++ HandedIn x ∷ []) u
 two_given hello peer_hello c d q t u x two honest same retry i =
@@ -127,6 +132,41 @@ two_acted : (hello peer_hello : List ℕ) (c d q : End) (t u acts : List Act) �
     → IsSameConnection key_of c d → d.handshake.retry_id ≡ c.handshake.retry_id → handed_in acts ≡ [] → AreTwoEnds plain_accepts plain_sealed key_of hello peer_hello d q (t ++ acts) u
 two_acted hello peer_hello c d q t u acts two honest same retry none =
     two_on hello peer_hello c d q t (t ++ acts) u two (honest hello t two.own) same retry (in_none t acts u none two.came) (out_stays t acts u two.went)
+
+-- ---- two ends that can greet each other
+
+-- a session with this key makes the same tags
+sealed_on : (c d : End) (t : List Act) → key_of d.core.session ≡ key_of c.core.session → d.core.side ≡ c.core.side → AreInitialsSealed (plain_sealed c.core.session) c.core.side t
+    → AreInitialsSealed (plain_sealed d.core.session) d.core.side t
+sealed_on c d t key side s =
+    subst (λ (z : Side). AreInitialsSealed (tag_bytes d.core.session.key_id) z t) (sym side)
+    (subst (λ (z : List ℕ). AreInitialsSealed (tag_bytes z) c.core.side t) (sym key) s)
+
+greetable_on : (c d q : End) (t v u : List Act) → IsSameConnection key_of c d → d.handshake.retry_id ≡ c.handshake.retry_id → CanBeGreeted d.handshake q.handshake → AreInitialsSealed (plain_sealed c.core.session) c.core.side v
+    → AreGreetable c q t u → AreGreetable d q v u
+greetable_on c d q t v u same retry can sealed g = record {
+  own = can;
+  peer = record { source = λ knows. g.peer.source knows ∙ sym same.handshake.local_id; space = g.peer.space };
+  own_sealed = sealed_on c d v (same.key_is retry) same.side sealed;
+  peer_sealed = g.peer_sealed;
+}
+
+pub both_turned : (c q : End) (t u : List Act) → AreTwo c q t u → AreTwo q c u t
+both_turned c q t u two = record {
+  hello = two.peer_hello;
+  peer_hello = two.hello;
+  ends = two_turned two.hello two.peer_hello c q t u two.ends;
+  greets = record { own = two.greets.peer; peer = two.greets.own; own_sealed = two.greets.peer_sealed; peer_sealed = two.greets.own_sealed };
+}
+
+pub both_given : (c d q : End) (t u : List Act) (x : List ℕ) (two : AreTwo c q t u) → IsHonestEnd plain_accepts plain_sealed two.hello d (t ++ HandedIn x ∷ []) → IsSameConnection key_of c d
+    → d.handshake.retry_id ≡ c.handshake.retry_id → CanBeGreeted d.handshake q.handshake → In x (handed_out u) → AreTwo d q (t ++ HandedIn x ∷ []) u
+both_given c d q t u x two honest same retry can i = record {
+  hello = two.hello;
+  peer_hello = two.peer_hello;
+  ends = two_given two.hello two.peer_hello c d q t u x two.ends honest same retry i;
+  greets = greetable_on c d q t (t ++ HandedIn x ∷ []) u same retry can (quiet_sealed (plain_sealed c.core.session) c.core.side t (HandedIn x ∷ []) refl two.greets.own_sealed) two.greets;
+}
 
 -- ---- calls that hand no datagram in
 
@@ -139,6 +179,15 @@ pub record KeepsNames (c d : End) (acts : List Act) : Type 0 where
   pub remote : d.handshake.remote_id ≡ c.handshake.remote_id
   pub none : handed_in acts ≡ []
   pub honest : KeepsHonest c d acts
+  pub greets : KeepsGreetable c d acts
+
+both_acted : (c d q : End) (t u acts : List Act) → KeepsNames c d acts → AreTwo c q t u → AreTwo d q (t ++ acts) u
+both_acted c d q t u acts k two = record {
+  hello = two.hello;
+  peer_hello = two.peer_hello;
+  ends = two_acted two.hello two.peer_hello c d q t u acts two.ends k.honest k.same k.retry k.none;
+  greets = greetable_on c d q t (t ++ acts) u k.same k.retry (k.greets.can q.handshake two.greets.own) (k.greets.sealed t two.greets.own_sealed) two.greets;
+}
 
 alone_acted : (ids : Ids) (config : ConnConfig) (c d : End) (t acts : List Act) → KeepsNames c d acts → ((x : List ℕ) → In x (handed_out acts) → IsFirst ids x) → IsAlone ids config c t → IsAlone ids config d (t ++ acts)
 alone_acted ids config c d t acts k firsts a = record {
@@ -152,61 +201,54 @@ alone_acted ids config c d t acts k firsts a = record {
   there = k.remote ∙ a.there;
   nothing = handed_in-append t acts ∙ (ap (λ (z : List (List ℕ)). z ++ handed_in acts) a.nothing ∙ k.none);
   firsts = λ x i. elim (in_split x (handed_out t) (handed_out acts) (subst (λ (z : List (List ℕ)). In x z) (handed_out-append t acts) i)) as (λ _. IsFirst ids x) [ inl l ↦ a.firsts x l | inr r ↦ firsts x r ];
+  can = λ peer. k.greets.can peer (a.can peer);
+  sealed = sealed_on c d (t ++ acts) (k.same.key_is k.retry) k.same.side (k.greets.sealed t a.sealed);
 }
 
 pub sound_acted : (side : Side) (ids : Ids) (config : ConnConfig) (c d : End) (peer : Option End) (t u acts : List Act) → KeepsNames c d acts
     → (side ≡ Client → IsAlone ids config c t → (x : List ℕ) → In x (handed_out acts) → IsFirst ids x)
     → AreSoundEnds side ids config (Some c) peer t u → AreSoundEnds side ids config (Some d) peer (t ++ acts) u
 sound_acted Client ids config c d None t u acts k firsts s = (alone_acted ids config c d t acts k (firsts refl s.0) s.0, s.1)
-sound_acted Client ids config c d (Some q) t u acts k firsts s =
-    record { hello = s.hello; peer_hello = s.peer_hello; ends = two_acted s.hello s.peer_hello c d q t u acts s.ends k.honest k.same k.retry k.none }
+sound_acted Client ids config c d (Some q) t u acts k firsts s = both_acted c d q t u acts k s
 sound_acted Server ids config c d None t u acts k firsts s = absurd s
-sound_acted Server ids config c d (Some q) t u acts k firsts s = record {
-  hello = s.hello;
-  peer_hello = s.peer_hello;
-  ends = two_turned s.peer_hello s.hello d q (t ++ acts) u
-      (two_acted s.peer_hello s.hello c d q t u acts (two_turned s.hello s.peer_hello q c u t s.ends) k.honest k.same k.retry k.none);
-}
+sound_acted Server ids config c d (Some q) t u acts k firsts s = both_turned d q (t ++ acts) u (both_acted c d q t u acts k (both_turned q c u t s))
 
 -- ---- a datagram of the peer's
-
--- what a datagram of the peer's does to one of two ends
-abbrev pub TakesFrom : Moment → (c d : End) → (x : List ℕ) → Type 0
-TakesFrom now c d x = (hello peer_hello : List ℕ) (q : End) (t u : List Act) → AreTwoEnds plain_accepts plain_sealed key_of hello peer_hello c q t u → In x (handed_out u)
-    → AreTwoEnds plain_accepts plain_sealed key_of hello peer_hello d q (t ++ HandedIn x ∷ []) u × (IsCounting (length c.core.local_id) q.core.side (handed_in t) x → d.core.idle.since ≡ now)
 
 no_such : (x : List ℕ) (u : List Act) → u ≡ [] → In x (handed_out u) → ⊥
 no_such x u none i = subst (λ (z : List Act). In x (handed_out z)) none i
 
--- the one datagram that was given counts, if one does
-counted_here : (side : Side) (ids : Ids) (c q : End) (x g : List ℕ) (t : List Act) (before after : List Event) → length c.core.local_id ≡ length (own_id side ids) → c.core.side ≡ side → q.core.side ≡ other c.core.side
-    → Given side x ∷ [] ≡ before ++ Given side g ∷ after → IsCounting (length (own_id side ids)) (other side) (handed_in t ++ given_to side before) g
-    → IsCounting (length c.core.local_id) q.core.side (handed_in t) x
-counted_here side ids c q x g t before after long is sides e counts =
+-- the one datagram that was given counts, or greets, if one does
+pub this_one : (K : ℕ → Side → List (List ℕ) → List ℕ → Type 0) (side : Side) (ids : Ids) (c q : End) (x g : List ℕ) (t : List Act) (before after : List Event) → length c.core.local_id ≡ length (own_id side ids)
+    → c.core.side ≡ side → q.core.side ≡ other c.core.side → Given side x ∷ [] ≡ before ++ Given side g ∷ after → K (length (own_id side ids)) (other side) (handed_in t ++ given_to side before) g
+    → K (length c.core.local_id) q.core.side (handed_in t) x
+this_one K side ids c q x g t before after long is sides e counts =
     let one = only_one (Given side x) (Given side g) before after e in
     let which : x ≡ g = (let two : Given side x ≡ Given side g = one.1 in cc) in
     let came : handed_in t ++ given_to side before ≡ handed_in t = ap (λ (z : List Event). handed_in t ++ given_to side z) one.0 ∙ append-nil (handed_in t) in
-    subst (λ (z : ℕ). IsCounting z q.core.side (handed_in t) x) (sym long)
-    (subst (λ (z : List ℕ). IsCounting (length (own_id side ids)) q.core.side (handed_in t) z) (sym which)
-    (subst (λ (z : Side). IsCounting (length (own_id side ids)) z (handed_in t) g) (ap other (sym is) ∙ sym sides)
-    (subst (λ (z : List (List ℕ)). IsCounting (length (own_id side ids)) (other side) z g) came counts)))
+    subst (λ (z : ℕ). K z q.core.side (handed_in t) x) (sym long)
+    (subst (λ (z : List ℕ). K (length (own_id side ids)) q.core.side (handed_in t) z) (sym which)
+    (subst (λ (z : Side). K (length (own_id side ids)) z (handed_in t) g) (ap other (sym is) ∙ sym sides)
+    (subst (λ (z : List (List ℕ)). K (length (own_id side ids)) (other side) z g) came counts)))
 
 pub sound_given : (now : Moment) (side : Side) (ids : Ids) (config : ConnConfig) (c d : End) (x : List ℕ) (t : List Act) → length c.core.local_id ≡ length (own_id side ids) → c.core.side ≡ side → TakesFrom now c d x
     → KeepsSound true now side ids config (Some c) (Some d) t (HandedIn x ∷ []) (Given side x ∷ [])
 sound_given now Client ids config c d x t long is takes None u whole s given = absurd (no_such x u s.1 (given x (given_here Client x [])))
 sound_given now Server ids config c d x t long is takes None u whole s given = absurd s
 sound_given now Client ids config c d x t long is takes (Some q) u whole s given =
-    let r = takes s.hello s.peer_hello q t u s.ends (given x (given_here Client x [])) in
+    let r = takes q t u s (given x (given_here Client x [])) in
     record {
-      ends = record { hello = s.hello; peer_hello = s.peer_hello; ends = r.0 };
-      restarted = λ before after g e counts. r.1 (counted_here Client ids c q x g t before after long is s.ends.sides e counts);
+      ends = r.ends;
+      restarted = λ before after g e counts. r.restarted (this_one IsCounting Client ids c q x g t before after long is s.ends.sides e counts);
+      greeted = λ w. r.greeted (this_one IsGreeting Client ids c q x w.datagram t w.before w.after long is s.ends.sides w.are w.greets);
     }
 sound_given now Server ids config c d x t long is takes (Some q) u whole s given =
-    let turned = two_turned s.hello s.peer_hello q c u t s.ends in
-    let r = takes s.peer_hello s.hello q t u turned (given x (given_here Server x [])) in
+    let turned : AreTwo c q t u = both_turned q c u t s in
+    let r : IsTakenFrom now c d q x t u = takes q t u turned (given x (given_here Server x [])) in
     record {
-      ends = record { hello = s.hello; peer_hello = s.peer_hello; ends = two_turned s.peer_hello s.hello d q (t ++ HandedIn x ∷ []) u r.0 };
-      restarted = λ before after g e counts. r.1 (counted_here Server ids c q x g t before after long is turned.sides e counts);
+      ends = both_turned d q (t ++ HandedIn x ∷ []) u r.ends;
+      restarted = λ before after g e counts. r.restarted (this_one IsCounting Server ids c q x g t before after long is turned.ends.sides e counts);
+      greeted = λ w. r.greeted (this_one IsGreeting Server ids c q x w.datagram t w.before w.after long is turned.ends.sides w.are w.greets);
     }
 
 -- ---- steps
@@ -222,6 +264,7 @@ pub sound_ungiven : (now : Moment) (side : Side) (ids : Ids) (config : ConnConfi
 sound_ungiven now side ids config c d t acts more k firsts none peer u whole s given = record {
   ends = sound_acted side ids config c d peer t u acts k firsts s;
   restarted = λ before after g e counts. absurd (subst (λ (z : List (List ℕ)). In g z) none (was_given side g more before after e));
+  greeted = λ w. absurd (subst (λ (z : List (List ℕ)). In w.datagram z) none (was_given side w.datagram more w.before w.after w.are));
 }
 
 -- nothing was done
@@ -230,6 +273,7 @@ pub sound_idle : (is_whole : Bool) (now : Moment) (side : Side) (ids : Ids) (con
 sound_idle is_whole now side ids config o t more none peer u whole s given = record {
   ends = subst (λ (z : List Act). AreSoundEnds side ids config o peer z u) (sym (append-nil t)) s;
   restarted = λ before after g e counts. absurd (subst (λ (z : List (List ℕ)). In g z) none (was_given side g more before after e));
+  greeted = λ w. absurd (subst (λ (z : List (List ℕ)). In w.datagram z) none (was_given side w.datagram more w.before w.after w.are));
 }
 
 -- what came before the second step, by the transcript and by the link
@@ -241,10 +285,10 @@ came_before side tc acts x before front told e =
     ∙ (ap (λ (z : List (List ℕ)). handed_in tc ++ z) (given_to-append side x front ∙ ap (λ (z : List (List ℕ)). z ++ given_to side front) (sym by))
     ∙ (sym (append_assoc (handed_in tc) (handed_in acts) (given_to side front)) ∙ ap (λ (z : List (List ℕ)). z ++ given_to side front) (sym (handed_in-append tc acts))))
 
--- one step behind another: a clock that was restarted runs from then, or from later in the same call
+-- one step behind another: a clock that was restarted runs from then, or from later in the same call, and an end that was greeted still is
 pub sound_trans : (is_whole : Bool) (now : Moment) (side : Side) (ids : Ids) (config : ConnConfig) (a b c : Option End) (t f g : List Act) (x y : List Event) → (IsRestartedAt now b → IsRestartedAt now c)
-    → wire f ≡ told_acts side x → KeepsSound true now side ids config a b t f x → KeepsSound is_whole now side ids config b c (t ++ f) g y → KeepsSound is_whole now side ids config a c t (f ++ g) (x ++ y)
-sound_trans is_whole now side ids config a b c t f g x y runs told first second peer u whole s given =
+    → (IsGreetedAt b → IsGreetedAt c) → wire f ≡ told_acts side x → KeepsSound true now side ids config a b t f x → KeepsSound is_whole now side ids config b c (t ++ f) g y → KeepsSound is_whole now side ids config a c t (f ++ g) (x ++ y)
+sound_trans is_whole now side ids config a b c t f g x y runs knows told first second peer u whole s given =
     let in_first = λ (z : List ℕ) (i : In z (given_to side x)). given z (subst (λ (l : List (List ℕ)). In z l) (sym (given_to-append side x y)) (in_left z (given_to side x) (given_to side y) i)) in
     let in_second = λ (z : List ℕ) (i : In z (given_to side y)). given z (subst (λ (l : List (List ℕ)). In z l) (sym (given_to-append side x y)) (in_right z (given_to side x) (given_to side y) i)) in
     let one : StaysSound now side ids config b peer t f u x = first peer u refl s in_first in
@@ -255,27 +299,38 @@ sound_trans is_whole now side ids config a b c t f g x y runs told first second 
         | inl r ↦ runs (one.restarted before r.0 d r.1 counts)
         | inr r ↦ two.restarted r.0 after d r.2 (subst (λ (z : List (List ℕ)). IsCounting (length (own_id side ids)) (other side) z d) (came_before side t f x before r.0 told r.1) counts)
       ];
+      greeted = λ w. elim (split_at (Given side w.datagram) x y w.before w.after w.are) as (λ _. IsGreetedAt c) [
+        | inl r ↦ knows (one.greeted (record { before = w.before; after = r.0; datagram = w.datagram; are = r.1; greets = w.greets }))
+        | inr r ↦
+            let greets = subst (λ (z : List (List ℕ)). IsGreeting (length (own_id side ids)) (other side) z w.datagram) (came_before side t f x w.before r.0 told r.1) w.greets in
+            two.greeted (record { before = r.0; after = w.after; datagram = w.datagram; are = r.2; greets = greets })
+      ];
     }
 
 -- ---- the server's end opens
 
 -- a client that is alone, and a server that is new, are two ends
-pub two_first : (ids : Ids) (config : ConnConfig) (c s : End) (t : List Act) (hello : List ℕ) → IsAlone ids config c t → IsEndOf Server ids config s → IsHonestEnd plain_accepts plain_sealed hello s []
-    → s.core.session.key_id ≡ ids.key → AreTwo c s t []
-two_first ids config c s t hello a of honest key = record {
+pub two_first : (ids : Ids) (config : ConnConfig) (now : Moment) (c s : End) (t : List Act) → IsAlone ids config c t → IsNewEnd Server ids config now s → AreTwo c s t []
+two_first ids config now c s t a new = record {
   hello = a.hello;
-  peer_hello = hello;
+  peer_hello = new.hello;
   ends = record {
     own = a.honest;
-    peer = honest;
-    sides = of.side_is ∙ ap other (sym a.of.side_is);
+    peer = new.honest a.fits;
+    sides = new.of.side_is ∙ ap other (sym a.of.side_is);
     ids = subst (λ (z : Side). KnowsIds c.handshake s.handshake z) (sym a.of.side_is) (
-      ap (λ (z : TransportParameters). z.original_destination_connection_id) of.said.is ∙ ap (λ (z : List ℕ). Some z) (sym a.of.original_is),
-      ap (λ (z : TransportParameters). z.retry_source_connection_id) of.said.is ∙ sym a.unretried,
+      ap (λ (z : TransportParameters). z.original_destination_connection_id) new.of.said.is ∙ ap (λ (z : List ℕ). Some z) (sym a.of.original_is),
+      ap (λ (z : TransportParameters). z.retry_source_connection_id) new.of.said.is ∙ sym a.unretried,
     );
-    ids_back = subst (λ (z : Side). KnowsIds s.handshake c.handshake z) (sym of.side_is) tt;
-    key_is = key ∙ sym a.key_is;
+    ids_back = subst (λ (z : Side). KnowsIds s.handshake c.handshake z) (sym new.of.side_is) tt;
+    key_is = new.key_is ∙ sym a.key_is;
     came = λ x i. absurd (subst (λ (z : List (List ℕ)). In x z) a.nothing i);
     went = λ x i. absurd i;
+  };
+  greets = record {
+    own = a.can s.handshake;
+    peer = new.can c.handshake (λ is. sym a.of.whole.sound.id_is ∙ a.of.local_is);
+    own_sealed = a.sealed;
+    peer_sealed = λ x i alone. absurd i;
   };
 }

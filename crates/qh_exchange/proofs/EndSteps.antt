@@ -16,11 +16,11 @@ use Rattle.qh_spec.specs.declared.sides.Side.TheVariants.{Client}
 use Rattle.qh_exchange.specs.EndCalls.{IsMadeBy, IsUndisturbedBy}
 use Rattle.qh_exchange.specs.Ends.{End, Stands}
 use Rattle.qh_exchange.specs.Pair.{IsToldIf, unsent, told_acts}
-use Rattle.qh_exchange.specs.Sound.{IsAlone, IsFirst}
+use Rattle.qh_exchange.specs.Sound.{IsAlone, IsFirst, IsGreetedAt}
 use Rattle.qh_exchange.specs.Steps.{Did, EndStep, IsEndUndisturbed, IsOpenedAt, IsRestartedAt, KeepsSound}
 use Rattle.qh_exchange.specs.declared.ends.Ids.{Ids}
 use Rattle.qh_exchange.proofs.EndHandled.{by_trans, still_by}
-use Rattle.qh_exchange.proofs.EndMade.{stands_on}
+use Rattle.qh_exchange.proofs.EndMade.{known_made, stands_on}
 use Rattle.qh_exchange.proofs.EndSounds.{KeepsNames, sound_failed, sound_idle, sound_trans, sound_ungiven}
 use Rattle.qh_exchange.proofs.SameStreams.{quiet_more, quiet_nothing, quiet_out}
 use Rattle.qh_exchange.proofs.Wire.{handed_in-told, silent_fault, silent_given, silent_sent, told_acts-silent, told_if-append, told_sent, told_weaker}
@@ -74,11 +74,17 @@ restarted_on now idle None c u r = absurd r
 restarted_on now idle (Some b) None u r = absurd u
 restarted_on now idle (Some b) (Some d) u r = elim u.since as (λ _. d.core.idle.since ≡ now) [ inl e ↦ e ∙ r | inr e ↦ e ]
 
+-- an end that was greeted still is
+pub greeted_on : (now : Moment) (idle : Option Span) (b c : Option End) → IsEndUndisturbed true now idle b c → IsGreetedAt b → IsGreetedAt c
+greeted_on now idle None c u g = absurd g
+greeted_on now idle (Some b) None u g = absurd u
+greeted_on now idle (Some b) (Some d) u g = u.known g
+
 -- ---- steps
 
 sound_more : (is_whole : Bool) (now : Moment) (side : Side) (ids : Ids) (config : ConnConfig) (a b c : Option End) (t f g : List Act) (x y : List Event) → IsEndUndisturbed is_whole now config.idle b c
     → IsToldIf true side x f → KeepsSound true now side ids config a b t f x → KeepsSound is_whole now side ids config b c (t ++ f) g y → KeepsSound is_whole now side ids config a c t (f ++ g) (x ++ y)
-sound_more true now side ids config a b c t f g x y u told first second = sound_trans true now side ids config a b c t f g x y (restarted_on now config.idle b c u) told first second
+sound_more true now side ids config a b c t f g x y u told first second = sound_trans true now side ids config a b c t f g x y (restarted_on now config.idle b c u) (greeted_on now config.idle b c u) told first second
 sound_more false now side ids config a b c t f g x y u told first second = sound_failed now side ids config a c t (f ++ g) (x ++ y)
 
 -- one step after another, the first of them whole
@@ -100,12 +106,13 @@ end_trans is_whole now side ids config a b c t u v K M N f g kinds = record {
         sound = sound_more is_whole now side ids config a b c w x.acts y.acts f.more g.more g.undisturbed x.told x.sound y.sound;
       };
   undisturbed = end_undisturbed_trans is_whole now config.idle a b c f.undisturbed g.undisturbed;
+  known = λ k. g.known (f.known k);
 }
 
 pub end_kind : (is_whole : Bool) (now : Moment) (side : Side) (ids : Ids) (config : ConnConfig) (a b : Option End) (t u : Option (List Event)) (K M : List Event → Type 0)
     → EndStep is_whole now side ids config a b t u K → ((x : List Event) → K x → M x) → EndStep is_whole now side ids config a b t u M
 end_kind is_whole now side ids config a b t u K M f kinds =
-    record { more = f.more; told_is = f.told_is; kind = kinds f.more f.kind; silent = f.silent; does = f.does; undisturbed = f.undisturbed }
+    record { more = f.more; told_is = f.told_is; kind = kinds f.more f.kind; silent = f.silent; does = f.does; undisturbed = f.undisturbed; known = f.known }
 
 pub end_fails : (now : Moment) (side : Side) (ids : Ids) (config : ConnConfig) (a b c : Option End) (t u v : Option (List Event)) (K M : List Event → Type 0)
     → EndStep true now side ids config a b t u K → EndStep false now side ids config b c u v M → EndStep false now side ids config a c t v (λ more. Unit {0})
@@ -127,6 +134,7 @@ end_idle is_whole now side ids config o t u more K e kind mine silent = record {
     sound = sound_idle is_whole now side ids config o w more (given_none_told side more mine);
   };
   undisturbed = end_undisturbed_refl is_whole now config.idle o;
+  known = λ k. k;
 }
 
 pub end_refl : (now : Moment) (side : Side) (ids : Ids) (config : ConnConfig) (o : Option End) (t : Option (List Event)) (K : List Event → Type 0) → K [] → EndStep true now side ids config o o t t K
@@ -135,9 +143,10 @@ end_refl now side ids config o t K kind = end_idle true now side ids config o t 
 -- the end was handed a datagram that it was given
 pub end_given : (is_whole : Bool) (now : Moment) (side : Side) (ids : Ids) (config : ConnConfig) (a b : Option End) (t u : Option (List Event)) (datagram : List ℕ) (K : List Event → Type 0)
     → u ≡ told t (Given side datagram ∷ []) → K (Given side datagram ∷ [])
-    → ((w : List Act) → Stands side ids config a w → Did is_whole now side ids config a b w (Given side datagram ∷ [])) → IsEndUndisturbed is_whole now config.idle a b → EndStep is_whole now side ids config a b t u K
-end_given is_whole now side ids config a b t u datagram K e kind does rest =
-    record { more = Given side datagram ∷ []; told_is = e; kind = kind; silent = silent_given side datagram; does = does; undisturbed = rest }
+    → ((w : List Act) → Stands side ids config a w → Did is_whole now side ids config a b w (Given side datagram ∷ [])) → IsEndUndisturbed is_whole now config.idle a b → (IsGreetedAt a → IsGreetedAt b)
+    → EndStep is_whole now side ids config a b t u K
+end_given is_whole now side ids config a b t u datagram K e kind does rest known =
+    record { more = Given side datagram ∷ []; told_is = e; kind = kind; silent = silent_given side datagram; does = does; undisturbed = rest; known = known }
 
 -- what a client that is alone hands out is a first datagram
 abbrev pub AreFirsts : Side → Ids → ConnConfig → End → List Act → List (List ℕ) → Type 0
@@ -160,6 +169,7 @@ end_sent now side ids config c d t u datagram K e kind made rest names firsts = 
     sound = sound_ungiven now side ids config c d w (HandedOut datagram ∷ []) (Sent side datagram ∷ []) names (firsts w) refl;
   };
   undisturbed = rest;
+  known = rest.known;
 }
 
 -- or the link didn't take it
@@ -178,6 +188,7 @@ end_unsent now side ids config c d t u datagram e K is kind made rest = record {
     sound = sound_failed now side ids config (Some c) (Some d) w (HandedOut datagram ∷ []) (fault_events e);
   };
   undisturbed = inl rest;
+  known = rest.known;
 }
 
 -- the end has none to send
@@ -196,6 +207,7 @@ end_rests now side ids config c d t K kind made rest names = record {
     sound = sound_ungiven now side ids config c d w [] [] names (λ is alone x i. absurd i) refl;
   };
   undisturbed = rest;
+  known = rest.known;
 }
 
 -- or memory was wanting for it
@@ -214,4 +226,5 @@ end_wants now side ids config c d t K kind made failed = record {
     sound = sound_failed now side ids config (Some c) (Some d) w [] [];
   };
   undisturbed = inr failed;
+  known = known_made c d [] made;
 }

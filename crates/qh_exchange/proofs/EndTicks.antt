@@ -1,6 +1,6 @@
 -- What the moments that are due do to an end, and an end that is new.
 use Rattle.std.proofs.Common.{◌≡◌, ◌⊎◌, inl, inr, ◌≤◌, ◌<◌, ◌+◌, ◌-◌, ◌^◌, List, [], ◌∷◌, ◌++◌, ℕ, Bool, Option, Some, None, true, refl, sym, ◌∙◌, ap, subst, append-nil, arith}
-use Rattle.std.specs.Prelude.{max, min, MatchOption, OnErr, OnOk, Result, Ok, Err}
+use Rattle.std.specs.Prelude.{max, min, MatchOption, OnErr, OnOk, Result, Ok, Err, is_some}
 use Rattle.std.proofs.lemmas.Bool.{false≢true}
 use Rattle.std.proofs.lemmas.Option.{same_Some}
 use Rattle.qh_base.specs.declared.connection_error.ConnectionError.{ConnectionError}
@@ -24,6 +24,7 @@ use Rattle.qh_handshake.specs.declared.handshake.Handshake.{Handshake}
 use Rattle.qh_hello.specs.declared.transport_parameters.TransportParameters.{TransportParameters}
 use Rattle.qh_packet.specs.Session.{PlainKeys, plain_accepts, plain_sealed}
 use Rattle.qh_peers.specs.Ends.{IsHonestEnd}
+use Rattle.qh_peers.specs.Greets.{AreInitialsSealed, CanBeGreeted}
 use Rattle.qh_spec.specs.Transcript.{Act}
 use Rattle.qh_spec.specs.declared.link.Event.{Event}
 use Rattle.qh_spec.specs.declared.sides.Side.{Side}
@@ -35,7 +36,7 @@ use Rattle.qh_exchange.specs.Sound.{AreSoundEnds, AtCounting, IsHeard}
 use Rattle.qh_exchange.specs.Steps.{EndTicked, IsLostFairly}
 use Rattle.qh_exchange.specs.Timed.{IsIdleOf, IsTimedBy}
 use Rattle.qh_exchange.specs.declared.ends.Ids.{Ids}
-use Rattle.qh_exchange.proofs.EndMade.{StaysSame, still_on}
+use Rattle.qh_exchange.proofs.EndMade.{StaysSame, known_made, still_on}
 use Rattle.qh_exchange.proofs.EndPolls.{made_still}
 use Rattle.qh_exchange.proofs.EndSounds.{KeepsNames, sound_acted}
 
@@ -73,8 +74,12 @@ abbrev pub TimedHonest : Type 0
 TimedHonest = (accepts : AcceptsTags PlainKeys) (sealed : MakesTagsOf PlainKeys) (key : PlainKeys → List ℕ) (now : ℕ) (hello : List ℕ) (c new : End) (t : List Act) → IsTimedOut now c new → is_open new.core.state ≡ true
     → IsSameConnection key c new → IsWhole new → ConnStands accepts sealed hello new t → IsHonestEnd accepts sealed hello c t → IsHonestEnd accepts sealed hello new t
 
-due_done : TimedHonest → (now : ℕ) (c d : End) → now < 2 ^ 62 → IsSameConnection key_of c d → IsWhole d → StandsStill c d → IsTimedOut now c d → IsDueDone now c d
-due_done timed now c d below same whole still t =
+-- what `can_greet` says of them
+abbrev pub TimedCan : Type 0
+TimedCan = (now : ℕ) (old new : End) (peer : Handshake) → IsTimedOut now old new → CanBeGreeted old.handshake peer → CanBeGreeted new.handshake peer
+
+due_done : TimedHonest → TimedCan → (now : ℕ) (c d : End) → now < 2 ^ 62 → IsSameConnection key_of c d → IsWhole d → StandsStill c d → IsTimedOut now c d → IsDueDone now c d
+due_done timed can now c d below same whole still t =
     let k : IsKeptByTimers now c.core d.core = timed_out_kept now c.core d.core t.core in
     let h = handshake_kept now (is_open c.core.state) c.handshake d.handshake t.handshake in
     record {
@@ -89,12 +94,13 @@ due_done timed now c d below same whole still t =
       opens = opens_by now c.core d.core t.core;
       honest = λ up hello w x. subst (λ (z : List Act). IsHonestEnd plain_accepts plain_sealed hello d z) (sym (append-nil w))
           (timed plain_accepts plain_sealed key_of now hello c d w t up same whole (still plain_accepts plain_sealed hello w x.stands) x);
+      can = λ peer. can now c d peer t;
     }
 
 -- the moments were handled, or memory was wanting
-pub ticked_by : {A B : Type 0} (r : Result A B) → TimedHonest → (now : ℕ) (c d : End) → now < 2 ^ 62 → IsSameConnection key_of c d → IsWhole d → StandsStill c d → OnOk r (IsTimedOut now c d) → OnErr r (IsOver d) → IsTicked now c d
-ticked_by (Ok x) timed now c d below same whole still ok err = record { made = made_still c d same whole still; done = inr (due_done timed now c d below same whole still ok) }
-ticked_by (Err e) timed now c d below same whole still ok err = record { made = made_still c d same whole still; done = inl err.error }
+pub ticked_by : {A B : Type 0} (r : Result A B) → TimedHonest → TimedCan → (now : ℕ) (c d : End) → now < 2 ^ 62 → IsSameConnection key_of c d → IsWhole d → StandsStill c d → OnOk r (IsTimedOut now c d) → OnErr r (IsOver d) → IsTicked now c d
+ticked_by (Ok x) timed can now c d below same whole still ok err = record { made = made_still c d same whole still; done = inr (due_done timed can now c d below same whole still ok) }
+ticked_by (Err e) timed can now c d below same whole still ok err = record { made = made_still c d same whole still; done = inl err.error }
 
 -- ---- an end behind them
 
@@ -106,6 +112,7 @@ end_ticked now side c m d s p = record {
   due = elim s.done as (λ _. (d.core.error ≡ Some lost.Memory) ⊎ ((mid : End) × IsDueDone now c mid × IsPolledOut mid d)) [ inl e ↦ inl (p.error_is ∙ e) | inr k ↦ inr (m, k, p) ];
   stands = λ ids config t st. still_on side ids config m d t p.made (still_on side ids config c m t s.made st);
   counts = elim s.done as (λ _. (d.core.error ≡ Some lost.Memory) ⊎ KeepsCounts c d) [ inl e ↦ inl (p.error_is ∙ e) | inr k ↦ inr (both_counts c m d k.counts p.counts) ];
+  known = λ some. known_made m d [] p.made (known_made c m [] s.made some);
 }
 
 -- what an end that isn't lost was done to
@@ -176,6 +183,10 @@ names_on both now c m d s p k up = record {
   honest = λ hello w x.
       subst (λ (z : List Act). IsHonestEnd plain_accepts plain_sealed hello d z) (append-nil (w ++ []))
       (p.honest hello (w ++ []) (k.honest (ap is_open (sym p.state_is) ∙ up) hello w x));
+  greets = record {
+    can = λ peer x. subst (λ (z : Handshake). CanBeGreeted z peer) (sym p.handshake_is) (k.can peer x);
+    sealed = λ w. subst (λ (z : List Act). AreInitialsSealed (plain_sealed c.core.session) c.core.side z) (sym (append-nil w));
+  };
 }
 
 error_of_sound : (side : Side) (ids : Ids) (config : ConnConfig) (c : End) (peer : Option End) (t u : List Act) → AreSoundEnds side ids config (Some c) peer t u → c.core.error ≡ None
@@ -209,4 +220,5 @@ heard_ticked now side k config events c m d s p n h =
     record {
       timed = ticked_timed config.idle now c m d s p done h.timed;
       heard = subst (λ (z : IdleTimer). AtCounting k side events (λ n2. n2 ≤ z.since.0)) (sym (p.idle_is ∙ done.idle_is)) h.heard;
+      greets = λ w. ap is_some (ap (λ (z : Handshake). z.peer) p.handshake_is ∙ done.peer_is) ∙ h.greets w;
     }

@@ -2,6 +2,7 @@
 use Rattle.std.proofs.Common.{◌≡◌, ◌⊎◌, inl, inr, ◌≤◌, List, [], ◌∷◌, ◌++◌, ℕ, refl, sym, ◌∙◌, ap, subst, append_assoc, arith}
 use Rattle.qh_base.specs.declared.time.Moment.{Moment}
 use Rattle.qh_conduct.specs.Restarting.{IsCounting}
+use Rattle.qh_peers.specs.Greets.{IsGreeting}
 use Rattle.qh_spec.specs.Honest.{IsHonest}
 use Rattle.qh_spec.specs.Link.{given_to, moments_of, other, sent_by}
 use Rattle.qh_spec.specs.Lists.{In}
@@ -15,7 +16,7 @@ use Rattle.qh_spec.proofs.Members.{in_left, in_right}
 use Rattle.qh_exchange.specs.EndCalls.{IsUndisturbedBy}
 use Rattle.qh_exchange.specs.Ends.{End}
 use Rattle.qh_exchange.specs.Pair.{told_acts}
-use Rattle.qh_exchange.specs.Sound.{AreBy, AtCounting, last_of}
+use Rattle.qh_exchange.specs.Sound.{AreBy, AtCounting, IsGreetedBehind, WasGreeted, last_of}
 use Rattle.qh_exchange.proofs.Wire.{handed_in-told, handed_out-told}
 
 -- a list that is cut is cut in its front, or behind it
@@ -73,6 +74,20 @@ none_given : (s : Side) (events before after : List Event) (d : List ℕ) → gi
 none_given s events before after d none e =
     subst (λ (z : List (List ℕ)). In d z) (sym (given_to-append s before (Given s d ∷ after)) ∙ (ap (given_to s) (sym e) ∙ none))
     (in_right d (given_to s before) (given_to s (Given s d ∷ after)) (given_first s d after))
+
+-- ---- datagrams that greet
+
+pub greeted_none : (k : ℕ) (side : Side) (came : List (List ℕ)) (events : List Event) → given_to side events ≡ [] → IsGreetedBehind k side came events → ⊥
+greeted_none k side came events none w = none_given side events w.before w.after w.datagram none w.are
+
+-- one that was given came among the old ones, or among the new ones
+pub greeted_either : (k : ℕ) (side : Side) (events more : List Event) → WasGreeted k side (events ++ more) → WasGreeted k side events ⊎ IsGreetedBehind k side (given_to side events) more
+greeted_either k side events more w = elim (cut_either events more w.before w.after (Given side w.datagram) w.are) [
+  | inl r ↦ inl (record { before = w.before; after = r.0; datagram = w.datagram; are = r.1; greets = w.greets })
+  | inr r ↦
+      let greets = subst (λ (z : List (List ℕ)). IsGreeting k (other side) z w.datagram) (ap (given_to side) r.1 ∙ given_to-append side events r.0) w.greets in
+      inr (record { before = r.0; after = w.after; datagram = w.datagram; are = r.2; greets = greets })
+]
 
 -- ---- datagrams that count
 

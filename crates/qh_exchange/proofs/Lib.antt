@@ -22,6 +22,7 @@ pub mod Fairness
 pub mod Faults
 pub mod FullRounds
 pub mod FullTurns
+pub mod Greeted
 pub mod Heard
 pub mod Hellos
 pub mod IdleWhole

@@ -16,12 +16,12 @@ use Rattle.qh_spec.specs.declared.sides.Side.{Side}
 use Rattle.qh_spec.specs.declared.sides.Side.TheVariants.{Client, Server}
 use Rattle.qh_exchange.specs.Ends.{End, own_id}
 use Rattle.qh_exchange.specs.Pair.{HasAcceptedEnd, HasOpenedEnd, IsRunning, IsRunningSoundly, PairState, id_length}
-use Rattle.qh_exchange.specs.Sound.{AreBy, AreSoundEnds, IsHeardAt}
+use Rattle.qh_exchange.specs.Sound.{AreBy, AreSoundEnds, IsGreetedAt, IsGreetedBehind, IsHeardAt}
 use Rattle.qh_exchange.specs.Steps.{Did, EndStep, EndTicked, HasAcceptedAll, HasOpenedAll, IsCounted, IsEndUndisturbed, IsLostFairly, IsNewEnd, IsStill, KeepsCountsAt, PairStep, StaysSound, ended_by, is_done}
 use Rattle.qh_exchange.specs.Turn.{IsLostWith, IsNotLost}
 use Rattle.qh_exchange.specs.declared.ends.Ids.{Ids}
 use Rattle.qh_exchange.proofs.EndsAt.{accepted_after, accepted_kept, at_more, at_opened, at_waits, no_acts, not_out_of_memory, opened_after, opened_kept}
-use Rattle.qh_exchange.proofs.PairSounds.{came, ends_open, heard_goes, heard_opens, heard_waits}
+use Rattle.qh_exchange.proofs.PairSounds.{came, ends_open, heard_goes, heard_opens, heard_waits, none_done}
 use Rattle.qh_exchange.proofs.PairSteps.{step_passes}
 use Rattle.qh_exchange.proofs.SameStreams.{asking_same, quiet_same, serving_same}
 use Rattle.qh_exchange.proofs.Wire.{whole_in, whole_out}
@@ -65,7 +65,8 @@ client_soundly true now p c t u K events entries whole counted st honest by s =
         fits = s.sound.fits;
         lengths = s.sound.lengths;
         ends = sound.ends;
-        client = heard_goes Client (id_length p) p.config now p.client_end c events st.more run.client.acts given by st.undisturbed sound.restarted s.sound.client;
+        client = heard_goes Client (id_length p) p.config now p.client_end c events st.more run.client.acts given by st.undisturbed
+            (none_done Client p.ids p.config p.client_end p.server_end run.client.acts run.server.acts s.sound.ends) sound.greeted sound.restarted s.sound.client;
         server = heard_waits Server (id_length p) p.config p.server_end events st.more st.silent s.sound.server;
       };
     }
@@ -73,7 +74,7 @@ client_soundly true now p c t u K events entries whole counted st honest by s =
 pub step_client : (w : Bool) (now : Moment) (p : PairState) (c : Option End) (t u : Option (List Event)) (r : List PlainEntry) (K : List Event → Type 0)
     → IsCounted p → EndStep w now Client p.ids p.config p.client_end c t u K → PairStep now.0 w p (record p { client_end = c }) t u r r K
 step_client w now p c t u r K counted st = record {
-  same = record { requests = refl; places = refl; ids = refl; config = refl; limits = refl; over = refl };
+  same = record { requests = refl; places = refl; ids = refl; config = refl; limits = refl; over = refl; known = record { client = st.known; server = λ k. k } };
   more = st.more;
   told_is = st.told_is;
   kind = st.kind;
@@ -130,6 +131,8 @@ server_soundly true now p c t u K events entries whole counted st honest by s =
         ends = sound.ends;
         client = heard_waits Client (id_length p) p.config p.client_end events st.more st.silent s.sound.client;
         server = heard_goes Server (id_length p) p.config now p.server_end c events st.more run.server.acts given by st.undisturbed
+            (none_done Server p.ids p.config p.server_end p.client_end run.server.acts run.client.acts s.sound.ends)
+            (λ w. sound.greeted (subst (λ (z : ℕ). IsGreetedBehind z Server (handed_in run.server.acts) st.more) (sym long) w))
             (λ before after x is counts. sound.restarted before after x is (subst (λ (z : ℕ). IsCounting z Client (handed_in run.server.acts ++ given_to Server before) x) (sym long) counts)) s.sound.server;
       };
     }
@@ -137,7 +140,7 @@ server_soundly true now p c t u K events entries whole counted st honest by s =
 pub step_server : (w : Bool) (now : Moment) (p : PairState) (c : Option End) (t u : Option (List Event)) (r : List PlainEntry) (K : List Event → Type 0)
     → IsCounted p → EndStep w now Server p.ids p.config p.server_end c t u K → PairStep now.0 w p (record p { server_end = c }) t u r r K
 step_server w now p c t u r K counted st = record {
-  same = record { requests = refl; places = refl; ids = refl; config = refl; limits = refl; over = refl };
+  same = record { requests = refl; places = refl; ids = refl; config = refl; limits = refl; over = refl; known = record { client = λ k. k; server = st.known } };
   more = st.more;
   told_is = st.told_is;
   kind = st.kind;
@@ -171,7 +174,7 @@ unfolding opens_run
 still_opens_client p now c counted none new =
     let zero : p.client.next ≡ 0 = subst (λ (z : Option End). HasOpenedAll p.client z) none counted.client in
     record {
-      same = record { requests = refl; places = refl; ids = refl; config = refl; limits = refl; over = refl };
+      same = record { requests = refl; places = refl; ids = refl; config = refl; limits = refl; over = refl; known = record { client = λ k. absurd (subst IsGreetedAt none k); server = λ k. k } };
       running = λ events entries run. opens_run p now c events entries zero none new run;
       counted = record { client = (new.opened ∙ sym zero, λ unknown. zero); server = counted.server };
       soundly = λ events entries s.
@@ -258,7 +261,7 @@ unfolding ticks_run
 step_ticks now p c d client server t r counted tc ts lc ls fc fs hc hs =
     step_passes now (is_done (ended_by client server)) p (record p { client_end = c; server_end = d }) t r (λ more. more ≡ [])
     (record {
-      same = record { requests = refl; places = refl; ids = refl; config = refl; limits = refl; over = refl };
+      same = record { requests = refl; places = refl; ids = refl; config = refl; limits = refl; over = refl; known = record { client = tc.known; server = ts.known } };
       running = λ events entries run. ticks_run now p c d events entries counted tc ts run;
       counted = λ e.
           let well = both_well client server e in

@@ -16,7 +16,7 @@ use Rattle.qh_spec.specs.declared.link.Event.{Event}
 use Rattle.qh_spec.specs.declared.sides.Side.TheVariants.{Client, Server}
 use Rattle.qh_exchange.specs.Ends.{End, Stands}
 use Rattle.qh_exchange.specs.Pair.{IsRunning, IsRunningSoundly, PairState, id_length}
-use Rattle.qh_exchange.specs.Sound.{AreSoundEnds, IsHeardAt}
+use Rattle.qh_exchange.specs.Sound.{AreSoundEnds, IsGreetedAt, IsHeardAt}
 use Rattle.qh_exchange.specs.Steps.{ClientPolled, ClientWent, HasAcceptedAll, HasOpenedAll, HasRun, IsCounted, IsOnSide, IsStill, PairStep, ServerPolled, ServerWent}
 use Rattle.qh_exchange.specs.Steps.{ClientPolled as client_polled}
 use Rattle.qh_exchange.specs.Steps.{ServerPolled as server_polled}
@@ -47,6 +47,10 @@ core_is b d rest = ap (λ (z : End). z.core) rest
 
 end_is : (b d : End) → d ≡ record b { core = with_streams b.core d.core.space.streams } → d ≡ record b { core = d.core }
 end_is b d rest = rest ∙ ap (λ (z : Inner PlainKeys). record b { core = z }) (sym (core_is b d rest))
+
+-- an end that went on without a datagram knows its peer if it did
+role_known : (old new : Option End) (b d : End) → old ≡ Some b → new ≡ Some d → is_some d.handshake.peer ≡ is_some b.handshake.peer → IsGreetedAt old → IsGreetedAt new
+role_known old new b d was now_is same known = subst IsGreetedAt (sym now_is) (same ∙ subst IsGreetedAt was known)
 
 -- ---- the client
 
@@ -142,7 +146,7 @@ client_asks laws p q counted going up (client_polled.went b d was now_is went) i
     let after : HasOpenedAll q.client q.client_end = client_count p q b d now_is went none count in
     subst (λ (z : PairState). IsStill p z) (sym is)
     (record {
-      same = record { requests = went.requests; places = went.places; ids = refl; config = refl; limits = refl; over = refl };
+      same = record { requests = went.requests; places = went.places; ids = refl; config = refl; limits = refl; over = refl; known = record { client = role_known p.client_end q.client_end b d was now_is (ap (λ (z : End). is_some z.handshake.peer) went.rest); server = λ k. k } };
       running = asks_run laws p q b d was now_is went (up b was) count after;
       counted = record { client = after; server = counted.server };
       soundly = asks_soundly laws p q b d was now_is went (up b was) count after;
@@ -246,7 +250,7 @@ server_serves laws now p q t r s counted going up (server_polled.went b d was no
     let st : ServerStep p.server q.server b.core d.core r s = went.serves (inr count) in
     subst (λ (z : PairState). PairStep now true p z t t r s (λ more. more ≡ [])) (sym is)
     (record {
-      same = record { requests = refl; places = refl; ids = refl; config = refl; limits = went.limits; over = refl };
+      same = record { requests = refl; places = refl; ids = refl; config = refl; limits = went.limits; over = refl; known = record { client = λ k. k; server = role_known p.server_end q.server_end b d was now_is (ap (λ (z : End). is_some z.handshake.peer) went.rest) } };
       more = [];
       told_is = told_nothing t;
       kind = refl;

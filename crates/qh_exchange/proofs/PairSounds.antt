@@ -1,6 +1,6 @@
 -- How an end that goes on over an honest link stays sound, and how it is lost.
 use Rattle.std.proofs.Common.{◌≡◌, inl, inr, ◌^◌, ◌≤◌, true, List, [], ◌∷◌, ◌++◌, ℕ, Option, Some, None, Err, refl, sym, ◌∙◌, ap, subst, append-nil, arith, length}
-use Rattle.std.specs.Prelude.{MatchOption}
+use Rattle.std.specs.Prelude.{MatchOption, is_some}
 use Rattle.qh_base.specs.declared.connection_error.ConnectionError.{ConnectionError}
 use Rattle.qh_base.specs.declared.time.Moment.{Moment}
 use Rattle.qh_base.specs.declared.time.Span.{Span}
@@ -24,33 +24,64 @@ use Rattle.qh_exchange.specs.Ends.{End, Stands}
 use Rattle.qh_exchange.specs.Hellos.{AreGreetedAsSet}
 use Rattle.qh_exchange.specs.Pair.{EndAt, told_acts}
 use Rattle.qh_exchange.specs.Settings.{whole_idle}
-use Rattle.qh_exchange.specs.Sound.{AreBy, AreSound, EndsFairly, IsAlone, IsHeardAt, last_of}
+use Rattle.qh_exchange.specs.Sound.{AreBy, AreSound, AreSoundEnds, EndsFairly, IsAlone, IsGreetedAt, IsGreetedBehind, IsHeardAt, WasGreeted, last_of}
 use Rattle.qh_exchange.specs.Steps.{IsEndUndisturbed, IsLostFairly, IsNewEnd, IsRestartedAt, ended_by}
 use Rattle.qh_exchange.specs.Timed.{IsTimedBy}
 use Rattle.qh_exchange.specs.declared.ends.Ids.{Ids}
-use Rattle.qh_exchange.proofs.Heard.{counting_none, counting_silent, heard_first, heard_on, silent_given_to, silent_sent_by}
+use Rattle.qh_exchange.proofs.Heard.{counting_none, counting_silent, greeted_either, greeted_none, heard_first, heard_on, silent_given_to, silent_sent_by}
 use Rattle.qh_exchange.proofs.Hellos.{came_with, honest_as_set}
 use Rattle.qh_exchange.proofs.IdleWhole.{whole_in_force, whole_own}
 use Rattle.qh_exchange.proofs.Wire.{whole_in}
 
--- ---- datagrams that count
+-- ---- datagrams that count, and that greet
+
+-- what was known when nothing new was given
+greets_waits : (k : ℕ) (side : Side) (events more : List Event) (Known : Type 0) → given_to side more ≡ [] → (WasGreeted k side events → Known) → WasGreeted k side (events ++ more) → Known
+greets_waits k side events more Known none known w = elim (greeted_either k side events more w) as (λ _. Known) [ inl old ↦ known old | inr new ↦ absurd (greeted_none k side (given_to side events) more none new) ]
+
+-- an end knows its peer by one of the old ones, or by one of the new ones
+greets_goes : (k : ℕ) (side : Side) (events more : List Event) (t : List Act) (Known : Type 0) → handed_in t ≡ given_to side events → (WasGreeted k side events → Known) → (IsGreetedBehind k side (handed_in t) more → Known)
+    → WasGreeted k side (events ++ more) → Known
+greets_goes k side events more t Known given before now w = elim (greeted_either k side events more w) as (λ _. Known) [
+  | inl old ↦ before old
+  | inr new ↦ now (subst (λ (z : List (List ℕ)). IsGreetedBehind k side z more) (sym given) new)
+]
+
+-- nothing was done yet with an end that isn't there
+pub none_done : (side : Side) (ids : Ids) (config : ConnConfig) (o peer : Option End) (t u : List Act) → AreSoundEnds side ids config o peer t u → o ≡ None → t ≡ []
+none_done Client ids config None None t u s none = s.0
+none_done Client ids config None (Some q) t u s none = absurd s
+none_done Server ids config None None t u s none = s.1
+none_done Server ids config None (Some q) t u s none = s.1
+none_done side ids config (Some c) peer t u s none = cc
 
 -- nothing passed at the end
 pub heard_waits : (side : Side) (k : ℕ) (config : ConnConfig) (o : Option End) (events more : List Event) → told_acts side more ≡ [] → IsHeardAt side k config o events → IsHeardAt side k config o (events ++ more)
 heard_waits side k config None events more silent h = tt
 heard_waits side k config (Some c) events more silent h =
-    record { timed = h.timed; heard = counting_silent k side events more (λ (m : ℕ). m ≤ c.core.idle.since.0) (silent_given_to side more silent) h.heard }
+    record {
+      timed = h.timed;
+      heard = counting_silent k side events more (λ (m : ℕ). m ≤ c.core.idle.since.0) (silent_given_to side more silent) h.heard;
+      greets = greets_waits k side events more (is_some c.handshake.peer ≡ true) (silent_given_to side more silent) h.greets;
+    }
 
 -- the end went on
 pub heard_goes : (side : Side) (k : ℕ) (config : ConnConfig) (now : Moment) (old new : Option End) (events more : List Event) (t : List Act) → handed_in t ≡ given_to side events → AreBy now.0 (events ++ more)
-    → IsEndUndisturbed true now config.idle old new
+    → IsEndUndisturbed true now config.idle old new → (old ≡ None → t ≡ []) → (IsGreetedBehind k side (handed_in t) more → IsGreetedAt new)
     → ((before after : List Event) (x : List ℕ) → more ≡ before ++ Given side x ∷ after → IsCounting k (other side) (handed_in t ++ given_to side before) x → IsRestartedAt now new)
     → IsHeardAt side k config old events → IsHeardAt side k config new (events ++ more)
-heard_goes side k config now None None events more t given by u restarted h = tt
-heard_goes side k config now None (Some d) events more t given by u restarted h = record { timed = u.timed; heard = heard_first k side now d events more u.since by }
-heard_goes side k config now (Some c) None events more t given by u restarted h = absurd u
-heard_goes side k config now (Some c) (Some d) events more t given by u restarted h =
-    record { timed = u.times config.idle h.timed; heard = heard_on k side now c d events more t given by u h.heard restarted }
+heard_goes side k config now None None events more t given by u none greeted restarted h = tt
+heard_goes side k config now None (Some d) events more t given by u none greeted restarted h = record {
+  timed = u.timed;
+  heard = heard_first k side now d events more u.since by;
+  greets = greets_goes k side events more t (is_some d.handshake.peer ≡ true) given (λ w. absurd (greeted_none k side [] events (sym given ∙ ap handed_in (none refl)) w)) greeted;
+}
+heard_goes side k config now (Some c) None events more t given by u none greeted restarted h = absurd u
+heard_goes side k config now (Some c) (Some d) events more t given by u none greeted restarted h = record {
+  timed = u.times config.idle h.timed;
+  heard = heard_on k side now c d events more t given by u h.heard restarted;
+  greets = greets_goes k side events more t (is_some d.handshake.peer ≡ true) given (λ w. u.known (h.greets w)) greeted;
+}
 
 -- what an end is given over an honest link its peer handed out, which did nothing meanwhile
 pub came : (side : Side) (events more : List Event) (u : List Act) → IsHonest (events ++ more) → handed_out u ≡ sent_by (other side) events → told_acts (other side) more ≡ []
@@ -78,6 +109,8 @@ alone_first ids config now c t new fits nothing = subst (λ (z : List Act). IsAl
       there = new.there;
       nothing = refl;
       firsts = λ d i. absurd i;
+      can = λ peer. new.can peer (λ server. let never : Client ≡ Server = server in cc);
+      sealed = λ d i alone. absurd i;
     })
 
 pub ends_open : (ids : Ids) (config : ConnConfig) (now : Moment) (c : End) (o s : Option End) (t u : List Act) → o ≡ None → IsNewEnd Client ids config now c
@@ -87,7 +120,11 @@ ends_open ids config now c None (Some s) t u none new fits e = absurd e
 ends_open ids config now c (Some b) s t u none new fits e = cc
 
 pub heard_opens : (ids : Ids) (config : ConnConfig) (k : ℕ) (now : Moment) (c : End) (events : List Event) → IsNewEnd Client ids config now c → given_to Client events ≡ [] → IsHeardAt Client k config (Some c) events
-heard_opens ids config k now c events new none = record { timed = new.timed; heard = counting_none k Client events (λ (m : ℕ). m ≤ c.core.idle.since.0) none }
+heard_opens ids config k now c events new none = record {
+  timed = new.timed;
+  heard = counting_none k Client events (λ (m : ℕ). m ≤ c.core.idle.since.0) none;
+  greets = λ w. absurd (greeted_none k Client [] events none w);
+}
 
 -- ---- how an end is lost
 

@@ -75,7 +75,7 @@ has_run w p events entries over places run =
 -- ---- the pair's steps
 
 pub same_refl : (p : PairState) → IsSamePair p p
-same_refl p = record { requests = refl; places = refl; ids = refl; config = refl; limits = refl; over = refl }
+same_refl p = record { requests = refl; places = refl; ids = refl; config = refl; limits = refl; over = refl; known = record { client = λ k. k; server = λ k. k } }
 
 pub same_trans : (a b c : PairState) → IsSamePair a b → IsSamePair b c → IsSamePair a c
 same_trans a b c f g = record {
@@ -85,6 +85,7 @@ same_trans a b c f g = record {
   config = g.config ∙ f.config;
   limits = g.limits ∙ f.limits;
   over = g.over ∙ f.over;
+  known = record { client = λ k. g.known.client (f.known.client k); server = λ k. g.known.server (f.known.server k) };
 }
 
 told_twice : (t : Option (List Event)) (x y : List Event) → told (told t x) y ≡ told t (x ++ y)

@@ -12,6 +12,7 @@ use Rattle.qh_core.specs.declared.inner.Inner.{Inner}
 use Rattle.qh_handshake.specs.declared.handshake.Handshake.{Handshake}
 use Rattle.qh_hello.specs.declared.transport_parameters.TransportParameters.{TransportParameters}
 use Rattle.qh_packet.specs.Session.{PlainKeys, plain_accepts, plain_sealed}
+use Rattle.qh_peers.proofs.GreetSealed.{quiet_sealed}
 use Rattle.qh_peers.proofs.HonestOn.{streams_whole}
 use Rattle.qh_peers.specs.Ends.{IsHonestEnd}
 use Rattle.qh_roles.specs.Streams.{AreCalls}
@@ -95,10 +96,11 @@ role_sound laws side ids config c core peer t u acts r whole s =
       remote = refl;
       none = r.calls.0;
       honest = λ hello w h. laws.honest plain_accepts plain_sealed hello c core acts w r.is r.calls.1 (stands_called laws hello c core acts w r h.stands) h;
+      greets = record { can = λ peer h. h; sealed = λ w. quiet_sealed (plain_sealed c.core.session) c.core.side w acts r.calls.1 };
     } in
     sound_acted side ids config c d peer t u acts names (λ is alone x i. absurd (subst (λ (z : List (List ℕ)). In x z) r.calls.1 i)) s
 
 pub role_heard : (side : Side) (k : ℕ) (config : ConnConfig) (c : End) (core : Inner PlainKeys) (events : List Event) → core ≡ with_streams c.core core.space.streams → IsHeard side k config c events
     → IsHeard side k config (record c { core = core }) events
 role_heard side k config c core events is h = subst (λ (z : Inner PlainKeys). IsHeard side k config (record c { core = z }) events) (sym is)
-    (record { timed = record { said = h.timed.said; ungreeted = h.timed.ungreeted; greeted = h.timed.greeted }; heard = h.heard })
+    (record { timed = record { said = h.timed.said; ungreeted = h.timed.ungreeted; greeted = h.timed.greeted }; heard = h.heard; greets = h.greets })

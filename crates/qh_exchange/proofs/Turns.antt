@@ -13,8 +13,8 @@ use Rattle.qh_spec.specs.declared.link.Event.{Event}
 use Rattle.qh_spec.specs.Record.{PlainEntry}
 use Rattle.qh_exchange.specs.Clock.{HasTimedOut, ClocksOn}
 use Rattle.qh_exchange.specs.Exchange.{IfProtocol, IfTimedOut}
-use Rattle.qh_exchange.specs.Pair.{PairState, GoesOn, IsRunning, Running}
-use Rattle.qh_exchange.specs.Sound.{AreBy, last_of}
+use Rattle.qh_exchange.specs.Pair.{PairState, GoesOn, IsRunning, KeepsGreeted, Running}
+use Rattle.qh_exchange.specs.Sound.{AreBy, IsGreetedAt, last_of}
 use Rattle.qh_exchange.specs.Steps.{AreTicking, BeginsAt, IsLastOf, IsLinkError, KeepsTicking, PairStep, TicksOn}
 use Rattle.qh_exchange.specs.Turn.{Adds}
 use Rattle.qh_exchange.specs.declared.error.ExchangeError.{ExchangeError}
@@ -180,6 +180,16 @@ timed_again T U (error.Protocol x) H h = tt
 pub clocked_well : (p b : PairState) (before moments after : List ℕ) (x : Unit {0}) (done : Bool) → TicksOn {T = Unit {0}} (record p { is_over = true }) b before moments after (Ok x)
     → ClocksOn p (record b { is_over = false }) before moments after (Ok done)
 clocked_well p b before moments after x done t = record { more = t.more; are = t.are; clocked = both_clocked b false (moments ++ t.more) t.ticking; timed_out = tt }
+
+-- an end that knew its peer still does, where a turn failed and where it didn't
+pub known_ill : (p b : PairState) → KeepsGreeted (record p { is_over = true }) b → KeepsGreeted p b
+known_ill p b k = record { client = k.client; server = k.server }
+
+pub known_well_as : (p v b : PairState) → v ≡ b → KeepsGreeted (record p { is_over = true }) b → KeepsGreeted p (record v { is_over = false })
+known_well_as p v b same k = record {
+  client = λ known. subst (λ (z : PairState). IsGreetedAt z.client_end) (sym same) (k.client known);
+  server = λ known. subst (λ (z : PairState). IsGreetedAt z.server_end) (sym same) (k.server known);
+}
 
 pub clocked_ill : (p b : PairState) (before moments after : List ℕ) (e : ExchangeError) → TicksOn {T = Unit {0}} (record p { is_over = true }) b before moments after (Err e)
     → ClocksOn {T = Bool} p b before moments after (Err e)

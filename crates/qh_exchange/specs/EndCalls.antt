@@ -1,5 +1,5 @@
 -- What the calls on one end do (own).
-use Rattle.std.specs.Prelude.{◌≡◌, ◌⊎◌, ℕ, ◌+◌, ◌≤◌, Bool, true, false, List, [], ◌∷◌, ◌++◌, Option, Some, None, Result, Ok, Err, length, map}
+use Rattle.std.specs.Prelude.{◌≡◌, ◌⊎◌, ℕ, ◌+◌, ◌≤◌, Bool, true, false, List, [], ◌∷◌, ◌++◌, Option, Some, None, Result, Ok, Err, is_some, length, map}
 use Rattle.qh_base.specs.declared.connection_error.ConnectionError.{ConnectionError}
 use Rattle.qh_base.specs.declared.connection_error.ConnectionError.TheVariants as lost
 use Rattle.qh_base.specs.declared.memory.Memory.{Memory as OutOfMemory}
@@ -9,8 +9,10 @@ use Rattle.qh_conn.specs.Same.{IsSameConnection}
 use Rattle.qh_conn.specs.Telling.{IsTimedOut}
 use Rattle.qh_conn.specs.Whole.{CarriesOnBy, IsWhole}
 use Rattle.qh_core.specs.Inner.{is_open}
+use Rattle.qh_handshake.specs.declared.handshake.Handshake.{Handshake}
 use Rattle.qh_packet.specs.Session.{plain_accepts, plain_sealed}
 use Rattle.qh_peers.specs.Ends.{IsHonestEnd}
+use Rattle.qh_peers.specs.Greets.{AreInitialsSealed, CanBeGreeted}
 use Rattle.qh_spec.specs.declared.link.Event.{Event}
 use Rattle.qh_spec.specs.declared.link.Event.TheVariants.{Sent, Given}
 use Rattle.qh_spec.specs.declared.sides.Side.{Side}
@@ -63,17 +65,23 @@ pub record KeepsCounts (c d : End) : Type 0 where
   pub opened : (n : ℕ) → HasOpenedCount n c → HasOpenedCount n d
   pub accepted : (n : ℕ) → HasAcceptedCount n c → HasAcceptedCount n d
 
--- A call at this moment leaves those counts, and the idle time, which it may restart, but for what the peer's hello makes of it; and the end
--- isn't lost by its idle time.
+-- A call at this moment leaves those counts, and the idle time, which it may restart, but for what the peer's hello makes of it; the end isn't
+-- lost by its idle time; and one that was greeted still is.
 pub record IsUndisturbedBy (now : Moment) (c d : End) : Type 0 where
   pub counts : KeepsCounts c d
   pub times : (own : Option Span) → IsTimedBy own c → IsTimedBy own d
   pub since : (d.core.idle.since ≡ c.core.idle.since) ⊎ (d.core.idle.since ≡ now)
   pub timed_out : d.core.error ≡ Some lost.TimedOut → c.core.error ≡ Some lost.TimedOut
+  pub known : is_some c.handshake.peer ≡ true → is_some d.handshake.peer ≡ true
 
 -- an honest end is honest behind what calls did that handed no datagram in, and is no less so to a peer
 abbrev pub KeepsHonest : (old new : End) → List Act → Type 0
 KeepsHonest old new acts = (hello : List ℕ) (t : List Act) → IsHonestEnd plain_accepts plain_sealed hello old t → IsHonestEnd plain_accepts plain_sealed hello new (t ++ acts)
+
+-- a peer that can greet the end still can, and Initial packets that it handed out in these acts have the tags that are made for them
+pub record KeepsGreetable (old new : End) (acts : List Act) : Type 0 where
+  pub can : (peer : Handshake) → CanBeGreeted old.handshake peer → CanBeGreeted new.handshake peer
+  pub sealed : (t : List Act) → AreInitialsSealed (plain_sealed old.core.session) old.core.side t → AreInitialsSealed (plain_sealed old.core.session) old.core.side (t ++ acts)
 
 -- ---- the moments that are due
 
@@ -106,6 +114,7 @@ pub record IsDueDone (now : ℕ) (old new : End) : Type 0 where
   pub kept : (e : ConnectionError) → new.core.error ≡ Some e → (old.core.error ≡ Some e) ⊎ (e ≡ lost.TimedOut)
   pub opens : is_open new.core.state ≡ true → is_open old.core.state ≡ true
   pub honest : is_open new.core.state ≡ true → KeepsHonest old new []
+  pub can : (peer : Handshake) → CanBeGreeted old.handshake peer → CanBeGreeted new.handshake peer
 
 -- What was due was done, or want of memory ended the end.
 pub record IsTicked (now : ℕ) (old new : End) : Type 0 where

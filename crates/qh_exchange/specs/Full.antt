@@ -13,8 +13,8 @@ use Rattle.qh_spec.specs.Turns.{IsWholeTurn}
 use Rattle.qh_spec.specs.Message.{PlainMessage}
 use Rattle.qh_spec.specs.Record.{PlainEntry}
 use Rattle.qh_exchange.specs.Ends.{End}
-use Rattle.qh_exchange.specs.Pair.{PairState, Running}
-use Rattle.qh_exchange.specs.Sound.{IsFirst}
+use Rattle.qh_exchange.specs.Pair.{PairState, Running, id_length}
+use Rattle.qh_exchange.specs.Sound.{IsFirst, WasGreeted}
 use Rattle.qh_exchange.specs.declared.ends.Ids.{Ids}
 
 -- an end was asked for a datagram, and has none to send; or there is none
@@ -56,6 +56,22 @@ pub record IsFullTurn (p : PairState) (events : List Event) : Type 0 where
   pub opened : OpensBy p.ids Server turn.to_server (is_some p.server_end ≡ true)
   pub asks : AsksWhereItMay p.client p.client_end
   pub accepts : HasAcceptedWhatArrived p.server_end
+
+-- each request has a stream, or the peer permits no more, or the connection is closed
+abbrev pub HasAskedWherePermitted : PlainClient → Option End → Type 0
+HasAskedWherePermitted c None = ⊥
+HasAskedWherePermitted c (Some end) = (c.next ≡ length c.requests) ⊎ MayOpenNone end.core
+
+-- each stream that arrived was accepted
+abbrev pub HasAcceptedEachArrived : Option End → Type 0
+HasAcceptedEachArrived None = ⊥
+HasAcceptedEachArrived (Some end) = end.core.space.streams.bi.accepted ≡ end.core.space.streams.bi.arrived
+
+-- If a datagram that greets it was given to the client in these events, it asked wherever its peer permits; and if one was given to the server,
+-- it accepted each stream that arrived. Over an honest link a full turn leaves a pair so that isn't over.
+pub record ActOnceGreeted (p : PairState) (events : List Event) : Type 0 where
+  pub asks : WasGreeted (id_length p) Client events → HasAskedWherePermitted p.client p.client_end
+  pub accepts : WasGreeted (id_length p) Server events → HasAcceptedEachArrived p.server_end
 
 -- the last of these turns was such a one
 pub record EndsInFullTurn (p : PairState) (events : List Event) : Type 0 where

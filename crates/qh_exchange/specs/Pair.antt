@@ -16,7 +16,7 @@ use Rattle.qh_spec.specs.Record.{PlainEntry}
 use Rattle.qh_spec.specs.Transcript.{Act, HandedIn, HandedOut}
 use Rattle.qh_exchange.specs.Ends.{End, Stands}
 use Rattle.qh_exchange.specs.Hellos.{AreGreetedAsSet, AreGreetedFirst}
-use Rattle.qh_exchange.specs.Sound.{AreSound, EndsFairly, IsHeardAt}
+use Rattle.qh_exchange.specs.Sound.{AreSound, EndsFairly, IsGreetedAt, IsHeardAt, WasGreeted}
 use Rattle.qh_exchange.specs.Within.{KeptWithin}
 use Rattle.qh_exchange.specs.declared.ends.Ids.{Ids}
 use Rattle.qh_exchange.specs.declared.error.ExchangeError.{ExchangeError}
@@ -158,6 +158,17 @@ pub record Means (p : PairState) (events : List Event) (before entries : List Pl
       → IsRecordedAnswer (id_length p) events entries index answer
   pub as_set : AreGreetedAsSet (id_length p) p.config events
   pub greeted_first : AreGreetedFirst (id_length p) events
+
+-- If a datagram that greets it was given to the client, the client's end is there and knows its peer; and so it is of the server. Over an honest
+-- link this holds of a pair that isn't over.
+pub record AreGreeted (p : PairState) (events : List Event) : Type 0 where
+  pub client : WasGreeted (id_length p) Client events → IsGreetedAt p.client_end
+  pub server : WasGreeted (id_length p) Server events → IsGreetedAt p.server_end
+
+-- an end that knew its peer still does
+pub record KeepsGreeted (old new : PairState) : Type 0 where
+  pub client : IsGreetedAt old.client_end → IsGreetedAt new.client_end
+  pub server : IsGreetedAt old.server_end → IsGreetedAt new.server_end
 
 -- The STREAM and RESET_STREAM frames of each datagram that was sent kept within what was announced to its sender before, over any link whose
 -- whole hellos are such as the ends say.

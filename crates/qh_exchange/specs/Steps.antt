@@ -8,8 +8,10 @@ use Rattle.qh_conduct.specs.Restarting.{IsCounting}
 use Rattle.qh_conn.specs.Whole.{Stands as ConnStands}
 use Rattle.qh_conn.specs.declared.config.ConnConfig.{ConnConfig}
 use Rattle.qh_core.specs.Inner.{is_open, with_streams}
+use Rattle.qh_handshake.specs.declared.handshake.Handshake.{Handshake}
 use Rattle.qh_packet.specs.Session.{plain_accepts, plain_sealed}
 use Rattle.qh_peers.specs.Ends.{IsHonestEnd}
+use Rattle.qh_peers.specs.Greets.{CanBeGreeted, IsGreeting}
 use Rattle.qh_roles.specs.Client.{PlainClient, Asking, HasOpened}
 use Rattle.qh_roles.specs.Going.{WentFrom}
 use Rattle.qh_roles.specs.Server.{PlainServer, HasAccepted, ServerStep}
@@ -22,7 +24,7 @@ use Rattle.qh_spec.specs.Honest.{IsHonest}
 use Rattle.qh_spec.specs.Link.{given_to, other, told}
 use Rattle.qh_spec.specs.Lists.{In}
 use Rattle.qh_spec.specs.Record.{PlainEntry}
-use Rattle.qh_spec.specs.Transcript.{Act, handed_in, handed_out}
+use Rattle.qh_spec.specs.Transcript.{Act, HandedIn, handed_in, handed_out}
 use Rattle.qh_spec.specs.Turns.{IsIntake, IsOutput}
 use Rattle.qh_exchange.specs.Clock.{HasTimedOut}
 use Rattle.qh_exchange.specs.EndCalls.{HasAcceptedCount, HasOpenedCount, HasWaited, IsDueDone, IsPolledOut, IsUndisturbedBy, KeepsCounts}
@@ -30,8 +32,8 @@ use Rattle.qh_exchange.specs.Ends.{End, HasKept, IsEndOf, Stands, first_destinat
 use Rattle.qh_exchange.specs.Error.{error_of_loss}
 use Rattle.qh_exchange.specs.Exchange.{IfTimedOut}
 use Rattle.qh_exchange.specs.Full.{IsSentOut, OpensBy}
-use Rattle.qh_exchange.specs.Pair.{IsRunning, IsRunningSoundly, IsToldIf, PairState, told_acts}
-use Rattle.qh_exchange.specs.Sound.{AreBy, AreSoundEnds}
+use Rattle.qh_exchange.specs.Pair.{IsRunning, IsRunningSoundly, IsToldIf, KeepsGreeted, PairState, told_acts}
+use Rattle.qh_exchange.specs.Sound.{AreBy, AreSoundEnds, AreTwo, IsGreetedAt, IsGreetedBehind}
 use Rattle.qh_exchange.specs.Timed.{IsTimedBy}
 use Rattle.qh_exchange.specs.Turn.{IsNotLost}
 use Rattle.qh_exchange.specs.declared.ends.Ids.{Ids}
@@ -50,7 +52,8 @@ is_done (Err e) = false
 
 -- ---- one end
 
--- an end that opened at this moment, and did nothing yet
+-- An end that opened at this moment, and did nothing yet. A server sends to the client's id, so the client can greet it; a client knows no id of
+-- its server's yet, so any server can.
 pub record IsNewEnd (side : Side) (ids : Ids) (config : ConnConfig) (now : Moment) (c : End) : Type 0 where
   pub of : IsEndOf side ids config c
   pub hello : List ℕ
@@ -67,6 +70,7 @@ pub record IsNewEnd (side : Side) (ids : Ids) (config : ConnConfig) (now : Momen
   pub timed : IsTimedBy config.idle c
   pub not_lost : c.core.error ≡ None
   pub up : is_open c.core.state ≡ true
+  pub can : (peer : Handshake) → (side ≡ Server → peer.local_id ≡ ids.client) → CanBeGreeted c.handshake peer
 
 -- acts that no writer and no reader of a stream sees
 abbrev pub IsQuiet : List Act → Type 0
@@ -92,12 +96,24 @@ abbrev pub IsRestartedAt : Moment → Option End → Type 0
 IsRestartedAt now None = ⊥
 IsRestartedAt now (Some d) = d.core.idle.since ≡ now
 
--- What more events leave of two sound ends, whose other one did nothing meanwhile: they are sound; and a datagram that counts restarted the
--- idle time.
+-- What a datagram of its peer's leaves of one of two ends: they are two ends still; one that counts restarts the idle time, and by one that greets
+-- it the end is greeted.
+pub record IsTakenFrom (now : Moment) (c d q : End) (datagram : List ℕ) (t u : List Act) : Type 0 where
+  pub ends : AreTwo d q (t ++ HandedIn datagram ∷ []) u
+  pub restarted : IsCounting (length c.core.local_id) q.core.side (handed_in t) datagram → d.core.idle.since ≡ now
+  pub greeted : IsGreeting (length c.core.local_id) q.core.side (handed_in t) datagram → is_some d.handshake.peer ≡ true
+
+-- so it does of whichever end handed it out
+abbrev pub TakesFrom : Moment → (c d : End) → (datagram : List ℕ) → Type 0
+TakesFrom now c d datagram = (q : End) (t u : List Act) → AreTwo c q t u → In datagram (handed_out u) → IsTakenFrom now c d q datagram t u
+
+-- What more events leave of two sound ends, whose other one did nothing meanwhile: they are sound; a datagram that counts restarted the idle
+-- time, and by one that greets it the end was greeted.
 pub record StaysSound (now : Moment) (side : Side) (ids : Ids) (config : ConnConfig) (new peer : Option End) (t acts u : List Act) (more : List Event) : Type 0 where
   pub ends : AreSoundEnds side ids config new peer (t ++ acts) u
   pub restarted : (before after : List Event) (datagram : List ℕ) → more ≡ before ++ Given side datagram ∷ after
       → IsCounting (length (own_id side ids)) (other side) (handed_in t ++ given_to side before) datagram → IsRestartedAt now new
+  pub greeted : IsGreetedBehind (length (own_id side ids)) side (handed_in t) more → IsGreetedAt new
 
 -- so it is where the call went well, and the link gave the end only what its peer handed out
 abbrev pub KeepsSound : (is_whole : Bool) → Moment → Side → Ids → ConnConfig → (old new : Option End) → (t acts : List Act) → List Event → Type 0
@@ -112,7 +128,8 @@ pub record Did (is_whole : Bool) (now : Moment) (side : Side) (ids : Ids) (confi
   pub told : IsToldIf is_whole side more acts
   pub sound : KeepsSound is_whole now side ids config old new t acts more
 
--- an end went on at this moment by what the link tells more, which is of this kind; the other end did nothing meanwhile
+-- An end went on at this moment by what the link tells more, which is of this kind, and knows its peer if it did; the other end did nothing
+-- meanwhile.
 pub record EndStep (is_whole : Bool) (now : Moment) (side : Side) (ids : Ids) (config : ConnConfig) (old new : Option End) (before after : Option (List Event)) (Kind : List Event → Type 0) : Type 0 where
   pub more : List Event
   pub told_is : after ≡ told before more
@@ -120,6 +137,7 @@ pub record EndStep (is_whole : Bool) (now : Moment) (side : Side) (ids : Ids) (c
   pub silent : told_acts (other side) more ≡ []
   pub does : (t : List Act) → Stands side ids config old t → Did is_whole now side ids config old new t more
   pub undisturbed : IsEndUndisturbed is_whole now config.idle old new
+  pub known : IsGreetedAt old → IsGreetedAt new
 
 -- why an end is lost over an honest link
 abbrev pub IsLostFairly : (now : ℕ) → ConnectionError → Option End → Type 0
@@ -145,6 +163,7 @@ pub record EndTicked (now : ℕ) (side : Side) (old new : Option End) : Type 0 w
   pub due : IsDueDoneAt now old new
   pub stands : (ids : Ids) (config : ConnConfig) (t : List Act) → Stands side ids config old t → Stands side ids config new t
   pub counts : KeepsCountsAt old new
+  pub known : IsGreetedAt old → IsGreetedAt new
 
 -- ---- a pair
 
@@ -169,7 +188,7 @@ pub record HasRun (p : PairState) : Type 0 where
   pub counted : p.is_over ≡ false → IsCounted p
   pub places : length p.client.answers ≡ length p.client.requests
 
--- the same pair, with the same requests and settings
+-- the same pair, with the same requests and settings, whose ends know their peers if they did
 pub record IsSamePair (old new : PairState) : Type 0 where
   pub requests : new.client.requests ≡ old.client.requests
   pub places : length new.client.answers ≡ length old.client.answers
@@ -177,6 +196,7 @@ pub record IsSamePair (old new : PairState) : Type 0 where
   pub config : new.config ≡ old.config
   pub limits : new.server.limits ≡ old.server.limits
   pub over : new.is_over ≡ old.is_over
+  pub known : KeepsGreeted old new
 
 -- a pair went on at this moment by what the link and the service tell more, which is of this kind
 pub record PairStep (now : ℕ) (is_whole : Bool) (old new : PairState) (before after : Option (List Event)) (served_before served_after : List PlainEntry) (Kind : List Event → Type 0) : Type 0 where

@@ -2,30 +2,27 @@ ghost use Rattle.std.specs.Prelude.{◌≡◌, ◌≤◌, ◌<◌, ◌^◌, ◌+
 ghost use Rattle.qh_base.specs.declared.connection_error.ConnectionError.TheVariants.{Memory as OutOfMemory, TimedOut};
 ghost use Rattle.qh_base.specs.declared.time.Span.{Span as ASpan};
 ghost use Rattle.qh_conduct.specs.Calls.{ToldTheSame};
-ghost use Rattle.qh_conduct.specs.Restarting.{IsCounting};
 ghost use Rattle.qh_conn.specs.Outgoing.{IsSilent, IsStill};
 ghost use Rattle.qh_conn.specs.Whole.{IsWhole};
 ghost use Rattle.qh_conn.specs.declared.config.ConnConfig.{ConnConfig as AConfig};
 ghost use Rattle.qh_conn.specs.declared.connection.Connection.{Connection as AConnection};
 ghost use Rattle.qh_core.specs.Inner.{is_open};
 ghost use Rattle.qh_exchange.specs.Clock.{IsEndClocked, IsTimedOutAt};
-ghost use Rattle.qh_exchange.specs.EndCalls.{IsMadeBy, IsPolledOut, IsTicked, IsUndisturbedBy, KeepsHonest, polled_acts};
-ghost use Rattle.qh_exchange.specs.Ends.{IsWholeAt, Stands, first_destination, key_of, own_id};
+ghost use Rattle.qh_exchange.specs.EndCalls.{IsMadeBy, IsPolledOut, IsTicked, IsUndisturbedBy, KeepsGreetable, KeepsHonest, polled_acts};
+ghost use Rattle.qh_exchange.specs.Ends.{IsWholeAt, Stands, first_destination, own_id};
 ghost use Rattle.qh_exchange.specs.Exchange.{IfLink};
 ghost use Rattle.qh_exchange.specs.Full.{IsSentOut, OpensBy, ToldAsBefore};
-ghost use Rattle.qh_exchange.specs.Sound.{AreSoundEnds, IsFirst, IsHeardAt};
-ghost use Rattle.qh_exchange.specs.Steps.{Did, EndStep, EndTicked, IsEndUndisturbed, IsLinkError, IsLostFairly, IsNewEnd, is_done};
+ghost use Rattle.qh_exchange.specs.Sound.{AreSoundEnds, IsFirst, IsGreetedAt, IsHeardAt};
+ghost use Rattle.qh_exchange.specs.Steps.{Did, EndStep, EndTicked, IsEndUndisturbed, IsLinkError, IsLostFairly, IsNewEnd, TakesFrom, is_done};
 ghost use Rattle.qh_exchange.specs.Turn.{AddsFault, IsLostWith, IsNotLost, has_link_failed};
 ghost use Rattle.qh_exchange.specs.declared.ends.Ids.{Ids as TheIds};
-ghost use Rattle.qh_packet.specs.Session.{PlainKeys, plain_accepts, plain_sealed};
-ghost use Rattle.qh_peers.specs.Ends.{AreTwoEnds};
+ghost use Rattle.qh_packet.specs.Session.{PlainKeys};
 ghost use Rattle.qh_spec.specs.declared.link.Event.{Event};
 ghost use Rattle.qh_spec.specs.declared.link.Event.TheVariants.{Given};
 ghost use Rattle.qh_spec.specs.declared.sides.Side.{Side as ASide};
 ghost use Rattle.qh_spec.specs.declared.sides.Side.TheVariants.{Client as TheClient};
 ghost use Rattle.qh_spec.specs.Fault.{CountsFaults};
-ghost use Rattle.qh_spec.specs.Lists.{In};
-ghost use Rattle.qh_spec.specs.Transcript.{Act, HandedIn, handed_in, handed_out};
+ghost use Rattle.qh_spec.specs.Transcript.{Act, HandedIn};
 ghost use Rattle.qh_spec.specs.Turns.{IsIntake, IsOutput};
 
 use crate::{ExchangeError, Link, MAX_DATAGRAM};
@@ -34,7 +31,7 @@ use qh_conduct::permits;
 use qh_conn::{ConnConfig, Connection, same_connection};
 use qh_converse::converses;
 use qh_packet::{InitialForm, PlainSession};
-use qh_peers::{honest_ends, says_its_own, two_ends};
+use qh_peers::{can_greet, greets, honest_ends, initials_sealed, says_its_own, two_ends};
 use std::alloc::Global;
 use std::net::{IpAddr, Ipv4Addr, SocketAddr};
 
@@ -115,6 +112,7 @@ pub(crate) fn open_end(
 {
     says_its_own::<PlainSession>();
     honest_ends::<PlainSession>();
+    can_greet::<PlainSession>();
     converses::<PlainSession>();
     let session = PlainSession::new(opening.ids.key, name.as_bytes())?;
     let (local, remote) = ids_from(side, &opening.ids);
@@ -226,6 +224,7 @@ fn hand_in(
     ensures does { (t : List Act) → Stands side opening.now.ids opening.now.config slot.old t
         → Did (is_done result) now side opening.now.ids opening.now.config slot.old slot.new t (Given side datagram.now ∷ []) }
     ensures undisturbed { IsEndUndisturbed (is_done result) now opening.now.config.idle slot.old slot.new }
+    ensures known { IsGreetedAt slot.old → IsGreetedAt slot.new }
     ensures open { is_some slot.old ≡ true → is_some slot.new ≡ true }
     ensures opens { is_done result ≡ true → IsFirst opening.now.ids datagram.now → is_some slot.new ≡ true }
     ensures whole { IsWholeAt slot.new }
@@ -269,15 +268,16 @@ fn hand_to(end: &mut End, now: Moment, datagram: &[u8]) -> Result<(), Memory>
     ensures made { IsMadeBy end.old end.new (HandedIn datagram.now ∷ []) }
     ensures undisturbed { OnOk result (IsUndisturbedBy now end.old end.new) }
     ensures lost { OnErr result (end.new.core.error ≡ Some OutOfMemory) }
-    ensures two { OnOk result ((hello peer_hello : List ℕ) (q : AConnection PlainKeys) (tc tq : List Act) → AreTwoEnds plain_accepts plain_sealed key_of hello peer_hello end.old q tc tq → In datagram.now (handed_out tq)
-        → AreTwoEnds plain_accepts plain_sealed key_of hello peer_hello end.new q (tc ++ HandedIn datagram.now ∷ []) tq
-        × (IsCounting (length end.old.core.local_id) q.core.side (handed_in tc) datagram.now → end.new.core.idle.since ≡ now)) }
+    ensures two { OnOk result (TakesFrom now end.old end.new datagram.now) }
 {
     end.session().key_id();
     qh_packet::plain_tags();
     qh_conduct::plain_tags();
     converses::<PlainSession>();
     two_ends::<PlainSession>();
+    initials_sealed::<PlainSession>();
+    can_greet::<PlainSession>();
+    greets::<PlainSession>();
     end.handle_datagram(now, datagram)
 }
 
@@ -341,6 +341,7 @@ fn run_timers(end: &mut End, now: Moment)
     end.core.is_owed();
     converses::<PlainSession>();
     honest_ends::<PlainSession>();
+    can_greet::<PlainSession>();
     let _ = end.handle_timeout(now);
 }
 
@@ -415,6 +416,7 @@ fn has_next(end: &mut End, now: Moment, datagram: &mut Vec<u8>) -> Result<bool, 
     ensures told { OnOk result (ToldTheSame end.old.core.space.streams end.new.core.space.streams) }
     ensures none { IfOk result (λ found. found ≡ false → IsStill end.old end.new × IsSilent end.old) }
     ensures honest { OnOk result (KeepsHonest end.old end.new (polled_acts datagram.new.items result)) }
+    ensures greets { OnOk result (KeepsGreetable end.old end.new (polled_acts datagram.new.items result)) }
     ensures first { IfOk result (λ found. found ≡ true → (ids : TheIds) → end.old.core.side ≡ TheClient → end.old.core.local_id ≡ ids.client → end.old.handshake.remote_id ≡ ids.key → end.old.handshake.peer ≡ None
         → IsFirst ids datagram.new.items) }
 {
@@ -422,6 +424,8 @@ fn has_next(end: &mut End, now: Moment, datagram: &mut Vec<u8>) -> Result<bool, 
     qh_packet::plain_tags();
     converses::<PlainSession>();
     honest_ends::<PlainSession>();
+    initials_sealed::<PlainSession>();
+    can_greet::<PlainSession>();
     permits::<PlainSession>();
     datagram.clear();
     let transmit = end.poll_transmit(now, datagram)?;

@@ -4,10 +4,10 @@ ghost use Rattle.qh_conn.specs.declared.config.ConnConfig.{ConnConfig as AConfig
 ghost use Rattle.qh_exchange.specs.Clock.{HasPassed, HasTimedOut, IsClocked, RunsByTheClock};
 ghost use Rattle.qh_exchange.specs.Ends.{End as AnEnd};
 ghost use Rattle.qh_exchange.specs.Exchange.{IfLink, IfProtocol, IfTimedOut};
-ghost use Rattle.qh_exchange.specs.Pair.{PairState, Running, GoesOn, IsFair, IsRunningSoundly, Means, KeepWithin, id_length};
+ghost use Rattle.qh_exchange.specs.Pair.{AreGreeted, PairState, Running, GoesOn, IsFair, IsRunningSoundly, KeepsGreeted, Means, KeepWithin, id_length};
 ghost use Rattle.qh_exchange.specs.Hellos.{AreGreetedAsSet, AreSaidAsSet, HaveIdsOfLength, LeaveIdleTime};
 ghost use Rattle.qh_exchange.specs.Settings.{conn_config, limits_of, whole_idle};
-ghost use Rattle.qh_exchange.specs.Full.{AsksWhereItMay, HasAcceptedWhatArrived, IsFullTurn, ToldAsBefore};
+ghost use Rattle.qh_exchange.specs.Full.{ActOnceGreeted, AsksWhereItMay, HasAcceptedWhatArrived, IsFullTurn, ToldAsBefore};
 ghost use Rattle.qh_exchange.specs.Sound.{EndsFairly, last_of};
 ghost use Rattle.qh_exchange.specs.Steps.{AreIntakes, AreNotLost, AreOutputs, AreTicking, BeginsAt, ClientPolled, IsCounted, IsLastOf, IsLinkError, IsOnSide, IsOpen, IsStill, KeepsTicking, PairStep, ServerPolled, TicksOn, ended_by, is_done};
 ghost use Rattle.qh_exchange.specs.Turn.{Adds, AddsFault, IsNotLost, IsProtocolLoss, IsTurnError, has_link_failed};
@@ -70,13 +70,21 @@ impl Model for Pair {
 /// What a pair means that stands where these events and entries leave it.
 ///
 /// Over an honest link (`honest`): what it served and what it holds; that each hello which came says what the settings do; and that both ends
-/// were greeted before either sent a 1-RTT packet. Over any link each hello that an end sent says so (`said`). If no hello came that has an id of
-/// another length, what was sent in STREAM and RESET_STREAM frames kept within what was announced to its sender before (`within`). If none came
-/// that puts a shorter idle time in force, an end that timed out waited for that of the settings, rounded down to whole milliseconds
-/// (`timed_out`). Hellos that say what the settings do are such (`fitting`).
+/// were greeted before either sent a 1-RTT packet. Of a pair that isn't over an end knows its peer, over such a link, once a datagram was given to it
+/// that greets it: one with an Initial packet of the other's that has a CRYPTO frame, and a number below 2^31 that is above all those that came
+/// before (`greeted`; where a turn fails, each end that knew its peer before still does, by `known` of `turn`). So behind a full turn a client to
+/// which one was given has asked wherever its peer permits, and a server to which one was given has accepted each stream that arrived (`full`).
+/// Over any link each hello that an end sent says what the settings do (`said`). If no hello came that has an id of another length, what was sent
+/// in STREAM and RESET_STREAM frames kept within what was announced to its sender before (`within`). If none came that puts a shorter idle time in
+/// force, an end that timed out waited for that of the settings, rounded down to whole milliseconds (`timed_out`). Hellos that say what the
+/// settings do are such (`fitting`).
 pub fn pairs()
     ensures honest { (p : PairState) (events : List Event) (before entries : List PlainEntry) → IsHonest events → Running p events entries
         → Means p events before entries }
+    ensures greeted { (p : PairState) (events : List Event) (entries : List PlainEntry) → p.is_over ≡ false → IsHonest events → Running p events entries
+        → AreGreeted p events }
+    ensures full { (p : PairState) (events turn : List Event) (entries : List PlainEntry) → p.is_over ≡ false → IsHonest events → Running p events entries → IsFullTurn p turn
+        → ActOnceGreeted p events }
     ensures within { (p : PairState) (events : List Event) (entries : List PlainEntry) → HaveIdsOfLength (id_length p) events → Running p events entries
         → KeepWithin (id_length p) events }
     ensures said { (p : PairState) (events : List Event) (entries : List PlainEntry) → Running p events entries → AreSaidAsSet (id_length p) p.config events }
@@ -163,6 +171,8 @@ impl Pair {
         ensures requests { self.new.client.requests ≡ self.old.client.requests }
         ensures fair { IsFair self.old (L.events link.old) (L.events link.new) result }
         ensures settings { (self.new.config ≡ self.old.config) × (self.new.ids ≡ self.old.ids) × (self.new.server.limits ≡ self.old.server.limits) }
+        // Also where the turn fails, an end that knew its peer still does.
+        ensures known { KeepsGreeted self.old self.new }
         ensures done { IfOk result (λ done. IsTrue done ↔ held self.new.client.answers ≡ length self.new.client.requests) }
         ensures turned { IfOk result (λ _. Adds (IsFullTurn self.new) (L.events link.old) (L.events link.new)) }
         ensures round { IfOk result (λ _. (moment : ℕ) × (L.moments link.new ≡ L.moments link.old ++ moment ∷ [])) }

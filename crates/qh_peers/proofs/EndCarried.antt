@@ -6,12 +6,11 @@ use Rattle.qh_core.specs.Made.{AcceptsTags, MakesTagsOf}
 use Rattle.qh_handshake.specs.Peers.{KnowsIds}
 use Rattle.qh_handshake.specs.declared.handshake.Handshake.{Handshake}
 use Rattle.qh_hello.specs.declared.transport_parameters.TransportParameters.{TransportParameters}
-use Rattle.qh_peers.specs.Ends.{AreTwoEnds, IsHonestEnd}
+use Rattle.qh_peers.specs.Ends.{AreTwoEnds, ComesFromOrRetry, IsHonestEnd}
 use Rattle.qh_spec.proofs.Members.{in_left, in_split}
 use Rattle.qh_spec.proofs.TranscriptLaws.{handed_in-append, handed_out-append}
 use Rattle.qh_spec.specs.Link.{other}
 use Rattle.qh_spec.specs.Lists.{In}
-use Rattle.qh_spec.specs.Parted.{CameFrom}
 use Rattle.qh_spec.specs.Transcript.{Act, handed_in, handed_out}
 use Rattle.qh_spec.specs.declared.sides.Side.{Side}
 use Rattle.qh_spec.specs.declared.sides.Side.TheVariants.{Client, Server}
@@ -27,18 +26,21 @@ said_ids own old new Client says ids =
     (ap (λ (p : TransportParameters). p.original_destination_connection_id) says ∙ ids.0, ap (λ (p : TransportParameters). p.retry_source_connection_id) says ∙ ids.1)
 said_ids own old new Server says ids = ids
 
-both_came : (t acts u : List Act) → CameFrom t u → CameFrom acts u → CameFrom (t ++ acts) u
+both_came : (t acts u : List Act) → ComesFromOrRetry t u → ComesFromOrRetry acts u → ComesFromOrRetry (t ++ acts) u
 both_came t acts u before after d there = elim (in_split d (handed_in t) (handed_in acts) (subst (λ (z : List (List ℕ)). In d z) (handed_in-append t acts) there)) [
   | inl i ↦ before d i
   | inr i ↦ after d i
 ]
 
-more_went : (t acts u : List Act) → CameFrom u t → CameFrom u (t ++ acts)
-more_went t acts u went d there = subst (λ (z : List (List ℕ)). In d z) (sym (handed_out-append t acts)) (in_left d (handed_out t) (handed_out acts) (went d there))
+more_went : (t acts u : List Act) → ComesFromOrRetry u t → ComesFromOrRetry u (t ++ acts)
+more_went t acts u went d there = elim (went d there) [
+  | inl i ↦ inl (subst (λ (z : List (List ℕ)). In d z) (sym (handed_out-append t acts)) (in_left d (handed_out t) (handed_out acts) i))
+  | inr r ↦ inr r
+]
 
 module _ {S : Type 0} (accepts : AcceptsTags S) (sealed : MakesTagsOf S) (key : S → List ℕ) where
   pub carried : (own_hello peer_hello : List ℕ) (c q new : Connection S) (tc tq acts : List Act) → AreTwoEnds accepts sealed key own_hello peer_hello c q tc tq → IsSameConnection key c new
-      → new.handshake.retry_id ≡ c.handshake.retry_id → CameFrom acts tq → IsHonestEnd accepts sealed own_hello new (tc ++ acts) → AreTwoEnds accepts sealed key own_hello peer_hello new q (tc ++ acts) tq
+      → new.handshake.retry_id ≡ c.handshake.retry_id → ComesFromOrRetry acts tq → IsHonestEnd accepts sealed own_hello new (tc ++ acts) → AreTwoEnds accepts sealed key own_hello peer_hello new q (tc ++ acts) tq
   carried own_hello peer_hello c q new tc tq acts e same retry comes honest = record {
     own = honest;
     peer = e.peer;

@@ -80,7 +80,7 @@ module _ {S : Type 0} (accepts : AcceptsTags S) (sealed : MakesTagsOf S) (key : 
   fed_shakes now rest h retried learned end taken =
       let on = taken_goes (accepts c.core.session) now d rest c.handshake h retried learned end taken in
       let old = shakes accepts sealed key own_hello peer_hello c q tc tq e in
-      let retry = taken_retry (accepts c.core.session) now d rest c.handshake h retried learned end (unretried c.handshake) taken in
+      let retry = taken_retry (accepts c.core.session) now d rest c.handshake h retried learned end (λ _ source token _. unretried c.handshake source token) taken in
       record {
         side_is = old.side_is ∙ ap other (sym on.side);
         peer_whole = old.peer_whole;

@@ -1,11 +1,12 @@
 -- An end to which a 1-RTT packet of its honest peer's comes was greeted.
-use Rattle.std.proofs.Common.{◌≡◌, ℕ, ◌+◌, true, List, [], ◌∷◌, ◌++◌, length, slice_get, Some, is_some, refl, sym, ap, subst, ◌∙◌, inl, inr}
+use Rattle.std.proofs.Common.{◌≡◌, ◌⊎◌, ℕ, ◌+◌, true, List, [], ◌∷◌, ◌++◌, length, slice_get, Some, is_some, refl, sym, ap, subst, ◌∙◌, inl, inr}
 use Rattle.qh_conn.specs.declared.connection.Connection.{Connection}
 use Rattle.qh_converse.proofs.ShakeLaws.{short_behind}
 use Rattle.qh_core.specs.Made.{AcceptsTags, MakesTagsOf}
 use Rattle.qh_peers.proofs.EndKinds.{greeted_or, greeted_out, kind, where_out}
 use Rattle.qh_peers.proofs.EndPeers.{peer_length_back, sides, sides_back}
-use Rattle.qh_peers.specs.Ends.{AreTwoEnds}
+use Rattle.qh_peers.proofs.RetryPackets.{none_has_none, retry_of_none}
+use Rattle.qh_peers.specs.Ends.{AreTwoEnds, ComesFromOrRetry, IsRetry}
 use Rattle.qh_spec.proofs.Members.{in_left}
 use Rattle.qh_spec.proofs.PartLaws.{alone_has_none}
 use Rattle.qh_spec.proofs.TranscriptLaws.{handed_in-append}
@@ -36,18 +37,20 @@ came_before : (before after : List Act) (x : List ℕ) → In x (handed_in befor
 came_before before after x i = subst (λ (z : List (List ℕ)). In x z) (sym (handed_in-append before after)) (in_left x (handed_in before) (handed_in after) i)
 
 module _ {S : Type 0} (accepts : AcceptsTags S) (sealed : MakesTagsOf S) (key : S → List ℕ) (own_hello peer_hello : List ℕ) (c q : Connection S) (tc tq : List Act) (e : AreTwoEnds accepts sealed key own_hello peer_hello c q tc tq) where
-  -- an end that handed out a datagram with a 1-RTT packet was greeted
-  data_greeted : (k : ℕ) (p : Packet) (g : List ℕ) → In g (handed_out tc) → HasPacket k p g → p.space ≡ Data → is_some c.handshake.peer ≡ true
-  data_greeted k p g i has space = elim (kind accepts sealed key own_hello c tc e.own g i) [
+  -- an end that handed out a datagram with a 1-RTT packet was greeted; a Retry packet has none
+  data_greeted : (k : ℕ) (p : Packet) (g : List ℕ) → In g (handed_out tc) ⊎ IsRetry g → HasPacket k p g → p.space ≡ Data → is_some c.handshake.peer ≡ true
+  data_greeted k p g (inl i) has space = elim (kind accepts sealed key own_hello c tc e.own g i) [
     | inl (alone, _) ↦ absurd (alone_has_none k p g alone has space)
     | inr (_, there) ↦ greeted_out accepts sealed key own_hello c tc e.own g there
   ]
+  data_greeted k p g (inr r) has space = absurd (none_has_none k p g (retry_of_none g r) has)
 
   -- a CRYPTO frame that came was handed out by the handshake
-  crypto_out : (k from : ℕ) (payload : List ℕ) (side : Side) (t : List Act) → ((g : List ℕ) → In g (handed_in t) → In g (handed_out tc)) → HasCrypto k (handed_in t) side from payload
+  crypto_out : (k from : ℕ) (payload : List ℕ) (side : Side) (t : List Act) (has : HasCrypto k (handed_in t) side from payload) → In has.of.datagram (handed_out tc) ⊎ IsRetry has.of.datagram
       → HasCrypto k (handed_out e.own.stands.shake) side from payload
-  crypto_out k from payload side t came has =
-      elim (kind accepts sealed key own_hello c tc e.own has.of.datagram (came has.of.datagram has.of.among)) [
+  crypto_out k from payload side t has (inr r) = absurd (none_has_none k has.of.packet has.of.datagram (retry_of_none has.of.datagram r) has.of.has)
+  crypto_out k from payload side t has (inl i) =
+      elim (kind accepts sealed key own_hello c tc e.own has.of.datagram i) [
         | inl (_, there) ↦ record {
           of = record { datagram = has.of.datagram; among = there; packet = has.of.packet; has = has.of.has; space_is = has.of.space_is; sender_is = has.of.sender_is };
           frame_among = has.frame_among;
@@ -56,16 +59,16 @@ module _ {S : Type 0} (accepts : AcceptsTags S) (sealed : MakesTagsOf S) (key : 
       ]
 
   -- a server whose whole hello came to its client was greeted
-  server_greeted : c.handshake.side ≡ Server → (k : ℕ) (t : List Act) → ((g : List ℕ) → In g (handed_in t) → In g (handed_out tc)) → IsGreeted k (handed_in t) c.handshake.side → is_some c.handshake.peer ≡ true
+  server_greeted : c.handshake.side ≡ Server → (k : ℕ) (t : List Act) → ComesFromOrRetry t tc → IsGreeted k (handed_in t) c.handshake.side → is_some c.handshake.peer ≡ true
   server_greeted server k t came (h, w) = elim (greeted_or c.handshake.peer) [
     | inl some ↦ some
     | inr none ↦
         let byte = w.all 0 (hello_byte h.sender) (first_byte c.handshake.side w.bytes h w.is) in
-        absurd (e.own.stands.follows.unsaid server none k byte.from byte.payload (crypto_out k byte.from byte.payload c.handshake.side t came byte.has))
+        absurd (e.own.stands.follows.unsaid server none k byte.from byte.payload (crypto_out k byte.from byte.payload c.handshake.side t byte.has (came byte.has.of.datagram byte.has.of.among)))
   ]
 
   by_side : (s : Side) → c.handshake.side ≡ s → (k n : ℕ) (before : List Act) (d : List ℕ) → (HasPacketOf n (d ∷ []) q.handshake.side Data → IsGreeted k (handed_in before) (other q.handshake.side))
-      → (q.handshake.side ≡ Server → HasPacketOf n (d ∷ []) q.handshake.side Data → HasPacketOf k (handed_in before) (other q.handshake.side) Data) → ((g : List ℕ) → In g (handed_in before) → In g (handed_out tc))
+      → (q.handshake.side ≡ Server → HasPacketOf n (d ∷ []) q.handshake.side Data → HasPacketOf k (handed_in before) (other q.handshake.side) Data) → ComesFromOrRetry before tc
       → HasPacketOf n (d ∷ []) q.handshake.side Data → is_some c.handshake.peer ≡ true
   by_side Client side k n before d greets connects came has =
       let heard = connects (sides accepts sealed key own_hello peer_hello c q tc tq e ∙ ap other side) has in

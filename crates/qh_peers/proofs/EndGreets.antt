@@ -33,7 +33,7 @@ use Rattle.qh_peers.proofs.EndPeers.{known as known_peer}
 use Rattle.qh_peers.proofs.GreetFrames.{AreOf, HasWhole, packet_whole, read_greets}
 use Rattle.qh_peers.proofs.GreetPackets.{body, opens, opens_as, packet_is}
 use Rattle.qh_peers.specs.Ends.{AreTwoEnds}
-use Rattle.qh_peers.specs.Greets.{AcceptsInitials, AreInitialsSealed, CanBeGreeted, IsGreeting, IsInitialSealed}
+use Rattle.qh_peers.specs.Greets.{AcceptsInitials, CanBeGreeted, IsGreeting, IsInitialSealed}
 use Rattle.qh_recovery.specs.Accepted.{Remembers}
 use Rattle.qh_spec.proofs.PacketLaws.{forms_agree}
 use Rattle.qh_spec.specs.Greeted.{CarriesHello, crypto_frame}
@@ -47,7 +47,7 @@ use Rattle.qh_spec.specs.declared.sides.Side.TheVariants.{Server}
 
 module _ {S : Type 0} (v : SessionView S) (own_hello peer_hello : List ℕ) (c q : Connection S) (tc tq : List Act) (e : AreTwoEnds v.accepts v.sealed v.key own_hello peer_hello c q tc tq)
     (named : NamesTags (v.accepts c.core.session)) (tags : AreTags (v.accepts q.core.session) (v.sealed q.core.session)) (now : Moment) (d : List ℕ) (among : In d (handed_out tq))
-    (takes : AcceptsInitials (v.accepts c.core.session) (v.sealed q.core.session)) (are : AreInitialsSealed (v.sealed q.core.session) q.core.side tq) (can : CanBeGreeted c.handshake q.handshake)
+    (takes : AcceptsInitials (v.accepts c.core.session) (v.sealed q.core.session)) (are : IsInitialAlone d → IsInitialSealed (v.sealed q.core.session) q.core.side d) (can : CanBeGreeted c.handshake q.handshake)
     (g : IsGreeting (length c.core.local_id) q.core.side (handed_in tc) d) where
   -- ---- what it is
 
@@ -58,7 +58,7 @@ module _ {S : Type 0} (v : SessionView S) (own_hello peer_hello : List ℕ) (c q
   ]
 
   abbrev s : IsInitialSealed (v.sealed q.core.session) q.core.side d
-  s = are d among alone.0
+  s = are alone.0
 
   that : (g.packet.number ≡ s.number) × AreQuicFrames s.frames g.packet.frames
   that = packet_is (v.sealed q.core.session) tags.makes q.core.side d s (length c.core.local_id) g.packet d refl g.has g.space_is

@@ -12,6 +12,7 @@ use Rattle.qh_core.specs.declared.config.ConnConfig.{ConnConfig as CoreConfig}
 use Rattle.qh_handshake.proofs.PeerKnown.{same_said, same_source}
 use Rattle.qh_handshake.specs.Peers.{IsPeer, KnowsIds}
 use Rattle.qh_hello.specs.declared.transport_parameters.TransportParameters.{TransportParameters}
+use Rattle.qh_peers.proofs.RetryPackets.{retry_comes}
 use Rattle.qh_peers.specs.Ends.{AreTwoEnds}
 use Rattle.qh_spec.proofs.Bridge.{other_twice}
 use Rattle.qh_spec.specs.Link.{other}
@@ -56,10 +57,12 @@ module _ {S : Type 0} (accepts : AcceptsTags S) (sealed : MakesTagsOf S) (key : 
 
   -- their handshakes are those of two ends
   pub shakes : IsPeer own_hello peer_hello c.handshake q.handshake e.own.stands.shake e.peer.stands.shake
-  shakes = are_peers accepts sealed own_hello peer_hello c.handshake q.handshake c.core q.core c.is_connected q.is_connected tc tq e.own.stands e.peer.stands sides e.peer.whole.sound.handshake ids e.came e.went
+  shakes = are_peers accepts sealed own_hello peer_hello c.handshake q.handshake c.core q.core c.is_connected q.is_connected tc tq e.own.stands e.peer.stands sides e.peer.whole.sound.handshake ids
+      (retry_comes tc tq e.came) (retry_comes tq tc e.went)
 
   pub shakes_back : IsPeer peer_hello own_hello q.handshake c.handshake e.peer.stands.shake e.own.stands.shake
-  shakes_back = are_peers accepts sealed peer_hello own_hello q.handshake c.handshake q.core c.core q.is_connected c.is_connected tq tc e.peer.stands e.own.stands sides_back e.own.whole.sound.handshake ids_back e.went e.came
+  shakes_back = are_peers accepts sealed peer_hello own_hello q.handshake c.handshake q.core c.core q.is_connected c.is_connected tq tc e.peer.stands e.own.stands sides_back e.own.whole.sound.handshake ids_back
+      (retry_comes tq tc e.went) (retry_comes tc tq e.came)
 
   pub turned : AreTwoEnds accepts sealed key peer_hello own_hello q c tq tc
   turned = record {

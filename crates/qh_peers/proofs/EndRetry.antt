@@ -1,9 +1,9 @@
--- Only a Retry packet changes from which id one came.
-use Rattle.std.proofs.Common.{◌≡◌, ℕ, Bool, List, Option, Some, None, refl, ap, ◌∙◌}
+-- Only a Retry packet that is taken changes from which id one came.
+use Rattle.std.proofs.Common.{◌≡◌, ℕ, Bool, List, Option, Some, None, is_some, refl, ap, ◌∙◌}
 use Rattle.qh_base.specs.declared.connection_error.ConnectionError.{ConnectionError}
 use Rattle.qh_base.specs.declared.path.Transmit.{Transmit}
 use Rattle.qh_base.specs.declared.time.Moment.{Moment}
-use Rattle.qh_conn.specs.Incoming.{AreIdsIssued}
+use Rattle.qh_conn.specs.Incoming.{AreIdsIssued, IsClosingHeard, IsDatagramHandled, IsShutConnected}
 use Rattle.qh_conn.specs.Outgoing.{IsDataTransmitted, IsTransmitted}
 use Rattle.qh_conn.specs.Telling.{IsEndpointTold, IsHandshakeTimed, IsTimedOut, IsTold}
 use Rattle.qh_conn.specs.declared.connection.Connection.{Connection}
@@ -11,10 +11,12 @@ use Rattle.qh_conn.specs.declared.event.Event.{Event}
 use Rattle.qh_control.specs.declared.event.EndpointEvent.{EndpointEvent}
 use Rattle.qh_control.specs.declared.event.IssuedCid.{IssuedCid}
 use Rattle.qh_core.specs.Inner.{is_open}
-use Rattle.qh_handshake.specs.Incoming.{ArePacketsTaken, Form, IsDatagramTaken, IsHelloRead, IsInitialTaken, IsRetryFor}
+use Rattle.qh_handshake.specs.Incoming.{ArePacketsTaken, Form, IsDatagramTaken, IsHelloRead, IsInitialTaken, IsRetryFor, MayRetry, SessionView}
 use Rattle.qh_handshake.specs.Moments.{IsTimedOut as IsHandshakeTimedOut}
 use Rattle.qh_handshake.specs.declared.handshake.Handshake.{Handshake}
+use Rattle.qh_handshake.specs.declared.initial_space.InitialSpace.{InitialSpace}
 use Rattle.qh_packet.specs.Session.{AcceptsTag, SealsTag}
+use Rattle.qh_peers.proofs.EndErrors.{steps_know}
 
 read_retry : (old new : Handshake) (learned : Option (List ℕ)) (end : Option ConnectionError) → IsHelloRead old new learned end → new.retry_id ≡ old.retry_id
 read_retry old new _ _ (IsHelloRead.gone _ e) = ap (λ (z : Handshake). z.retry_id) e
@@ -37,11 +39,33 @@ module _ (accepts : AcceptsTag) (now : Moment) where
       packets_retry behind rest mid new later end others ∙ initial_retry f old mid first None one
   packets_retry bytes _ old new learned _ (ArePacketsTaken.ended _ _ _ f _ _ _ e _ one) = initial_retry f old new learned (Some e) one
 
-  pub taken_retry : (d rest : List ℕ) (old new : Handshake) (retried learned : Option (List ℕ)) (end : Option ConnectionError) → ((source token : List ℕ) → IsRetryFor old d source token → ⊥)
+  pub taken_retry : (d rest : List ℕ) (old new : Handshake) (retried learned : Option (List ℕ)) (end : Option ConnectionError) → ((s : InitialSpace) (source token : List ℕ) → MayRetry old s → IsRetryFor old d source token → ⊥)
       → IsDatagramTaken accepts now d old new rest retried learned end → new.retry_id ≡ old.retry_id
-  taken_retry d _ old new _ _ _ none (IsDatagramTaken.retry _ source token _ is _) = absurd (none source token is)
+  taken_retry d _ old new _ _ _ none (IsDatagramTaken.retry space source token may is _) = absurd (none space source token may is)
   taken_retry d _ old new _ _ _ none (IsDatagramTaken.mismatch _ e) = ap (λ (z : Handshake). z.retry_id) e
   taken_retry d _ old new _ _ _ none (IsDatagramTaken.packets rest learned end _ _ taken) = packets_retry d rest _ new learned end taken
+
+-- ---- a datagram
+
+module _ {S : Type 0} where
+  shut_retry : (accepts : AcceptsTag) (rest : List ℕ) (old new : Connection S) → IsShutConnected accepts rest old new → new.handshake.retry_id ≡ old.handshake.retry_id
+  shut_retry accepts rest old new (IsShutConnected.brought _ e) = ap (λ (z : Connection S). z.handshake.retry_id) e
+  shut_retry accepts rest old new (IsShutConnected.still _ e) = ap (λ (z : Connection S). z.handshake.retry_id) e
+
+  closing_retry : (v : SessionView S) (now : Moment) (d : List ℕ) (old new : Connection S) → IsClosingHeard v now d old new → new.handshake.retry_id ≡ old.handshake.retry_id
+  closing_retry v now d old new (IsClosingHeard.initial _ _ e) = ap (λ (z : Connection S). z.handshake.retry_id) e
+  closing_retry v now d old new (IsClosingHeard.ungreeted _ _ _ e) = ap (λ (z : Connection S). z.handshake.retry_id) e
+  closing_retry v now d old new (IsClosingHeard.greeted rest mid _ _ _ _ shut _ e) = ap (λ (z : Connection S). z.handshake.retry_id) e ∙ shut_retry (v.accepts old.core.session) rest _ mid shut
+
+  pub passed_retry : (v : SessionView S) (now : Moment) (d : List ℕ) (old new : Connection S) → ((s : InitialSpace) (source token : List ℕ) → MayRetry old.handshake s → IsRetryFor old.handshake d source token → ⊥)
+      → IsDatagramHandled v now d old new → new.handshake.retry_id ≡ old.handshake.retry_id
+  passed_retry v now d old new none (IsDatagramHandled.closing _ heard) = closing_retry v now d _ new heard
+  passed_retry v now d old new none (IsDatagramHandled.ended mid rest e _ fed _ is) =
+      ap (λ (z : Connection S). z.handshake.retry_id) is ∙ ap (λ (z : Connection S). z.handshake.retry_id) fed.new_is
+      ∙ taken_retry (v.accepts old.core.session) now d rest old.handshake fed.handshake fed.retried fed.learned (Some e) none fed.taken
+  passed_retry v now d old new none (IsDatagramHandled.taken fed restarted met rest _ is again meets takes) =
+      (steps_know (v.accepts met.core.session) now old.handshake (is_some old.handshake.peer) d rest fed restarted met new again meets takes).retry_id
+      ∙ ap (λ (z : Connection S). z.handshake.retry_id) is.new_is ∙ taken_retry (v.accepts old.core.session) now d rest old.handshake is.handshake is.retried is.learned None none is.taken
 
 -- ---- the calls of this end
 

@@ -19,7 +19,7 @@ use Rattle.qh_peers.proofs.EndFedPeers.{fed_token, unended, unreset, unretried}
 use Rattle.qh_peers.proofs.EndKinds.{kind}
 use Rattle.qh_peers.proofs.EndOpen.{HasTokenOf, data_open, data_since, met_open, met_token, no_bytes, nothing_more, restarted_open, whole_open}
 use Rattle.qh_peers.proofs.EndPeers.{known, length_back, turned}
-use Rattle.qh_peers.proofs.EndRetry.{taken_retry}
+use Rattle.qh_peers.proofs.EndRetry.{passed_retry}
 use Rattle.qh_peers.specs.Ends.{AreTwoEnds}
 use Rattle.qh_peers.specs.Ids.{BelongsTo, NoneIsRefusedBehind, NoneIsRefusedIn, SayFewIds, SaysOwnToken}
 use Rattle.qh_spec.specs.Link.{other}
@@ -97,16 +97,15 @@ module _ {S : Type 0} (v : SessionView S) (own_hello peer_hello : List ℕ) (c q
   given_so new (IsDatagramHandled.closing shut _) = let z : true ≡ false = sym e.own.up ∙ shut in cc
   given_so new (IsDatagramHandled.ended mid rest error _ fed _ _) =
       absurd (unended v.accepts v.sealed v.key own_hello peer_hello c q tc tq e named tags d among now fed.handshake rest fed.retried fed.learned error fed.taken)
-  given_so new (IsDatagramHandled.taken fed restarted met rest _ is again meets takes) =
+  given_so new (IsDatagramHandled.taken fed restarted met rest was is again meets takes) =
       let still : is_open met.core.state ≡ true = met_open now (is_some c.handshake.peer) restarted met meets ∙ restarted_open now c fed restarted again ∙ ap (λ (z : Connection S). is_open z.core.state) is.new_is ∙ e.own.up in
       let same = steps_know (v.accepts met.core.session) now c.handshake (is_some c.handshake.peer) d rest fed restarted met new again meets takes in
       let shake : fed.handshake ≡ is.handshake = ap (λ (z : Connection S). z.handshake) is.new_is in
       record {
         error = λ up.
             steps_error (v.accepts met.core.session) now c.handshake (is_some c.handshake.peer) d rest c fed restarted met new (ap (λ (z : Connection S). z.core.error) is.new_is) still up again meets takes;
-        retry_id = same.retry_id ∙ ap (λ (h : Handshake). h.retry_id) shake
-            ∙ taken_retry (v.accepts c.core.session) now d rest c.handshake is.handshake is.retried is.learned None
-            (unretried v.accepts v.sealed v.key own_hello peer_hello c q tc tq e named tags d among c.handshake) is.taken;
+        retry_id = passed_retry v now d c new (λ _ source token _. unretried v.accepts v.sealed v.key own_hello peer_hello c q tc tq e named tags d among c.handshake source token)
+            (IsDatagramHandled.taken fed restarted met rest was is again meets takes);
         known = λ p some.
             let k = fed_token v.accepts v.sealed v.key own_hello peer_hello c q tc tq e named tags d among now rest is.handshake is.retried is.learned None is.taken p
             (sym (ap (λ (h : Handshake). h.peer) shake) ∙ sym same.peer ∙ some) in

@@ -84,6 +84,7 @@ module _ {S : Type 0} where
   pub streams_whole : (c : Connection S) (core : Inner S) → core ≡ with_streams c.core core.space.streams → IsWhole c → IsWhole (record c { core = core })
   streams_whole c core is w = subst (λ (z : Inner S). IsWhole (record c { core = z })) (sym is) (record {
     sound = record { handshake = w.sound.handshake; side_is = w.sound.side_is; id_is = w.sound.id_is; as_long = w.sound.as_long; sendable = w.sound.sendable; ungreeted = w.sound.ungreeted; connected = w.sound.connected };
+    current = w.current;
     client = w.client;
   })
 

@@ -22,5 +22,7 @@ pub mod IdHeard
 pub mod IdQueues
 pub mod IdSent
 pub mod IdSteps
+pub mod RetryPackets
+pub mod RetryTaken
 pub mod ShakeOut
 pub mod TagEnds

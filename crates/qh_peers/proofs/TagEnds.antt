@@ -1,9 +1,10 @@
--- A datagram of an honest end ends with a tag, and so not as a stateless reset does.
+-- A datagram of an honest end ends with a tag, and so not as a stateless reset does; nor does a Retry packet.
 use Rattle.std.proofs.Common.{◌≡◌, ℕ, ◌+◌, ◌-◌, List, [], ◌∷◌, ◌++◌, length, get_or, take, drop, replicate, Option, None, Some, refl, sym, ap, ◌∙◌, arith, length-append, append_assoc}
 use Rattle.std.proofs.lemmas.List.{get_or_at, length-drop, length-replicate, length-take}
 use Rattle.std.specs.Int.{w64, to_be_bytes}
 use Rattle.qh_base.specs.declared.shared.ResetToken.{ResetToken}
 use Rattle.qh_conn.specs.Incoming.{is_reset_by}
+use Rattle.qh_packet.specs.Retry.{retry_tag_of}
 use Rattle.qh_spec.specs.StreamId.{side_bit}
 use Rattle.qh_spec.specs.Tag.{IsTag, padded, space_byte}
 use Rattle.qh_spec.specs.declared.sides.Side.{Side}
@@ -49,11 +50,16 @@ tag_byte tag bytes sender space number t e =
 token_byte : (id bytes : List ℕ) → EndsIn (reset_token_of id) bytes → get_or bytes (length bytes - 16) 0 ≡ 90
 token_byte id bytes e = from_end 16 bytes e.0 (length id ∷ last_14 id) 90 e.1 (let l = last_length id in omega (arith, l))
 
+pub retry_byte : (original bytes : List ℕ) → EndsIn (retry_tag_of original) bytes → get_or bytes (length bytes - 16) 0 ≡ 165
+retry_byte original bytes e = from_end 16 bytes e.0 (length original ∷ padded 14 original) 165 e.1 (let l = padded_length 14 original in omega (arith, l))
+
 -- no datagram ends both ways
+pub no_reset_by : (bytes id : List ℕ) (o : Option ResetToken) → get_or bytes (length bytes - 16) 0 ≡ 165 → ((k : ResetToken) → o ≡ Some k → k.0 ≡ reset_token_of id) → is_reset_by o bytes → ⊥
+no_reset_by bytes id None its tokens r = r
+no_reset_by bytes id (Some k) its tokens r =
+    let mine = token_byte id bytes (r.1.0, r.1.1 ∙ ap (λ (z : List ℕ). r.1.0 ++ z) (tokens k refl)) in
+    absurd (omega (arith, mine, its))
+
 pub not_a_reset : (tag bytes id : List ℕ) (sender : Side) (space : Space) (number : ℕ) (o : Option ResetToken) → IsTag tag sender space number → EndsIn tag bytes
     → ((k : ResetToken) → o ≡ Some k → k.0 ≡ reset_token_of id) → is_reset_by o bytes → ⊥
-not_a_reset tag bytes id sender space number None t e tokens r = r
-not_a_reset tag bytes id sender space number (Some k) t e tokens r =
-    let mine = token_byte id bytes (r.1.0, r.1.1 ∙ ap (λ (z : List ℕ). r.1.0 ++ z) (tokens k refl)) in
-    let its = tag_byte tag bytes sender space number t e in
-    absurd (omega (arith, mine, its))
+not_a_reset tag bytes id sender space number o t e tokens r = no_reset_by bytes id o (tag_byte tag bytes sender space number t e) tokens r

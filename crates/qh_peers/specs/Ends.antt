@@ -1,6 +1,6 @@
--- Two whole connections that are the two ends of one, over a link that gives each only what the other handed out (RFC 9000, sections 5.1,
--- 5.1.1, 7.3, 7.4, 10.1 and 10.3).
-use Rattle.std.specs.Prelude.{◌≡◌, ℕ, ◌^◌, ◌≤◌, min, true, List, None, IfSome}
+-- Two whole connections that are the two ends of one, over a link that gives each only what the other handed out, and Retry packets (RFC 9000,
+-- sections 5.1, 5.1.1, 7.3, 7.4, 10.1, 10.3 and 17.2.5).
+use Rattle.std.specs.Prelude.{◌≡◌, ◌⊎◌, ℕ, ◌^◌, ◌≤◌, min, true, List, None, IfSome}
 use Rattle.std.specs.Option.{option_map}
 use Rattle.qh_base.specs.declared.shared.ResetToken.{ResetToken}
 use Rattle.qh_conn.specs.Whole.{IsWhole, Stands}
@@ -11,11 +11,24 @@ use Rattle.qh_core.specs.Inner.{is_open}
 use Rattle.qh_core.specs.Made.{AcceptsTags, MakesTagsOf}
 use Rattle.qh_handshake.specs.Peers.{KnowsIds}
 use Rattle.qh_handshake.specs.Sends.{NeverCloses}
+use Rattle.qh_packet.specs.Retry.{IsRetryPacket, retry_tag_of}
 use Rattle.qh_peers.specs.Ids.{KeepsFewIds}
 use Rattle.qh_spec.specs.Link.{other}
-use Rattle.qh_spec.specs.Parted.{CameFrom}
-use Rattle.qh_spec.specs.Transcript.{Act}
+use Rattle.qh_spec.specs.Lists.{In}
+use Rattle.qh_spec.specs.Transcript.{Act, handed_in, handed_out}
 use Rattle.qh_token.specs.Reset.{reset_token_of}
+
+-- a Retry packet as an endpoint sends it to a client (RFC 9000, section 17.2.5; the tag is own)
+pub record IsRetry (datagram : List ℕ) : Type 0 where
+  pub destination : List ℕ
+  pub source : List ℕ
+  pub token : List ℕ
+  pub original : List ℕ
+  pub is : IsRetryPacket datagram destination source token (retry_tag_of original)
+
+-- each datagram that came was handed out by the other end, or is a Retry packet
+abbrev pub ComesFromOrRetry : (own peer : List Act) → Type 0
+ComesFromOrRetry own peer = (d : List ℕ) → In d (handed_in own) → In d (handed_out peer) ⊎ IsRetry d
 
 module _ {S : Type 0} where
   -- What an end says in its hello is what it goes by: its initial limits, whose counts of streams a limit can be, no greater DATAGRAM frame than
@@ -41,7 +54,7 @@ module _ {S : Type 0} (accepts : AcceptsTags S) (sealed : MakesTagsOf S) where
     pub not_lost : c.core.error ≡ None
 
   -- The two are the ends of one connection: the server's hello says to which id the client's first packet went, and from which a Retry packet
-  -- that it took; their sessions have one key; and what came to each was handed out by the other. So no Retry packet came, which an endpoint
+  -- that it took; their sessions have one key; and what came to each was handed out by the other, or is a Retry packet, which an endpoint
   -- sends.
   pub record AreTwoEnds (key : S → List ℕ) (own_hello peer_hello : List ℕ) (c q : Connection S) (tc tq : List Act) : Type 0 where
     pub own : IsHonestEnd own_hello c tc
@@ -50,5 +63,5 @@ module _ {S : Type 0} (accepts : AcceptsTags S) (sealed : MakesTagsOf S) where
     pub ids : KnowsIds c.handshake q.handshake c.core.side
     pub ids_back : KnowsIds q.handshake c.handshake q.core.side
     pub key_is : key q.core.session ≡ key c.core.session
-    pub came : CameFrom tc tq
-    pub went : CameFrom tq tc
+    pub came : ComesFromOrRetry tc tq
+    pub went : ComesFromOrRetry tq tc

@@ -23,17 +23,18 @@ ghost use Rattle.qh_core.specs.declared.control.ControlFrame.TheVariants as send
 ghost use Rattle.qh_core.specs.declared.inner.Inner.{Inner as AnInner};
 ghost use Rattle.qh_handshake.specs.Follows.{IsFresh};
 ghost use Rattle.qh_handshake.specs.Handshake.{with_origin};
-ghost use Rattle.qh_handshake.specs.Incoming.{SessionView};
+ghost use Rattle.qh_handshake.specs.Incoming.{IsRetryFor, MayRetry, SessionView};
 ghost use Rattle.qh_handshake.specs.Peers.{KnowsIds};
 ghost use Rattle.qh_handshake.specs.declared.handshake.Handshake.{Handshake as AHandshake};
+ghost use Rattle.qh_handshake.specs.declared.initial_space.InitialSpace.{InitialSpace as AnInitialSpace};
 ghost use Rattle.qh_hello.specs.declared.transport_parameters.TransportParameters.{TransportParameters as AParameters};
 ghost use Rattle.qh_packet.specs.Session.{MakesTags, NamesTags, SealsTag};
-ghost use Rattle.qh_peers.specs.Ends.{AreTwoEnds, IsHonestEnd, SaysItsOwn};
-ghost use Rattle.qh_peers.specs.Greets.{AcceptsInitials, AreInitialsSealed, CanBeGreeted, IsGreeting};
+ghost use Rattle.qh_peers.specs.Ends.{AreTwoEnds, ComesFromOrRetry, IsHonestEnd, IsRetry, SaysItsOwn};
+ghost use Rattle.qh_peers.specs.Greets.{AcceptsInitials, AreInitialsSealed, CanBeGreeted, IsGreeting, IsInitialSealed};
 ghost use Rattle.qh_peers.specs.Ids.{HasSameIds, HaveOwnTokens};
 ghost use Rattle.qh_spec.specs.Link.{other};
 ghost use Rattle.qh_spec.specs.Lists.{In};
-ghost use Rattle.qh_spec.specs.Parted.{CameFrom};
+ghost use Rattle.qh_spec.specs.Parted.{IsInitialAlone};
 ghost use Rattle.qh_spec.specs.Tag.{tag_bytes};
 ghost use Rattle.qh_spec.specs.Transcript.{Act, HandedIn, HandedOut, handed_in, handed_out};
 ghost use Rattle.qh_spec.specs.declared.sides.Side.{Side as ASide};
@@ -52,10 +53,12 @@ pub fn says_its_own<S>()
 {}
 
 /// An end is honest before its first datagram (`fresh`), and stays so after these calls: after one that hands out a datagram (`sent`), or has
-/// none (`still`); after a moment at which something is due, if it is open then (`timed`); after its endpoint issued ids whose tokens belong to
-/// them (`issued`), and after an address token was queued (`queued`); after `poll` and `poll_endpoint_events` (`told`, `endpoint_told`); after
-/// calls on its streams (`called`); and after those that leave its ids, its state and its error as they are (`kept`). No clause speaks of `close`
-/// or of want of memory; `set_origin` and `bear` come before `fresh`.
+/// none (`still`); after a Retry packet came, whether it is taken, and a client begins again towards the id that it came from, or not
+/// (`retried`; RFC 9000, section 17.2.5); after a moment at which something is due, if it is open then (`timed`); after its endpoint issued ids
+/// whose tokens belong to them (`issued`), and after an address token was queued (`queued`); after `poll` and `poll_endpoint_events` (`told`,
+/// `endpoint_told`); after calls on its streams (`called`); and after those that leave its ids, its state and its error as they are (`kept`). Of
+/// a datagram that its peer handed out `two_ends` speaks. No clause speaks of `close` or of want of memory; `set_origin` and `bear` come before
+/// `fresh`.
 pub fn honest_ends<S>()
     ensures fresh { (accepts : AcceptsTags S) (sealed : MakesTagsOf S) (config : AConfig) (side : ASide) (session : S) (hello local_id remote_id : List ℕ) (addresses : APath) (now : AMoment) (c : AConnection S)
         → IsWhole c → Stands accepts sealed hello c [] → IsFirstCore config side session local_id remote_id addresses now c.core → SaysItsOwn c
@@ -65,6 +68,8 @@ pub fn honest_ends<S>()
         → IsHonestEnd v.accepts v.sealed hello c t → IsHonestEnd v.accepts v.sealed hello new (t ++ HandedOut (drop (length before) after) ∷ []) }
     ensures still { (accepts : AcceptsTags S) (sealed : MakesTagsOf S) (hello : List ℕ) (c new : AConnection S) (t : List Act) → IsStill c new → IsWhole new → Stands accepts sealed hello new t
         → IsHonestEnd accepts sealed hello c t → IsHonestEnd accepts sealed hello new t }
+    ensures retried { (v : SessionView S) (now : AMoment) (d hello : List ℕ) (c new : AConnection S) (t : List Act) → IsRetry d → IsDatagramHandled v now d c new → IsSameConnection v.key c new → IsWhole new
+        → Stands v.accepts v.sealed hello new (t ++ HandedIn d ∷ []) → IsHonestEnd v.accepts v.sealed hello c t → IsHonestEnd v.accepts v.sealed hello new (t ++ HandedIn d ∷ []) }
     ensures timed { (accepts : AcceptsTags S) (sealed : MakesTagsOf S) (key : S → List ℕ) (now : ℕ) (hello : List ℕ) (c new : AConnection S) (t : List Act) → IsTimedOut now c new → is_open new.core.state ≡ true
         → IsSameConnection key c new → IsWhole new → Stands accepts sealed hello new t → IsHonestEnd accepts sealed hello c t → IsHonestEnd accepts sealed hello new t }
     ensures told { (accepts : AcceptsTags S) (sealed : MakesTagsOf S) (key : S → List ℕ) (hello : List ℕ) (c new : AConnection S) (event : Option AnEvent) (t : List Act) → IsTold c new event → IsSameConnection key c new
@@ -85,9 +90,12 @@ pub fn honest_ends<S>()
     few_ids::<S>();
 }
 
-/// From which id a Retry packet came stays as it is when a datagram is handed out (`sent`), when something is due (`timed`), when `poll` and
-/// `poll_endpoint_events` tell something (`told`, `endpoint_told`), and when ids are issued (`issued`).
+/// From which id a Retry packet came stays as it is when a datagram comes that is no Retry packet which this client takes (`passed`), when one is
+/// handed out (`sent`), when something is due (`timed`), when `poll` and `poll_endpoint_events` tell something (`told`, `endpoint_told`), and
+/// when ids are issued (`issued`).
 pub fn retry_kept<S>()
+    ensures passed { (v : SessionView S) (now : AMoment) (d : List ℕ) (old new : AConnection S) → ((s : AnInitialSpace) (source token : List ℕ) → MayRetry old.handshake s → IsRetryFor old.handshake d source token → ⊥)
+        → IsDatagramHandled v now d old new → new.handshake.retry_id ≡ old.handshake.retry_id }
     ensures sent { (sealed : SealsTag) (now : AMoment) (old new : AConnection S) (before after : List ℕ) (transmit : ATransmit) → IsTransmitted sealed now old new before after transmit → new.handshake.retry_id ≡ old.handshake.retry_id }
     ensures timed { (now : ℕ) (old new : AConnection S) → IsTimedOut now old new → new.handshake.retry_id ≡ old.handshake.retry_id }
     ensures told { (old new : AConnection S) (event : Option AnEvent) → IsTold old new event → new.handshake.retry_id ≡ old.handshake.retry_id }
@@ -95,21 +103,27 @@ pub fn retry_kept<S>()
     ensures issued { (ids : List ACid) (old new : AConnection S) → AreIdsIssued ids old new → new.handshake.retry_id ≡ old.handshake.retry_id }
 {}
 
-/// Two honest ends of one connection, over a link that gives each only what the other handed out. So they are before a datagram came (`first`)
-/// and after each call that leaves them honest (`carried`). Of each other they know the hello and the id (`knows`), and once both were greeted
-/// the ends of their 1-RTT packets are each other's peers (`peers`); the idle time in force is that of both hellos, and before that its
-/// own (`idle`, `early_idle`). A datagram leaves the end to which it comes honest, and so open, and no Retry packet is taken by it (`given`). One
-/// with a 1-RTT packet whose number is below 2^31 and above those of all that came before restarts its idle timer (`restarts`; RFC 9000,
-/// section 10.1).
+/// Two honest ends of one connection, over a link that gives each only what the other handed out, and Retry packets, which an endpoint sends
+/// (RFC 9000, section 17.2.5). So they are once both are there (`first`), if nothing but Retry packets came to the one that was there before: so
+/// a client may have taken one before its peer's end began. They stay so after each call that leaves them honest (`carried`), and after a Retry
+/// packet that comes later and isn't taken (`passed`). Of each other they know the hello and the id (`knows`), and once both were greeted the ends
+/// of their 1-RTT packets are each other's peers (`peers`); the idle time in force is that of both hellos, and before that its own (`idle`,
+/// `early_idle`). A datagram that the other handed out leaves the end to which it comes honest, and so open, and it is no Retry packet that is
+/// taken (`given`). One with a 1-RTT packet whose number is below 2^31 and above those of all that came before restarts its idle timer (`restarts`;
+/// RFC 9000, section 10.1).
 pub fn two_ends<S>()
     ensures turned { (accepts : AcceptsTags S) (sealed : MakesTagsOf S) (key : S → List ℕ) (own_hello peer_hello : List ℕ) (c q : AConnection S) (tc tq : List Act)
         → AreTwoEnds accepts sealed key own_hello peer_hello c q tc tq → AreTwoEnds accepts sealed key peer_hello own_hello q c tq tc }
     ensures first { (accepts : AcceptsTags S) (sealed : MakesTagsOf S) (key : S → List ℕ) (own_hello peer_hello : List ℕ) (c q : AConnection S) (tc : List Act) → IsHonestEnd accepts sealed own_hello c tc
         → IsHonestEnd accepts sealed peer_hello q [] → q.core.side ≡ other c.core.side → KnowsIds c.handshake q.handshake c.core.side → KnowsIds q.handshake c.handshake q.core.side
-        → key q.core.session ≡ key c.core.session → handed_in tc ≡ [] → AreTwoEnds accepts sealed key own_hello peer_hello c q tc [] }
+        → key q.core.session ≡ key c.core.session → ((d : List ℕ) → In d (handed_in tc) → IsRetry d) → AreTwoEnds accepts sealed key own_hello peer_hello c q tc [] }
     ensures carried { (accepts : AcceptsTags S) (sealed : MakesTagsOf S) (key : S → List ℕ) (own_hello peer_hello : List ℕ) (c q new : AConnection S) (tc tq acts : List Act)
-        → AreTwoEnds accepts sealed key own_hello peer_hello c q tc tq → IsSameConnection key c new → new.handshake.retry_id ≡ c.handshake.retry_id → CameFrom acts tq
+        → AreTwoEnds accepts sealed key own_hello peer_hello c q tc tq → IsSameConnection key c new → new.handshake.retry_id ≡ c.handshake.retry_id → ComesFromOrRetry acts tq
         → IsHonestEnd accepts sealed own_hello new (tc ++ acts) → AreTwoEnds accepts sealed key own_hello peer_hello new q (tc ++ acts) tq }
+    ensures passed { (v : SessionView S) (now : AMoment) (d own_hello peer_hello : List ℕ) (c q new : AConnection S) (tc tq : List Act) → IsRetry d
+        → ((s : AnInitialSpace) (source token : List ℕ) → MayRetry c.handshake s → IsRetryFor c.handshake d source token → ⊥) → AreTwoEnds v.accepts v.sealed v.key own_hello peer_hello c q tc tq
+        → IsDatagramHandled v now d c new → IsSameConnection v.key c new → IsWhole new → Stands v.accepts v.sealed own_hello new (tc ++ HandedIn d ∷ [])
+        → AreTwoEnds v.accepts v.sealed v.key own_hello peer_hello new q (tc ++ HandedIn d ∷ []) tq }
     ensures knows { (accepts : AcceptsTags S) (sealed : MakesTagsOf S) (key : S → List ℕ) (own_hello peer_hello : List ℕ) (c q : AConnection S) (tc tq : List Act) (p : AParameters)
         → AreTwoEnds accepts sealed key own_hello peer_hello c q tc tq → c.handshake.peer ≡ Some p → (p ≡ q.handshake.parameters) × (c.handshake.remote_id ≡ q.handshake.local_id) }
     ensures idle { (accepts : AcceptsTags S) (sealed : MakesTagsOf S) (key : S → List ℕ) (own_hello peer_hello : List ℕ) (c q : AConnection S) (tc tq : List Act)
@@ -130,26 +144,31 @@ pub fn two_ends<S>()
     few_ids::<S>();
     converses::<S>();
     restarts::<S>();
+    honest_ends::<S>();
+    retry_kept::<S>();
 }
 
 /// An end is greeted by a datagram of its honest peer's that greets it (`IsGreeting`), if it can be greeted by this peer (`CanBeGreeted`), and the
-/// Initial packets that the peer handed out have the tags that this end's session accepts.
+/// datagram, where it is one Initial packet, has the tag that the peer's session makes for it, which this end's session accepts. An Initial packet
+/// from before a Retry packet has another tag.
 pub fn greets<S>()
     ensures greets { (v : SessionView S) (now : AMoment) (d own_hello peer_hello : List ℕ) (c q new : AConnection S) (tc tq : List Act) → NamesTags (v.accepts c.core.session)
         → AreTags (v.accepts q.core.session) (v.sealed q.core.session) → AcceptsInitials (v.accepts c.core.session) (v.sealed q.core.session)
-        → AreTwoEnds v.accepts v.sealed v.key own_hello peer_hello c q tc tq → AreInitialsSealed (v.sealed q.core.session) q.core.side tq → CanBeGreeted c.handshake q.handshake
+        → AreTwoEnds v.accepts v.sealed v.key own_hello peer_hello c q tc tq → (IsInitialAlone d → IsInitialSealed (v.sealed q.core.session) q.core.side d) → CanBeGreeted c.handshake q.handshake
         → In d (handed_out tq) → IsGreeting (length c.core.local_id) q.core.side (handed_in tc) d → IsDatagramHandled v now d c new → is_some new.handshake.peer ≡ true }
 {}
 
 /// An end can be greeted by its peer before its first datagram (`fresh`), where a server knows the peer's id by the packet for which it was made,
-/// and a client knows none; and stays so when a datagram of its honest peer's comes (`given`), when it hands out one (`sent`), when something is
-/// due (`timed`), when `poll` and `poll_endpoint_events` tell something (`told`, `endpoint_told`), when ids are issued (`issued`), and whatever the
-/// peer does (`peer`).
+/// and a client knows none; and stays so when a datagram of its honest peer's comes (`given`), or a Retry packet, whether it is taken or not
+/// (`retried`), when it hands out a datagram (`sent`), when something is due (`timed`), when `poll` and `poll_endpoint_events` tell something
+/// (`told`, `endpoint_told`), when ids are issued (`issued`), and whatever the peer does (`peer`).
 pub fn can_greet<S>()
     ensures fresh { (hello : List ℕ) (own peer : AHandshake) → IsFresh hello own → (own.knows_peer ≡ true → own.remote_id ≡ peer.local_id) → CanBeGreeted own peer }
     ensures given { (v : SessionView S) (now : AMoment) (d own_hello peer_hello : List ℕ) (c q new : AConnection S) (tc tq : List Act) → NamesTags (v.accepts c.core.session)
         → AreTags (v.accepts q.core.session) (v.sealed q.core.session) → AreTwoEnds v.accepts v.sealed v.key own_hello peer_hello c q tc tq → In d (handed_out tq)
         → IsDatagramHandled v now d c new → CanBeGreeted c.handshake q.handshake → CanBeGreeted new.handshake q.handshake }
+    ensures retried { (v : SessionView S) (now : AMoment) (d : List ℕ) (c new : AConnection S) (peer : AHandshake) → IsRetry d → IsDatagramHandled v now d c new → CanBeGreeted c.handshake peer
+        → CanBeGreeted new.handshake peer }
     ensures sent { (sealed : SealsTag) (now : AMoment) (old new : AConnection S) (before after : List ℕ) (transmit : ATransmit) (peer : AHandshake) → IsTransmitted sealed now old new before after transmit
         → CanBeGreeted old.handshake peer → CanBeGreeted new.handshake peer }
     ensures timed { (now : ℕ) (old new : AConnection S) (peer : AHandshake) → IsTimedOut now old new → CanBeGreeted old.handshake peer → CanBeGreeted new.handshake peer }
@@ -159,8 +178,9 @@ pub fn can_greet<S>()
     ensures peer { (own peer new : AHandshake) → new.local_id ≡ peer.local_id → CanBeGreeted own peer → CanBeGreeted own new }
 {}
 
-/// The Initial packets that an end handed out have the tags that are made for them: before its first datagram (`fresh`), after each datagram that
-/// it hands out (`sent`), and after whatever hands out none (`quiet`). A session without a cipher accepts each tag that is made of its key
+/// The Initial packets that an end handed out have the tags that its session makes for them: before its first datagram (`fresh`), after each
+/// datagram that it hands out (`sent`), and after whatever hands out none (`quiet`). With another key, as after a Retry packet, that is said of
+/// those that are handed out since, beginning again with none (`fresh`). A session without a cipher accepts each tag that is made of its key
 /// (`plain`).
 pub fn initials_sealed<S>()
     ensures fresh { (sealed : SealsTag) (side : ASide) → AreInitialsSealed sealed side [] }

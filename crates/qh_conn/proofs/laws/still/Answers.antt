@@ -1,6 +1,7 @@
 use Rattle.std.proofs.Common.{◌≡◌, inl, inr, Bool, true, false, List, [], length, refl, sym, ap, subst, ◌∙◌}
 use Rattle.std.proofs.lemmas.List.{append-nil}
 use Rattle.std.specs.Prelude.{is_some}
+use Rattle.qh_conn.proofs.LogKept.{current_by}
 use Rattle.qh_converse.proofs.MadeOpens.{locally_opens}
 use Rattle.qh_converse.specs.Converses.{Converses}
 use Rattle.qh_control.specs.Control.{IsSendable}
@@ -42,6 +43,7 @@ returns-clause-whole g c = λ old new same made whole.
         connected = λ e. let both = whole.sound.connected (sym same.is_connected ∙ e) in
             (ap (λ (z : Handshake). is_some z.peer) same.handshake ∙ both.0, ap (λ (z : Handshake). z.space) same.handshake ∙ both.1);
       };
+      current = current_by old new (λ on. sym (ap (λ (z : ControlState). is_some z.log) same.control) ∙ on) (ap (λ (z : Handshake). z.peer) same.handshake) same.log whole.current;
       client = λ side greeted. elim (whole.client (sym (ap (λ (z : Handshake). z.side) same.handshake) ∙ side) (sym (ap (λ (z : Handshake). is_some z.peer) same.handshake) ∙ greeted)) [
         | inl k ↦ inl (same.is_connected ∙ k)
         | inr shut ↦ inr (stays_shut (is_open old.core.state) (is_open new.core.state) opens shut)

@@ -3,6 +3,7 @@ use Rattle.qh_base.specs.declared.connection_error.ConnectionError.TheVariants.{
 use Rattle.qh_conduct.specs.Peers.{AreLinked}
 use Rattle.qh_converse.proofs.HandshakeDatagrams.{short_ends_none}
 use Rattle.qh_converse.proofs.LawfulParts.{part_lawful, within_hello}
+use Rattle.qh_converse.proofs.LinkedParts.{part_comes}
 use Rattle.qh_converse.proofs.ShakeLaws.{shake_in, shake_out}
 use Rattle.qh_converse.proofs.Steps.{are_peers}
 use Rattle.qh_converse.proofs.WithinParts.{data_part, within_whole}
@@ -63,8 +64,8 @@ returns-clause-versions g c = λ accepts sealed takes now datagram rest own_hell
 pub returns-clause-open : goal.returns-clause-open
 returns-clause-open g c = λ accepts sealed takes named own_hello peer_hello own peer x p new k m tc tp now remote tail d peers to back mine theirs up peer_up well among ends short taken.
     let linked : AreLinked mine.part theirs.part = record {
-      to = c.parts.ensures.linked mine.part tc theirs.part tp mine.is_part theirs.is_part theirs.begun.short to;
-      from = c.parts.ensures.linked theirs.part tp mine.part tc theirs.is_part mine.is_part mine.begun.short back;
+      to = part_comes mine.part tc theirs.part tp mine.is_part theirs.is_part theirs.begun.short to;
+      from = part_comes theirs.part tp mine.part tc theirs.is_part mine.is_part mine.begun.short back;
     } in
     c.behaves.ensures.open takes named x p new mine.part theirs.part now remote tail peers linked mine.begun.behaves theirs.begun.behaves up peer_up well
     (c.parts.ensures.end_handed_out theirs.part tp tail d theirs.is_part theirs.begun.short among ends short) taken

@@ -1,5 +1,6 @@
 use Rattle.std.proofs.Common.{subst}
 use Rattle.qh_exchange.specs.Ends.{IsWholeAt}
+use Rattle.qh_exchange.proofs.EndMade.{known_made}
 use Rattle.qh_exchange.proofs.EndOpened.{did_given, if_done, undisturbed_given}
 use Rattle.qh_exchange.proofs.ends.hand_in.Goals as goal
 
@@ -10,6 +11,9 @@ pub returns-clause-does : goal.returns-clause-does
 returns-clause-does c =
     rw c.in-Some.is
     (λ t s. did_given _ c.args.now c.args.side _ _ _ c.hand_to.new.end c.args.datagram.now t c.hand_to.ensures.made (if_done c.hand_to.result _ c.hand_to.ensures.two) s)
+
+pub returns-clause-known : goal.returns-clause-known
+returns-clause-known c = rw c.in-Some.is (known_made _ c.hand_to.new.end _ c.hand_to.ensures.made)
 
 pub returns-clause-undisturbed : goal.returns-clause-undisturbed
 returns-clause-undisturbed c = rw c.in-Some.is (undisturbed_given c.hand_to.result c.args.now c.args.opening.now.config.idle _ c.hand_to.new.end c.hand_to.ensures.undisturbed c.hand_to.ensures.lost)

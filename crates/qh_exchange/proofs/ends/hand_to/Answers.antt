@@ -26,4 +26,11 @@ returns-clause-two c =
     let short : length old.core.session.key_id ≤ 20 = key_short _ _ _ c.key_id.ensures.value c.session.ensures c.key_id.ensures.short in
     let e = c.handle_datagram.ensures in
     on_ok c.handle_datagram.result _ _
-    (λ h. given_takes c.two_ends.ensures.given c.two_ends.ensures.restarts c.plain_tags-2.ensures.takes c.args.now old new c.args.datagram.now short e.same e.whole (e.carries (plain_names old.core.session short)) h) e.ok
+    (λ h. given_takes (record {
+      given = c.two_ends.ensures.given;
+      restarts = c.two_ends.ensures.restarts;
+      made = c.plain_tags-2.ensures.takes;
+      can = c.can_greet.ensures.given;
+      greets = c.greets.ensures.greets;
+      initials = c.initials_sealed.ensures.plain;
+    }) c.args.now old new c.args.datagram.now short e.same e.whole (e.carries (plain_names old.core.session short)) h) e.ok

@@ -5,7 +5,7 @@ use Rattle.qh_packet.proofs.Sessions.{plain_makes, plain_names}
 use Rattle.qh_packet.specs.Session.{plain_accepts, plain_sealed}
 use Rattle.qh_spec.specs.Transcript.{Act}
 use Rattle.qh_exchange.specs.Ends.{End}
-use Rattle.qh_exchange.proofs.EndNext.{Asks, asked_as, asked_first, asked_honest, asked_leaves, asked_made, failed_made, made_as}
+use Rattle.qh_exchange.proofs.EndNext.{Asks, asked_as, asked_first, asked_greetable, asked_honest, asked_leaves, asked_made, failed_made, made_as}
 use Rattle.qh_exchange.proofs.EndSent.{LeavesOpen}
 use Rattle.qh_exchange.proofs.EndSounds.{key_short}
 use Rattle.qh_exchange.proofs.FullTurns.{unset_of}
@@ -71,6 +71,12 @@ returns-clause-honest c =
     (subst (λ (z : List Act). CarriesOnBy plain_accepts plain_sealed old new z) (made_as c.in_ok-transmit.transmit c.is_some.result c.clear.new.self.items after c.is_some.ensures c.clear.ensures.items)
     (e.carries (plain_names old.core.session short) (plain_makes old.core.session short)))
     (asked_as c.args.now old new c.in_ok-transmit.transmit c.is_some.result c.clear.new.self.items after c.is_some.ensures c.clear.ensures.items e.some e.none)
+
+pub returns-clause-greets : goal.returns-clause-greets
+returns-clause-greets c =
+    let e = c.in_ok-transmit.ensures in
+    asked_greetable c.can_greet.ensures.sent c.initials_sealed.ensures.sent c.args.now c.args.end.now c.poll_transmit.new.self _ c.is_some.result c.requires.whole
+    (asked_as c.args.now c.args.end.now c.poll_transmit.new.self c.in_ok-transmit.transmit c.is_some.result _ _ c.is_some.ensures c.clear.ensures.items e.some e.none)
 
 pub returns-clause-first : goal.returns-clause-first
 returns-clause-first c =

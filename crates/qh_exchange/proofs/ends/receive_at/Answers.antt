@@ -58,7 +58,7 @@ returns-in_err-hand_in-clause-step g c =
     c.in_ok-len.ensures.events ∙ ap (λ (r : Option ℕ). told (g.L.Link.events c.loop-datagram.link) (take_events c.args.side c.take.new.buf (Ok r))) c.in-Some.is in
     rw p.1
     (end_fails c.args.now c.args.side _ _ _ _ _ _ _ _ _ (λ more. Unit {0}) c.loop-datagram.invariant.step
-    (end_given false c.args.now c.args.side _ _ _ _ _ _ (take c.in-Some.len c.take.new.buf) (λ more. Unit {0}) given tt c.in_err-hand_in.ensures.does c.in_err-hand_in.ensures.undisturbed))
+    (end_given false c.args.now c.args.side _ _ _ _ _ _ (take c.in-Some.len c.take.new.buf) (λ more. Unit {0}) given tt c.in_err-hand_in.ensures.does c.in_err-hand_in.ensures.undisturbed c.in_err-hand_in.ensures.known))
 
 pub returns-in_err-hand_in-clause-open : goal.returns-in_err-hand_in-clause-open
 returns-in_err-hand_in-clause-open g c there = c.in_err-hand_in.ensures.open (c.loop-datagram.invariant.there there)
@@ -71,7 +71,7 @@ loop-datagram-preserved g c =
     record {
       step = end_trans true c.args.now c.args.side _ _ _ _ _ _ _ _ _ (λ more. more ≡ Given c.args.side (take c.in-Some.len c.take.new.buf) ∷ [])
           (λ more. AreGiven c.args.side (c.loop-datagram._datagram + 1) more × OpensBy c.args.opening.now.ids c.args.side more (is_some c.hand_in.new.slot ≡ true)) c.loop-datagram.invariant.step
-          (end_given true c.args.now c.args.side _ _ _ _ _ _ (take c.in-Some.len c.take.new.buf) (λ more. more ≡ Given c.args.side (take c.in-Some.len c.take.new.buf) ∷ []) given refl handed.does handed.undisturbed)
+          (end_given true c.args.now c.args.side _ _ _ _ _ _ (take c.in-Some.len c.take.new.buf) (λ more. more ≡ Given c.args.side (take c.in-Some.len c.take.new.buf) ∷ []) given refl handed.does handed.undisturbed handed.known)
           (λ x y k m. rw m (
             given_more c.args.side c.loop-datagram._datagram (take c.in-Some.len c.take.new.buf) x k.0,
             opens_more c.args.opening.now.ids c.args.side x (take c.in-Some.len c.take.new.buf) _ _ handed.open (handed.opens refl) k.1,

@@ -42,7 +42,7 @@ returns-then-not-found-clause-step g c ids config =
     end_trans true c.args.now c.args.side ids config _ _ _ _ _ _ _ (λ more. more ≡ [])
     (λ more. IsOutput c.args.side more × IsSentOut c.args.side (Some c.has_next.new.end) more × ToldAsBefore (Some c.args.end.now) (Some c.has_next.new.end)) (c.loop-datagram.invariant.step ids config)
     (end_rests c.args.now c.args.side ids config _ _ _ (λ more. more ≡ []) refl (made_next _ _ c.has_next.new.datagram.items _ false c.if-not-found.true next.made) next.undisturbed
-    (names_next _ _ c.has_next.new.datagram.items _ false c.if-not-found.true next.made next.names next.honest))
+    (names_next _ _ c.has_next.new.datagram.items _ false c.if-not-found.true next.made next.names next.honest next.greets))
     (λ x y k m. (
       rw (m, append-nil) (sent_all c.args.side c.loop-datagram._datagram x (omega arith) k),
       inr (c.loop-datagram.end, (next.none c.if-not-found.true).0, (next.none c.if-not-found.true).1),
@@ -85,7 +85,7 @@ loop-datagram-preserved g c =
     record {
       step = λ ids config. end_trans true c.args.now c.args.side ids config _ _ _ _ _ _ _ (λ more. more ≡ Sent c.args.side datagram ∷ []) (AreSent c.args.side (c.loop-datagram._datagram + 1)) (c.loop-datagram.invariant.step ids config)
           (end_sent c.args.now c.args.side ids config _ _ _ _ datagram (λ more. more ≡ Sent c.args.side datagram ∷ []) sent refl (made_next _ _ datagram _ true c.if-not-found.false next.made) next.undisturbed
-          (names_next _ _ datagram _ true c.if-not-found.false next.made next.names next.honest) (firsts_next c.args.side ids config _ datagram (next.first c.if-not-found.false)))
+          (names_next _ _ datagram _ true c.if-not-found.false next.made next.names next.honest next.greets) (firsts_next c.args.side ids config _ datagram (next.first c.if-not-found.false)))
           (λ x y k m. rw m (sent_more c.args.side c.loop-datagram._datagram datagram x k));
       up = next.open;
       whole = next.made.whole;

@@ -1,4 +1,5 @@
 use Rattle.qh_exchange.proofs.Bridged.{means, says}
+use Rattle.qh_exchange.proofs.Greeted.{act_once_greeted, are_greeted}
 use Rattle.qh_exchange.proofs.Hellos.{set_ids}
 use Rattle.qh_exchange.proofs.IdleWhole.{set_idle}
 use Rattle.qh_exchange.proofs.TimedOut.{timed_passed}
@@ -7,6 +8,12 @@ use Rattle.qh_exchange.proofs.pair.pairs.Goals as goal
 
 pub returns-clause-honest : goal.returns-clause-honest
 returns-clause-honest c = means c.greeted_first.ensures c.converses.ensures.order
+
+pub returns-clause-greeted : goal.returns-clause-greeted
+returns-clause-greeted c = are_greeted
+
+pub returns-clause-full : goal.returns-clause-full
+returns-clause-full c = act_once_greeted
 
 pub returns-clause-within : goal.returns-clause-within
 returns-clause-within c = keeps_within

@@ -4,10 +4,13 @@ use Rattle.qh_conn.specs.declared.connection.Connection.{Connection}
 use Rattle.qh_core.specs.Inner.{is_open}
 use Rattle.qh_core.specs.declared.inner.Inner.{Inner}
 use Rattle.qh_handshake.proofs.NoCloses.{fresh_silent}
+use Rattle.qh_peers.proofs.EndFedPeers.{token_is}
 use Rattle.qh_peers.proofs.HonestOn.{control_says, honest, issued_open, kept_says, queue_open, queue_says, sent_on, streams_ids, streams_open, streams_says, streams_whole}
 use Rattle.qh_peers.proofs.HonestSteps.{endpoint_as, same_silent, says_on, timed_as, told_as}
+use Rattle.qh_peers.proofs.RetryPackets.{retry_no_reset}
+use Rattle.qh_peers.proofs.RetryTaken.{left_ids, retry_left}
 use Rattle.qh_peers.specs.Ids.{KeepsFewIds}
-use Rattle.qh_spec.specs.Transcript.{Act, HandedOut}
+use Rattle.qh_spec.specs.Transcript.{Act, HandedIn, HandedOut}
 use Rattle.qh_peers.proofs.ends.honest_ends.Goals as goal
 
 pub returns-clause-fresh : goal.returns-clause-fresh
@@ -30,6 +33,13 @@ returns-clause-sent g c = λ v now before after hello transmit x new t makes e s
 pub returns-clause-still : goal.returns-clause-still
 returns-clause-still g c = λ accepts sealed hello x new t is whole stands h.
     honest accepts sealed hello x new t t h whole stands (queue_says x new is h.says) (c.few_ids.ensures.unsent x new t is h.few) h.silent (ap (λ (z : Connection _). z.core.side) is.rest_is) (queue_open x new is h.up)
+
+pub returns-clause-retried : goal.returns-clause-retried
+returns-clause-retried g c = λ v now d hello x new t r is same whole stands h.
+    let own = (h.few.holds h.up).peers.active.token in
+    let left = retry_left v now d r x new h.up (λ reset. retry_no_reset d x.control.ids.active.id x.control.ids.active.reset_token r (token_is x.control.ids.active.reset_token x.control.ids.active.id own) reset) is in
+    honest v.accepts v.sealed hello x new t (t ++ HandedIn d ∷ []) h whole stands (says_on v.key x new same h.says) (c.few_ids.ensures.still x new t (HandedIn d ∷ []) refl (left_ids x new left) h.few)
+    (same_silent x.core.side t (HandedIn d ∷ []) refl h.silent) same.side (record { up = ap is_open left.state ∙ h.up; error = left.error })
 
 pub returns-clause-timed : goal.returns-clause-timed
 returns-clause-timed g c = λ accepts sealed key now hello x new t is up same whole stands h.

@@ -1,11 +1,12 @@
-use Rattle.std.proofs.Common.{◌≡◌, ◌≤◌, ◌++◌, ◌∷◌, [], ℕ, true, false, Option, length, rules, sym, ap, subst, ◌∙◌}
+use Rattle.std.proofs.Common.{◌≡◌, ◌≤◌, ◌++◌, ◌∷◌, [], ℕ, true, false, Option, None, Some, is_some, length, rules, sym, ap, subst, ◌∙◌}
 use Rattle.std.specs.Prelude.{IfSome}
-use Rattle.qh_conn.proofs.Begun.{begun_as, begun_by, begun_settled, begun_sound, early_sound}
-use Rattle.qh_conn.proofs.InFed.{hears_fails, read_fails}
+use Rattle.qh_conn.proofs.Begun.{begins, begun_as, begun_by, begun_goes, begun_rest, begun_settled, begun_sound, early_sound, new_arrived, new_unused, started_current, unstarted_goes}
+use Rattle.qh_conn.proofs.InFed.{core_only, hears_fails, read_fails}
+use Rattle.qh_conn.proofs.LogKept.{current_by, same_goes, self_flags, flags_by}
 use Rattle.qh_conn.proofs.Noted.{any_err}
-use Rattle.qh_conn.specs.Greeting.{with_early}
+use Rattle.qh_conn.specs.Greeting.{control_greeted, with_early}
 use Rattle.qh_conn.specs.Hearing.{FailsTo}
-use Rattle.qh_conn.specs.Items.{streams_logged}
+use Rattle.qh_conn.specs.Items.{IsLogCurrent, streams_logged}
 use Rattle.qh_conn.specs.Whole.{IsSound}
 use Rattle.qh_conn.specs.declared.connection.Connection.{Connection}
 use Rattle.qh_control.specs.Control.{IsSendable}
@@ -13,11 +14,12 @@ use Rattle.qh_control.specs.Items.{logged}
 use Rattle.qh_control.specs.declared.control.ControlState.{ControlState}
 use Rattle.qh_control.specs.declared.items.ConnectionItem.TheVariants as item
 use Rattle.qh_converse.proofs.MidDatagram.{greets}
+use Rattle.qh_converse.specs.Settled.{datagram_of}
 use Rattle.qh_core.specs.Inner.{with_space, with_streams}
 use Rattle.qh_core.specs.declared.inner.Inner.{Inner}
 use Rattle.qh_spec.specs.Transcript.{HandedIn}
 use Rattle.qh_spec.specs.declared.sides.Side.{Side}
-use Rattle.qh_conn.proofs.SameParts.{begun_same, space_same}
+use Rattle.qh_conn.proofs.SameParts.{begun_same, space_same, started_same}
 use Rattle.qh_conn.proofs.Same.{both_same, control_by, control_rest, greeted_own, own_by, same_control, same_flags, same_then}
 use Rattle.qh_conn.proofs.connection.Connection.begin.Goals as goal
 
@@ -30,6 +32,61 @@ returns-clause-core g c =
     let is : core ≡ begun_as self.core c.args.peer self.handshake core.space = search rules in
     let early : c.set_early.new.self.core ≡ with_streams (with_space core (streams_logged (logged self.control.log more) core.space)) (with_early self.early (streams_logged (logged self.control.log more) core.space).streams) = search rules in
     begun_by c.args.peer self.handshake self.early self.control.log more self.core core c.set_early.new.self.core e.space e.ping is early
+
+pub log_streams-requires-clause-unused : goal.log_streams-requires-clause-unused
+log_streams-requires-clause-unused g c = new_unused _ _ c.greet-2.new.self.space c.greet-2.ensures.space
+
+pub log_streams-requires-clause-arrived : goal.log_streams-requires-clause-arrived
+log_streams-requires-clause-arrived g c = new_arrived _ _ c.greet-2.new.self.space c.greet-2.ensures.space
+
+pub log_streams-requires-clause-off : goal.log_streams-requires-clause-off
+log_streams-requires-clause-off g c = c.greet-2.ensures.space.log
+
+pub returns-clause-rest : goal.returns-clause-rest
+returns-clause-rest g c =
+    let self = c.args.self.now in
+    let core = c.greet-2.new.self in
+    let on = c.log_streams.new.self in
+    let set = c.set_early.new.self in
+    let control : c.greet.new.self ≡ record (control_greeted self.control self.handshake.remote_id c.args.peer) { log = logged self.control.log (item.MaxDatagramSize (datagram_of c.args.peer.max_datagram_frame_size) ∷ []) } = search rules in
+    ap (λ (z : Connection _). record z { is_data_due = true }) (core_only on set _ c.set_early.ensures.value)
+    ∙ begun_rest self c.greet.new.self core set.core on c.args.peer control (c.greet-2.ensures.space.of.peer_is ∙ ap (λ (z : Inner _). z.config.peer) c.greet-2.ensures.rest ∙ c.peer_limits.ensures) c.in_ok-log_streams.ensures.ok
+
+pub returns-clause-current : goal.returns-clause-current
+returns-clause-current g c =
+    let self = c.args.self.now in
+    let on = c.log_streams.new.self in
+    let set = c.set_early.new.self in
+    let is = c.set_early.ensures.value in
+    let mid : Connection _ = begins self c.greet.new.self c.greet-2.new.self in
+    current_by on (record set { is_data_due = true }) (λ up. ap (λ (z : Connection _). is_some z.control.log) (sym is) ∙ up) (ap (λ (z : Connection _). z.handshake.peer) is) (ap (λ (z : Connection _). z.core.space.log) is)
+    (subst (λ (z : Connection _). IsLogCurrent z) (sym c.in_ok-log_streams.ensures.ok) (started_current mid (λ none. let z : None ≡ Some c.args.peer = sym none ∙ c.requires.greeted in cc)))
+
+pub returns-clause-log : goal.returns-clause-log
+returns-clause-log g c =
+    let self = c.args.self.now in
+    let set = c.set_early.new.self in
+    let is = c.set_early.ensures.value in
+    let on = c.in_ok-log_streams.ensures.ok in
+    let first = c.greet-2.ensures.rest in
+    begun_goes self (record set { is_data_due = true }) c.args.peer (returns-clause-rest g c)
+    (record {
+      lost = ap (λ (z : Connection _). z.core.is_lost_told) is ∙ (ap (λ (z : Connection _). z.core.is_lost_told) on ∙ ap (λ (z : Inner _). z.is_lost_told) first);
+      drained = ap (λ (z : Connection _). z.core.is_drained_told) is ∙ (ap (λ (z : Connection _). z.core.is_drained_told) on ∙ ap (λ (z : Inner _). z.is_drained_told) first);
+    })
+
+pub returns-in_err-greet-clause-log : goal.returns-in_err-greet-clause-log
+returns-in_err-greet-clause-log g c =
+    let self = c.args.self.now in
+    let is = ap (λ (z : ControlState). record self { control = z }) c.in_err-greet.ensures.err in
+    ([], same_goes self (record self { control = c.greet.new.self }) (flags_by self _ self is (self_flags self)) (ap (λ (z : ControlState). z.log) c.in_err-greet.ensures.err))
+
+pub returns-in_err-log_streams-clause-log : goal.returns-in_err-log_streams-clause-log
+returns-in_err-log_streams-clause-log g c =
+    let self = c.args.self.now in
+    let first = c.greet-2.ensures.rest in
+    unstarted_goes self c.log_streams.new.self c.greet.new.self c.greet-2.new.self _ c.in_err-log_streams.ensures.err (ap (λ (z : ControlState). z.log) c.in_ok-greet.ensures.ok)
+    (record { lost = ap (λ (z : Inner _). z.is_lost_told) first; drained = ap (λ (z : Inner _). z.is_drained_told) first })
 
 pub returns-clause-hears : goal.returns-clause-hears
 returns-clause-hears g c = λ accepts sealed m client hello d before t r none.
@@ -109,5 +166,5 @@ returns-clause-same g c = λ before none p.
     let set = c.set_early.new.self in
     let began = begun_same g.S.Session.key before self c.greet.new.self c.greet-2.new.self _ _ _ _ _ _ none p (own_by self.control c.greet.new.self _ c.in_ok-greet.ensures.ok (greeted_own self.control)) c.greet-2.ensures.rest in
     both_same g.S.Session.key before set _
-    (both_same g.S.Session.key before on set (both_same g.S.Session.key before mid on began (space_same g.S.Session.key mid on _ c.in_ok-log_streams.ensures.ok)) (space_same g.S.Session.key on set _ c.set_early.ensures.value))
+    (both_same g.S.Session.key before on set (both_same g.S.Session.key before mid on began (started_same g.S.Session.key mid on c.in_ok-log_streams.ensures.ok)) (space_same g.S.Session.key on set _ c.set_early.ensures.value))
     (same_flags g.S.Session.key set true set.is_connected_due set.is_control_next set.is_lost_logged)

@@ -1,4 +1,4 @@
-use Rattle.std.proofs.Common.{◌≡◌, ℕ, Bool, true, false, List, Some, if◌then◌else◌, sym, ap, subst, ◌∙◌}
+use Rattle.std.proofs.Common.{◌≡◌, ℕ, Bool, true, false, List, [], ◌∷◌, ◌++◌, Some, if◌then◌else◌, sym, ap, subst, ◌∙◌, inr}
 use Rattle.qh_base.specs.declared.time.Moment.{Moment}
 use Rattle.qh_conn.specs.Greeting.{IsBegunBy, IsGreetedNow, connected, with_core}
 use Rattle.qh_conn.specs.declared.connection.Connection.{Connection}
@@ -11,8 +11,12 @@ use Rattle.qh_spec.specs.declared.sides.Side.TheVariants.{Client, Server}
 use Rattle.qh_conn.proofs.InFed.{discarded_hears, failing, hears_fails, read_unknown}
 use Rattle.qh_converse.specs.Converses.{Hears}
 use Rattle.qh_handshake.specs.declared.handshake.Handshake.{Handshake}
-use Rattle.qh_spec.specs.Transcript.{Act}
+use Rattle.qh_spec.specs.Transcript.{Act, HandedIn}
+use Rattle.qh_conn.proofs.LogKept.{goes_on, stands_still}
+use Rattle.qh_conn.proofs.Noted.{connected_current}
 use Rattle.qh_conn.proofs.Same.{both_same}
+use Rattle.qh_conn.specs.Hearing.{FailsTo}
+use Rattle.qh_conn.specs.Items.{IsLogCurrent}
 use Rattle.qh_conn.proofs.connection.Connection.greet.Goals as goal
 
 module _ {S : Type 0} where
@@ -55,19 +59,19 @@ returns-in_err-begin-clause-hears g c = λ accepts sealed hello d before t r non
 
 pub returns-in_err-connect-in-Client-clause-hears : goal.returns-in_err-connect-in-Client-clause-hears
 returns-in_err-connect-in-Client-clause-hears g c = λ accepts sealed hello d before t r none.
-    let new = c.connect.new.self in
-    let is = c.connect.ensures in
-    let hears = begun_hears accepts sealed c.args.self.now c.begin.new.self hello t d true c.in-Some.peer c.in_ok-begin.ensures.rest (c.in_ok-begin.ensures.hears accepts sealed true (λ _. side_of c.args.self.now c.begin.new.self c.in-Some.peer c.in_ok-begin.ensures.rest ∙ c.in-Client.is) hello d before t r none) in
+    let begun = c.begin.new.self in
+    let e = c.in_ok-begin.ensures in
+    let hears = begun_hears accepts sealed c.args.self.now begun hello t d false c.in-Some.peer e.rest (e.hears accepts sealed false (λ k. let z : false ≡ true = k in cc) hello d before t r none) in
+    let still = subst (λ (z : Bool). Hears accepts sealed hello begun.handshake begun.core z t d) (sym (ap (λ (z : Connection _). z.is_connected) e.rest ∙ c.requires.first.0)) hears in
     failing _ _ c.from_residual-in_err-connect-in-Client.result c.from_residual-in_err-connect-in-Client.ensures.0
-    (hears_fails accepts sealed hello new t d
-    (discarded_hears accepts sealed hello c.begin.new.self new t d is.handshake is.made is.connected hears))
+    (subst (λ (z : Connection _). FailsTo accepts sealed hello z (t ++ HandedIn d ∷ [])) (sym c.in_err-connect-in-Client.ensures.err) (hears_fails accepts sealed hello begun t d still))
 
 pub returns-in_ok-connect-in-Client-clause-hears : goal.returns-in_ok-connect-in-Client-clause-hears
 returns-in_ok-connect-in-Client-clause-hears g c = λ accepts sealed hello d before t r none.
     let new = c.connect.new.self in
-    let is = c.connect.ensures in
+    let is = c.in_ok-connect-in-Client.ensures.ok in
     let hears = begun_hears accepts sealed c.args.self.now c.begin.new.self hello t d true c.in-Some.peer c.in_ok-begin.ensures.rest (c.in_ok-begin.ensures.hears accepts sealed true (λ _. side_of c.args.self.now c.begin.new.self c.in-Some.peer c.in_ok-begin.ensures.rest ∙ c.in-Client.is) hello d before t r none) in
-    (discarded_hears accepts sealed hello c.begin.new.self new t d is.handshake is.made is.connected hears, tt)
+    (discarded_hears accepts sealed hello c.begin.new.self new t d (ap (λ (z : Connection _). z.handshake) is) c.connect.ensures.made (ap (λ (z : Connection _). z.is_connected) is) hears, tt)
 
 pub returns-in-Server-clause-hears : goal.returns-in-Server-clause-hears
 returns-in-Server-clause-hears g c = λ accepts sealed hello d before t r none.
@@ -89,3 +93,23 @@ returns-in_ok-connect-in-Client-clause-same g c = λ before none p. both_same g.
 
 pub returns-in-Server-clause-same : goal.returns-in-Server-clause-same
 returns-in-Server-clause-same g c = λ before none p. c.begin.ensures.same before none p
+
+pub returns-in_default-clause-log : goal.returns-in_default-clause-log
+returns-in_default-clause-log g c = stands_still c.args.self.now
+
+pub returns-in_err-begin-clause-log : goal.returns-in_err-begin-clause-log
+returns-in_err-begin-clause-log g c = c.begin.ensures.log
+
+pub returns-in-Server-clause-log : goal.returns-in-Server-clause-log
+returns-in-Server-clause-log g c = c.begin.ensures.log
+
+pub returns-in_err-connect-in-Client-clause-log : goal.returns-in_err-connect-in-Client-clause-log
+returns-in_err-connect-in-Client-clause-log g c = goes_on c.args.self.now c.begin.new.self c.connect.new.self c.begin.ensures.log c.connect.ensures.log
+
+pub returns-in_ok-connect-in-Client-clause-log : goal.returns-in_ok-connect-in-Client-clause-log
+returns-in_ok-connect-in-Client-clause-log g c = goes_on c.args.self.now c.begin.new.self c.connect.new.self c.begin.ensures.log c.connect.ensures.log
+
+pub returns-in_ok-connect-in-Client-clause-current : goal.returns-in_ok-connect-in-Client-clause-current
+returns-in_ok-connect-in-Client-clause-current g c =
+    let begun = c.begin.new.self in
+    subst (λ (z : Connection _). IsLogCurrent z) (sym c.in_ok-connect-in-Client.ensures.ok) (connected_current c.args.now begun (λ none. c.in_ok-begin.ensures.current (inr none)))

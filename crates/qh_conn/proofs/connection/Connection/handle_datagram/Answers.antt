@@ -1,7 +1,9 @@
 use Rattle.std.proofs.Common.{◌≡◌, false, rules, true}
+use Rattle.std.proofs.lemmas.Result.{on_err_weaker}
 use Rattle.qh_conn.proofs.InFed.{settled_stands}
 use Rattle.qh_conn.proofs.InTake.{closed_by, opened_by}
 use Rattle.qh_core.specs.Inner.{is_open}
+use Rattle.qh_conn.proofs.LogKept.{counted_goes, ended_by}
 use Rattle.qh_conn.proofs.SameParts.{closing_same, settled_same}
 use Rattle.qh_conn.proofs.Same.{both_same, same_counted}
 use Rattle.qh_conn.specs.declared.connection.Connection.{Connection}
@@ -37,3 +39,10 @@ returns-clause-same g c =
     let counted : Connection _ = record self { udp_rx = c.count.new.stats } in
     both_same g.S.Session.key self counted c.settled.new.self (same_counted g.S.Session.key self self.udp_tx c.count.new.stats)
     (settled_same g.S.Session.key c.take-taken.result counted c.take-taken.new.self c.settled.new.self c.take-taken.ensures.same c.take-taken.ensures.lost c.settled.ensures.ok c.settled.ensures.same)
+
+pub returns-clause-log : goal.returns-clause-log
+returns-clause-log g c =
+    let self = c.args.self.now in
+    let taken = c.take-taken in
+    ended_by taken.result c.settled.result self taken.new.self c.settled.new.self c.settled.ensures.value c.requires.current
+    (on_err_weaker taken.result (λ goes. (goes.0, counted_goes goes.0 self c.count.new.stats taken.new.self goes.1)) taken.ensures.log) c.settled.ensures.log

@@ -1,7 +1,10 @@
-use Rattle.std.proofs.Common.{◌++◌, sym, subst}
-use Rattle.qh_conn.proofs.InSound.{issued_long, on_ok, safe_of, sound_control, whole_control}
+use Rattle.std.proofs.Common.{◌++◌, refl, sym, subst, OnErr}
+use Rattle.qh_conn.proofs.InSound.{issued_long, issued_unlogged, on_ok, safe_of, sound_control, whole_control}
+use Rattle.qh_conn.proofs.LogKept.{ended_without, same_goes}
 use Rattle.qh_conn.proofs.OutCarries.{nothing_more}
 use Rattle.qh_conn.specs.Incoming.{acts_of}
+use Rattle.qh_conn.specs.Items.{EndsLogBy}
+use Rattle.qh_conn.specs.declared.connection.Connection.{Connection}
 use Rattle.qh_conn.specs.declared.event.ConnectionEvent.{ConnectionEvent}
 use Rattle.qh_converse.specs.Converses.{Converses}
 use Rattle.qh_conn.proofs.SameParts.{issued_stay, settled_after}
@@ -18,7 +21,8 @@ pub settled-requires-clause-whole : goal.settled-requires-clause-whole
 settled-requires-clause-whole g c =
     let issued = c.issue-issued in
     on_ok _ _ (λ _. whole_control c.args.self.now issued.new.self c.requires (issued.ensures.sendable c.args.self.now.core.side)
-    (issued_long issued.result c.args.self.now.control issued.new.self c.as_slice-in-NewIdentifiers.result.now issued.ensures.ok issued.ensures.err)) issued.result issued.ensures.ok
+    (issued_long issued.result c.args.self.now.control issued.new.self c.as_slice-in-NewIdentifiers.result.now issued.ensures.ok issued.ensures.err)
+    (issued_unlogged issued.result c.args.self.now.control issued.new.self c.as_slice-in-NewIdentifiers.result.now issued.ensures.ok issued.ensures.err)) issued.result issued.ensures.ok
 
 pub returns-else-is_closed-clause-carries : goal.returns-else-is_closed-clause-carries
 returns-else-is_closed-clause-carries g c = λ named hello t p.
@@ -38,3 +42,14 @@ returns-else-is_closed-clause-same g c =
 
 pub returns-in-Rebind-clause-same : goal.returns-in-Rebind-clause-same
 returns-in-Rebind-clause-same g c = same_self g.S.Session.key c.args.self.now
+
+pub returns-else-is_closed-clause-log : goal.returns-else-is_closed-clause-log
+returns-else-is_closed-clause-log g c =
+    let self = c.args.self.now in
+    let issued = c.issue-issued in
+    let log = issued_unlogged issued.result self.control issued.new.self c.as_slice-in-NewIdentifiers.result.now issued.ensures.ok issued.ensures.err in
+    let mid : Connection _ = record self { control = issued.new.self } in
+    let goes = same_goes self mid (record { connected = refl; due = refl; data_due = λ due. due; lost_logged = refl; told = record { lost = refl; drained = refl } }) log in
+    let new : Connection _ = c.settled.new.self in
+    subst (λ (z : ConnectionEvent). OnErr c.settled.result (EndsLogBy z self new)) (sym c.in-NewIdentifiers.is)
+    (ended_without issued.result c.settled.result self mid new c.settled.ensures.value c.requires.current goes c.settled.ensures.log)

@@ -1,7 +1,8 @@
-use Rattle.std.proofs.Common.{◌≡◌, Bool, true, false, ℕ, refl, ap, subst}
+use Rattle.std.proofs.Common.{◌≡◌, [], Bool, true, false, ℕ, refl, ap, subst}
 use Rattle.std.specs.Prelude.{MatchBool, is_some}
 use Rattle.qh_conn.proofs.OutKeys.{closed_of, open_of}
 use Rattle.qh_conn.proofs.InSound.{sound_queue}
+use Rattle.qh_conn.proofs.LogKept.{goes_both, same_goes}
 use Rattle.qh_conn.specs.Telling.{IsHandshakeTimed, IsTimedOut}
 use Rattle.qh_conn.specs.Whole.{IsWhole}
 use Rattle.qh_conn.specs.declared.connection.Connection.{Connection}
@@ -34,7 +35,7 @@ timed now old mid q handshake core rest lost = record {
 }
 
 queue_whole : {S : Type 0} (c : Connection S) (q : PlainQueue) → IsWhole c → StaySendable c.control.queue q → IsWhole (record c { control = record c.control { queue = q } })
-queue_whole c q w keeps = record { sound = sound_queue c q w.sound keeps; client = w.client }
+queue_whole c q w keeps = record { sound = sound_queue c q w.sound keeps; current = w.current; client = w.client }
 
 pub returns-then-is_closed-clause-ok : goal.returns-then-is_closed-clause-ok
 returns-then-is_closed-clause-ok g c =
@@ -73,3 +74,11 @@ returns-in_default-clause-same g c =
     let timed = both_same g.S.Session.key c.args.self.now mid lost (timed_same g.S.Session.key c.args.now.0 c.args.self.now mid e.handshake e.core e.rest)
     (same_control g.S.Session.key mid (record mid.control { queue = c.on_lost.new.self }) (control_kept mid.control refl)) in
     both_same g.S.Session.key c.args.self.now _ c.fail.new.self (both_same g.S.Session.key c.args.self.now lost _ timed (same_dropped g.S.Session.key lost)) (c.fail.ensures.same g.S.Session.key)
+
+pub returns-in_default-clause-log : goal.returns-in_default-clause-log
+returns-in_default-clause-log g c =
+    let self = c.args.self.now in
+    let mid = c.time_ends.new.self in
+    let lost : Connection _ = record mid { control = record mid.control { queue = c.on_lost.new.self } } in
+    let queued = same_goes mid lost (record { connected = refl; due = refl; data_due = λ due. due; lost_logged = refl; told = record { lost = refl; drained = refl } }) refl in
+    c.fail.ensures.log self [] c.requires.current (goes_both [] [] self mid lost c.time_ends.ensures.log queued)

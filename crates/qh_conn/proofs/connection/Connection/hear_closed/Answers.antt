@@ -1,4 +1,5 @@
 use Rattle.std.proofs.Common.{◌≡◌, ap, false, is_some, rules, subst, sym, true, ◌∙◌}
+use Rattle.qh_conn.proofs.CoreLog.{heard_log, shut_log}
 use Rattle.qh_conn.proofs.InClosed.{heard_greeted, heard_initial, heard_ungreeted, none_when, with_bytes}
 use Rattle.qh_conn.proofs.InSound.{shut_core, shut_heard, shut_taken, sound_counted, taken_anyway}
 use Rattle.qh_core.specs.Inner.{is_open}
@@ -19,8 +20,8 @@ returns-then-brings_close-clause-heard g c =
 
 pub returns-then-brings_close-clause-whole : goal.returns-then-brings_close-clause-whole
 returns-then-brings_close-clause-whole g c =
-    shut_core (with_bytes c.args.self.now c.saturating_add-self.result c.args.self.now.core) c.hear_closed.new.self (sound_counted c.args.self.now c.saturating_add-self.result c.requires.whole.sound) c.hear_closed.ensures.same_end
-    (shut_heard true _ _ c.requires.closed c.hear_closed.ensures.heard)
+    shut_core (with_bytes c.args.self.now c.saturating_add-self.result c.args.self.now.core) c.hear_closed.new.self (sound_counted c.args.self.now c.saturating_add-self.result c.requires.whole.sound) c.requires.whole.current c.hear_closed.ensures.same_end
+    (shut_heard true _ _ c.requires.closed c.hear_closed.ensures.heard) (heard_log true _ c.hear_closed.new.self c.hear_closed.ensures.heard)
 
 pub returns-then-not-is_greeted-clause-heard : goal.returns-then-not-is_greeted-clause-heard
 returns-then-not-is_greeted-clause-heard g c =
@@ -32,7 +33,8 @@ returns-then-not-is_greeted-clause-heard g c =
 pub returns-then-not-is_greeted-clause-whole : goal.returns-then-not-is_greeted-clause-whole
 returns-then-not-is_greeted-clause-whole g c =
     shut_core (with_bytes c.args.self.now c.saturating_add-self.result c.args.self.now.core) c.hear_closed-then-not-is_greeted.new.self (sound_counted c.args.self.now c.saturating_add-self.result c.requires.whole.sound)
-    c.hear_closed-then-not-is_greeted.ensures.same_end (shut_heard false _ _ c.requires.closed c.hear_closed-then-not-is_greeted.ensures.heard)
+    c.requires.whole.current c.hear_closed-then-not-is_greeted.ensures.same_end (shut_heard false _ _ c.requires.closed c.hear_closed-then-not-is_greeted.ensures.heard)
+    (heard_log false _ c.hear_closed-then-not-is_greeted.new.self c.hear_closed-then-not-is_greeted.ensures.heard)
 
 pub returns-else-not-is_greeted-clause-heard : goal.returns-else-not-is_greeted-clause-heard
 returns-else-not-is_greeted-clause-heard g c =
@@ -46,8 +48,9 @@ returns-else-not-is_greeted-clause-heard g c =
 pub returns-else-not-is_greeted-clause-whole : goal.returns-else-not-is_greeted-clause-whole
 returns-else-not-is_greeted-clause-whole g c =
     let shut : is_open c.shut_connected.new.self.core.state ≡ false = ap (λ k. is_open k.state) c.shut_connected.ensures.core ∙ c.requires.closed in
-    shut_core c.shut_connected.new.self c.handle_datagram.new.self c.shut_connected.ensures.whole.sound c.handle_datagram.ensures.same_end
-    (shut_taken _ c.args.now _ _ _ shut (taken_anyway _ c.args.now _ _ _ c.handle_datagram.result shut c.handle_datagram.ensures.ok c.handle_datagram.ensures.wanting))
+    let taken = taken_anyway _ c.args.now _ _ _ c.handle_datagram.result shut c.handle_datagram.ensures.ok c.handle_datagram.ensures.wanting in
+    shut_core c.shut_connected.new.self c.handle_datagram.new.self c.shut_connected.ensures.whole.sound c.shut_connected.ensures.whole.current c.handle_datagram.ensures.same_end (shut_taken _ c.args.now _ _ _ shut taken)
+    (shut_log _ c.args.now _ _ c.handle_datagram.new.self shut taken)
 
 pub returns-then-brings_close-clause-carries : goal.returns-then-brings_close-clause-carries
 returns-then-brings_close-clause-carries g c = λ named hello t p.

@@ -1,4 +1,4 @@
-use Rattle.std.proofs.Common.{◌≡◌, true}
+use Rattle.std.proofs.Common.{◌≡◌, true, ap}
 use Rattle.qh_base.specs.declared.connection_error.ConnectionError.TheVariants.{Memory, Reset}
 use Rattle.qh_conn.proofs.InHears.{open_lives}
 use Rattle.qh_conn.proofs.InSound.{sound_core, whole_core}
@@ -7,6 +7,7 @@ use Rattle.qh_converse.proofs.MidDatagram.{stays}
 use Rattle.qh_core.proofs.MadeEnds.{turned_made}
 use Rattle.qh_core.specs.Inner.{is_open}
 use Rattle.qh_core.specs.Made.IsTurned.{draining}
+use Rattle.qh_core.specs.declared.inner.Inner.{Inner}
 use Rattle.qh_conn.proofs.connection.Connection.hear_reset.Goals as goal
 
 pub returns-then-is_reset-clause-stands : goal.returns-then-is_reset-clause-stands
@@ -24,3 +25,4 @@ returns-then-is_reset-clause-sound g c = λ s.
 pub returns-then-is_reset-clause-whole : goal.returns-then-is_reset-clause-whole
 returns-then-is_reset-clause-whole g c = λ w.
     whole_core c.args.self.now c.drain.new.self w c.drain.ensures.same_end (open_of (is_open c.args.self.now.core.state) c.is_closed.result c.is_closed.ensures c.if-not-is_closed.true)
+    (ap (λ (z : Inner _). z.space.log) c.drain.ensures.draining.rest_is)

@@ -1,6 +1,7 @@
 use Rattle.std.proofs.Common.{sym, ◌∙◌}
 use Rattle.qh_conn.proofs.InClosed.{none_when}
 use Rattle.qh_conn.proofs.InFed.{read_known}
+use Rattle.qh_conn.proofs.LogKept.{stands_still}
 use Rattle.qh_conn.proofs.connection.Connection.meet.Goals as goal
 
 pub returns-then-was_greeted-clause-hears : goal.returns-then-was_greeted-clause-hears
@@ -14,3 +15,6 @@ returns-then-was_greeted-clause-same g c = λ before was p. p
 
 pub returns-clause-same : goal.returns-clause-same
 returns-clause-same g c = λ before was p. c.greet.ensures.same before (none_when before.handshake.peer (sym was ∙ c.if-was_greeted.false)) p
+
+pub returns-then-was_greeted-clause-log : goal.returns-then-was_greeted-clause-log
+returns-then-was_greeted-clause-log g c = stands_still c.args.self.now

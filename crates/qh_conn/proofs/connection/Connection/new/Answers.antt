@@ -1,13 +1,15 @@
-use Rattle.std.proofs.Common.{◌≡◌, ℕ, true, false, length, Option, None, sym, ap, subst, ◌∙◌}
+use Rattle.std.proofs.Common.{◌≡◌, List, ℕ, true, false, length, Option, None, sym, ap, subst, ◌∙◌}
 use Rattle.std.specs.Prelude.{is_some}
 use Rattle.qh_conn.proofs.FirstHandshake.{said_idle}
 use Rattle.qh_control.specs.Control.{IsSendable}
+use Rattle.qh_control.specs.Items.{streamed}
 use Rattle.qh_control.specs.declared.control.ControlState.{ControlState}
 use Rattle.qh_converse.specs.Settled.{milliseconds}
 use Rattle.qh_core.specs.Inner.{IsNewSpace}
 use Rattle.qh_core.specs.declared.config.ConnConfig.{ConnConfig as CoreConfig}
 use Rattle.qh_core.specs.declared.inner.Inner.{Inner}
 use Rattle.qh_spec.specs.declared.sides.Side.{Side}
+use Rattle.qh_streams.specs.declared.items.Item.{Item}
 use Rattle.qh_conn.proofs.connection.Connection.new.Goals as goal
 
 pub returns-clause-stands : goal.returns-clause-stands
@@ -45,5 +47,6 @@ returns-clause-whole g c =
         ungreeted = λ _. none;
         connected = λ e. cc;
       };
+      current = λ _. ap (λ (z : Option (List Item)). streamed z) c.new-core.ensures.space.log;
       client = λ _ greeted. let z : true ≡ false = sym greeted ∙ ap is_some ids.5 in cc;
     }

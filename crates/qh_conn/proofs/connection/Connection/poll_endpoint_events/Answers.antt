@@ -1,4 +1,5 @@
 use Rattle.std.proofs.Common.{Some, None, refl, ap}
+use Rattle.qh_conn.proofs.CoreLog.{drained_log}
 use Rattle.qh_conn.specs.Telling.IsEndpointTold.{control, of_core}
 use Rattle.qh_control.specs.declared.control.ControlState.{ControlState}
 use Rattle.qh_conn.proofs.SameParts.{endpoint_told_same}
@@ -16,7 +17,7 @@ returns-in-Some-Drained-clause-told g c =
 pub returns-in-Some-Drained-clause-whole : goal.returns-in-Some-Drained-clause-whole
 returns-in-Some-Drained-clause-whole g c =
     let nothing = c.poll_endpoint_event.ensures.none c.in_default.is in
-    c.still.ensures.whole c.args.self.now _ (record { handshake = refl; control = nothing.1; is_connected = refl })
+    c.still.ensures.whole c.args.self.now _ (record { handshake = refl; control = nothing.1; is_connected = refl; log = drained_log _ c.args.self.now.core c.poll_endpoint_events.new.self c.poll_endpoint_events.ensures.told })
     (c.made.ensures.endpoint _ c.args.self.now.core c.poll_endpoint_events.new.self c.poll_endpoint_events.ensures.told c.poll_endpoint_events.ensures.follows c.poll_endpoint_events.ensures.same_end) c.requires
 
 pub returns-in-None-clause-told : goal.returns-in-None-clause-told
@@ -28,7 +29,7 @@ returns-in-None-clause-told g c =
 pub returns-in-None-clause-whole : goal.returns-in-None-clause-whole
 returns-in-None-clause-whole g c =
     let nothing = c.poll_endpoint_event.ensures.none c.in_default.is in
-    c.still.ensures.whole c.args.self.now _ (record { handshake = refl; control = nothing.1; is_connected = refl })
+    c.still.ensures.whole c.args.self.now _ (record { handshake = refl; control = nothing.1; is_connected = refl; log = drained_log _ c.args.self.now.core c.poll_endpoint_events.new.self c.poll_endpoint_events.ensures.told })
     (c.made.ensures.endpoint _ c.args.self.now.core c.poll_endpoint_events.new.self c.poll_endpoint_events.ensures.told c.poll_endpoint_events.ensures.follows c.poll_endpoint_events.ensures.same_end) c.requires
 
 pub returns-in-Some-clause-same : goal.returns-in-Some-clause-same

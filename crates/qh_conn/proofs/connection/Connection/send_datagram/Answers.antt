@@ -1,5 +1,6 @@
 use Rattle.std.proofs.Common.{◌≡◌, List, Bool, true, false, Result, Ok, Err, ℕ, length, refl, sym, ap, ◌∙◌}
-use Rattle.std.specs.Prelude.{IfErr, OnOk}
+use Rattle.std.specs.Prelude.{IfErr, OnOk, is_some}
+use Rattle.qh_conn.proofs.LogKept.{current_by}
 use Rattle.qh_conn.specs.Whole.{IsWhole}
 use Rattle.qh_conn.specs.declared.connection.Connection.{Connection}
 use Rattle.qh_control.specs.Control.{IsSendable}
@@ -8,23 +9,21 @@ use Rattle.qh_control.specs.declared.datagrams.DatagramFault.{DatagramFault}
 use Rattle.qh_control.specs.declared.datagrams.DatagramFault.TheVariants.{Disabled, UnsupportedByPeer, TooLarge, Blocked, Memory}
 use Rattle.qh_conn.proofs.connection.Connection.send_datagram.Goals as goal
 
-ids : ControlState → List ℕ
-ids s = s.ids.active.id
-
-id_kept : (drop_old : Bool) (P : Type 0) (old new : ControlState) (a b c : ControlState) (result : Result Unit DatagramFault) → a.ids.active.id ≡ old.ids.active.id → b.ids.active.id ≡ old.ids.active.id
-    → c.ids.active.id ≡ old.ids.active.id → (drop_old ≡ false → OnOk result (P × (new ≡ a))) → (drop_old ≡ true → OnOk result (new ≡ b))
-    → IfErr result (λ e. (back : List ℕ) → e ≡ Blocked back → new ≡ c) → IfErr result (λ e. ((back : List ℕ) → e ≡ Blocked back → ⊥) → new ≡ old) → new.ids.active.id ≡ old.ids.active.id
-id_kept true P old new a b c (Ok _) f g h kept dropped blocked unchanged = ap (λ (z : ControlState). z.ids.active.id) (dropped refl) ∙ g
-id_kept false P old new a b c (Ok _) f g h kept dropped blocked unchanged = ap (λ (z : ControlState). z.ids.active.id) (kept refl).1 ∙ f
-id_kept d P old new a b c (Err (Blocked back)) f g h kept dropped blocked unchanged = ap (λ (z : ControlState). z.ids.active.id) (blocked back refl) ∙ h
-id_kept d P old new a b c (Err Disabled) f g h kept dropped blocked unchanged = ap (λ (z : ControlState). z.ids.active.id) (unchanged (λ back e. cc))
-id_kept d P old new a b c (Err UnsupportedByPeer) f g h kept dropped blocked unchanged = ap (λ (z : ControlState). z.ids.active.id) (unchanged (λ back e. cc))
-id_kept d P old new a b c (Err TooLarge) f g h kept dropped blocked unchanged = ap (λ (z : ControlState). z.ids.active.id) (unchanged (λ back e. cc))
-id_kept d P old new a b c (Err Memory) f g h kept dropped blocked unchanged = ap (λ (z : ControlState). z.ids.active.id) (unchanged (λ back e. cc))
+-- what of it a datagram that is queued, or isn't, leaves as it is
+kept_by : {A : Type 0} (f : ControlState → A) (drop_old : Bool) (P : Type 0) (old new : ControlState) (a b c : ControlState) (result : Result Unit DatagramFault) → f a ≡ f old → f b ≡ f old → f c ≡ f old
+    → (drop_old ≡ false → OnOk result (P × (new ≡ a))) → (drop_old ≡ true → OnOk result (new ≡ b))
+    → IfErr result (λ e. (back : List ℕ) → e ≡ Blocked back → new ≡ c) → IfErr result (λ e. ((back : List ℕ) → e ≡ Blocked back → ⊥) → new ≡ old) → f new ≡ f old
+kept_by f true P old new a b c (Ok _) ia ib ic kept dropped blocked unchanged = ap f (dropped refl) ∙ ib
+kept_by f false P old new a b c (Ok _) ia ib ic kept dropped blocked unchanged = ap f (kept refl).1 ∙ ia
+kept_by f d P old new a b c (Err (Blocked back)) ia ib ic kept dropped blocked unchanged = ap f (blocked back refl) ∙ ic
+kept_by f d P old new a b c (Err Disabled) ia ib ic kept dropped blocked unchanged = ap f (unchanged (λ back e. cc))
+kept_by f d P old new a b c (Err UnsupportedByPeer) ia ib ic kept dropped blocked unchanged = ap f (unchanged (λ back e. cc))
+kept_by f d P old new a b c (Err TooLarge) ia ib ic kept dropped blocked unchanged = ap f (unchanged (λ back e. cc))
+kept_by f d P old new a b c (Err Memory) ia ib ic kept dropped blocked unchanged = ap f (unchanged (λ back e. cc))
 
 control_whole : {S : Type 0} (c : Connection S) (s : ControlState) → IsWhole c → IsSendable c.core.side c.core.config.peer_datagram s → s.ids.active.id ≡ c.control.ids.active.id
-    → IsWhole (record c { control = s })
-control_whole c s w sendable id = record {
+    → s.log ≡ c.control.log → IsWhole (record c { control = s })
+control_whole c s w sendable id log = record {
   sound = record {
     handshake = w.sound.handshake;
     side_is = w.sound.side_is;
@@ -34,6 +33,7 @@ control_whole c s w sendable id = record {
     ungreeted = w.sound.ungreeted;
     connected = w.sound.connected;
   };
+  current = current_by c (record c { control = s }) (λ on. ap is_some (sym log) ∙ on) refl refl w.current;
   client = w.client;
 }
 
@@ -42,4 +42,5 @@ returns-clause-whole g c =
     let old = c.args.self.now in
     let e = c.send_datagram.ensures in
     control_whole old c.send_datagram.new.self c.requires (e.sendable old.core.side old.core.config.peer_datagram c.requires.sound.sendable)
-    (id_kept c.args.drop_old _ old.control c.send_datagram.new.self _ _ _ c.send_datagram.result refl refl refl e.kept e.dropped e.blocked e.unchanged)
+    (kept_by (λ (z : ControlState). z.ids.active.id) c.args.drop_old _ old.control c.send_datagram.new.self _ _ _ c.send_datagram.result refl refl refl e.kept e.dropped e.blocked e.unchanged)
+    (kept_by (λ (z : ControlState). z.log) c.args.drop_old _ old.control c.send_datagram.new.self _ _ _ c.send_datagram.result refl refl refl e.kept e.dropped e.blocked e.unchanged)

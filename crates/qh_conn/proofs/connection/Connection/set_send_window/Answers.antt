@@ -1,7 +1,8 @@
-use Rattle.std.proofs.Common.{refl, sym, subst}
+use Rattle.std.proofs.Common.{refl, sym, ap, subst}
 use Rattle.qh_conn.specs.Whole.{IsWhole}
 use Rattle.qh_conn.specs.declared.connection.Connection.{Connection}
 use Rattle.qh_converse.specs.Converses.{Converses}
+use Rattle.qh_core.specs.declared.inner.Inner.{Inner}
 use Rattle.qh_conn.proofs.connection.Connection.set_send_window.Goals as goal
 
 pub returns-clause-stands : goal.returns-clause-stands
@@ -14,4 +15,4 @@ pub returns-clause-whole : goal.returns-clause-whole
 returns-clause-whole g c =
     let made = c.made.ensures.set_send_window c.args.bytes c.args.self.now.core c.set_send_window.new.self c.set_send_window.ensures.value c.set_send_window.ensures.follows in
     subst (λ (z : Connection _). IsWhole z) (sym c.keep_early.ensures)
-    (c.still.ensures.streams_whole c.args.self.now _ (record { handshake = refl; control = refl; is_connected = refl }) made c.requires)
+    (c.still.ensures.streams_whole c.args.self.now _ (record { handshake = refl; control = refl; is_connected = refl; log = ap (λ (z : Inner _). z.space.log) c.set_send_window.ensures.value }) made c.requires)

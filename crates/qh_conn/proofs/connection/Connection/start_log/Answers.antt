@@ -1,5 +1,8 @@
-use Rattle.qh_conn.proofs.Noted.{whole_log}
+use Rattle.std.proofs.Common.{◌≡◌, false, is_some, rules}
+use Rattle.qh_conn.proofs.Begun.{ungreeted_started}
 use Rattle.qh_conn.proofs.connection.Connection.start_log.Goals as goal
 
-pub returns-clause-whole : goal.returns-clause-whole
-returns-clause-whole g c = whole_log c.start_streams.new.self _ (c.start_streams.ensures.whole c.requires.whole)
+pub returns-then-not-is_greeted-clause-ok : goal.returns-then-not-is_greeted-clause-ok
+returns-then-not-is_greeted-clause-ok g c =
+    let unknown : is_some c.args.self.now.handshake.peer ≡ false = search rules in
+    ungreeted_started c.args.self.now c.start.new.self c.start.ensures unknown

@@ -4,6 +4,8 @@ use Rattle.qh_conn.proofs.InClosed.{none_when}
 use Rattle.qh_conn.proofs.InFed.{ended_stands, failing, lost_fails, met_tags, rest_ends, restarted_read}
 use Rattle.qh_conn.proofs.InSound.{safe_of, shut_core, sound_idle, unready}
 use Rattle.qh_conn.proofs.InTake.{ended_by, still_unready, still_whole, taken_by}
+use Rattle.qh_conn.proofs.CoreLog.{ends_log}
+use Rattle.qh_conn.proofs.LogKept.{fed_current, fed_goes, goes_on, restarted_current, restarted_goes}
 use Rattle.qh_conn.specs.Incoming.{IsRestTaken}
 use Rattle.qh_converse.proofs.MidDatagram.{unheard}
 use Rattle.qh_packet.proofs.Surveys.{is_empty}
@@ -17,7 +19,7 @@ use Rattle.qh_conn.proofs.connection.Connection.take.Goals.{else-is_greeted-via-
 pub returns-in-Err : goal.returns-in-Err
 returns-in-Err g c =
     let named : c.in-Err.error ≡ Memory → ⊥ = search rules in
-    let whole = subst (λ z. IsWhole z) (sym c.end_by.ensures.rest) (shut_core c.feed.new.self c.end_by.new.self.core (c.in-Err.ensures.ended named) c.end_by.ensures.same_end c.end_by.ensures.closed) in
+    let whole = subst (λ z. IsWhole z) (sym c.end_by.ensures.rest) (shut_core c.feed.new.self c.end_by.new.self.core (c.in-Err.ensures.ended named) (fed_current c.args.self.now c.feed.new.self c.feed.ensures.rest c.feed.ensures.kept c.requires.whole.current) c.end_by.ensures.same_end c.end_by.ensures.closed (ends_log c.args.now c.in-Err.error c.feed.new.self.core c.end_by.new.self.core c.end_by.ensures.ends)) in
     record {
       ok = ended_by _ c.args.now c.args.datagram.now c.args.self.now c.feed.new.self c.end_by.new.self c.in-Err.error c.in-Err.ensures.err named c.end_by.ensures.ends c.end_by.ensures.rest;
       carries = λ from hello t p. (
@@ -30,6 +32,7 @@ returns-in-Err g c =
       same = both_same g.S.Session.key c.args.self.now c.feed.new.self c.end_by.new.self (ended_same _ c.args.now c.args.datagram.now c.args.self.now c.feed.new.self c.in-Err.error Memory c.in-Err.ensures.err named)
           (same_rest g.S.Session.key c.feed.new.self c.end_by.new.self c.end_by.ensures.rest (local_stays c.feed.new.self.core c.end_by.new.self.core [] c.end_by.ensures.made.0));
       lost = tt;
+      log = tt;
     }
 
 pub meet-requires-clause-sound : goal.meet-requires-clause-sound
@@ -39,10 +42,33 @@ pub meet-requires-clause-first : goal.meet-requires-clause-first
 meet-requires-clause-first g c = λ was.
     still_unready c.args.self.now c.feed.new.self c.restart.new.self (unready c.args.self.now c.requires.whole.sound (none_when c.args.self.now.handshake.peer (sym c.known-known.ensures.is_greeted ∙ was))) c.feed.ensures.rest c.restart.ensures.rest
 
+pub meet-requires-clause-current : goal.meet-requires-clause-current
+meet-requires-clause-current g c =
+    restarted_current c.feed.new.self c.restart.new.self c.restart.ensures.rest (fed_current c.args.self.now c.feed.new.self c.feed.ensures.rest c.feed.ensures.kept c.requires.whole.current)
+
 pub meet-requires-clause-whole : goal.meet-requires-clause-whole
 meet-requires-clause-whole g c = λ was.
     still_whole c.args.self.now c.feed.new.self c.restart.new.self c.requires.whole c.requires.open (sym c.known-known.ensures.is_greeted ∙ was) c.feed.ensures.side c.feed.ensures.rest c.restart.ensures.rest
-    (sound_idle c.feed.new.self c.restart.new.self c.in-Ok.ensures.sound c.restart.ensures.rest)
+    (sound_idle c.feed.new.self c.restart.new.self c.in-Ok.ensures.sound c.restart.ensures.rest) (meet-requires-clause-current g c)
+
+pub returns-in-Err-Memory-clause-log : goal.returns-in-Err-Memory-clause-log
+returns-in-Err-Memory-clause-log g c = ([], fed_goes c.args.self.now c.feed.new.self c.feed.ensures.rest)
+
+pub returns-in_err-meet-clause-log : goal.returns-in_err-meet-clause-log
+returns-in_err-meet-clause-log g c =
+    let self = c.args.self.now in
+    let fed = c.feed.new.self in
+    let again = c.restart.new.self in
+    any_err _ c.from_residual.result
+    (goes_on self again c.meet.new.self (goes_on self fed again ([], fed_goes self fed c.feed.ensures.rest) ([], restarted_goes fed again c.restart.ensures.rest)) c.meet.ensures.log)
+
+pub returns-in_err-take_data-clause-log : goal.returns-in_err-take_data-clause-log
+returns-in_err-take_data-clause-log g c =
+    let self = c.args.self.now in
+    let fed = c.feed.new.self in
+    let again = c.restart.new.self in
+    let met = goes_on self again c.meet.new.self (goes_on self fed again ([], fed_goes self fed c.feed.ensures.rest) ([], restarted_goes fed again c.restart.ensures.rest)) c.meet.ensures.log in
+    any_err _ c.from_residual-in_err-take_data.result (goes_on self c.meet.new.self c.take_data.new.self met c.in_err-take_data.ensures.log)
 
 pub returns-in_ok-take_data-clause-ok : goal.returns-in_ok-take_data-clause-ok
 returns-in_ok-take_data-clause-ok g c =

@@ -1,14 +1,19 @@
-use Rattle.std.proofs.Common.{ap, refl, sym, ◌∙◌}
+use Rattle.std.proofs.Common.{[], ap, refl, sym, subst, ◌∙◌, inl}
+use Rattle.qh_conn.proofs.CoreLog.{datagram_told}
 use Rattle.qh_conn.proofs.InFrames.{rest_closed, rest_open}
 use Rattle.qh_conn.proofs.InRest.{rest_unaccepted}
 use Rattle.qh_conn.proofs.InSound.{on_ok, safe_of, sound_core, sound_queue, whole_core, whole_queue}
+use Rattle.qh_conn.proofs.LogKept.{core_goes, current_by, followed_goes, frames_current, goes_on}
+use Rattle.qh_conn.proofs.Noted.{any_err}
 use Rattle.qh_conn.proofs.OutKeys.{closed_of, open_of}
 use Rattle.qh_core.specs.Inner.{is_open}
 use Rattle.qh_conn.proofs.InHears.{brought_came, either_way, rest_heard}
 use Rattle.qh_conn.proofs.SameParts.{datagram_stays, reset_same}
 use Rattle.qh_conn.proofs.Same.{both_same, control_kept, renamed_stays, same_control, same_core, same_then}
 use Rattle.qh_core.specs.declared.inner.Inner.{Inner}
+use Rattle.qh_conn.specs.Items.{IsLogCurrent}
 use Rattle.qh_conn.specs.declared.connection.Connection.{Connection}
+use Rattle.qh_space.specs.declared.data_space.DataSpace.{DataSpace}
 use Rattle.qh_conn.proofs.connection.Connection.take_data.Goals as goal
 
 pub returns-in_default-clause-ok : goal.returns-in_default-clause-ok
@@ -20,7 +25,7 @@ returns-in_default-clause-safe g c =
     safe_of _ (c.hear_reset.ensures.sound (sound_core c.args.self.now c.handle_datagram.new.self c.requires.whole.sound c.handle_datagram.ensures.same_end (λ _. c.requires.open)))
 
 pub returns-in_default-clause-whole : goal.returns-in_default-clause-whole
-returns-in_default-clause-whole g c = c.hear_reset.ensures.whole (whole_core c.args.self.now c.handle_datagram.new.self c.requires.whole c.handle_datagram.ensures.same_end c.requires.open)
+returns-in_default-clause-whole g c = c.hear_reset.ensures.whole (whole_core c.args.self.now c.handle_datagram.new.self c.requires.whole c.handle_datagram.ensures.same_end c.requires.open (ap (λ (z : DataSpace). z.log) (c.in_ok-accepted.ensures.none c.in_default.is)))
 
 pub be_connected-requires-clause-sound : goal.be_connected-requires-clause-sound
 be_connected-requires-clause-sound g c = sound_core c.args.self.now c.handle_datagram.new.self c.requires.whole.sound c.handle_datagram.ensures.same_end (λ _. c.requires.open)
@@ -42,8 +47,53 @@ returns-clause-safe g c = safe_of _ (sound_queue c.follow_ids.new.self c.on_lost
 
 pub returns-clause-whole : goal.returns-clause-whole
 returns-clause-whole g c =
-    on_ok _ _ (λ _. whole_queue c.follow_ids.new.self c.on_lost.new.self c.follow_ids.ensures.sound
-    (ap (λ x. x.is_connected) c.follow_ids.ensures.value ∙ (ap (λ x. x.is_connected) c.take_frames.ensures.rest ∙ c.be_connected.ensures.connected)) c.on_lost.ensures.sendable) c.on_lost.result c.on_lost.ensures.ok
+    let be = c.be_connected.new.self in
+    let frames = c.take_frames.new.self in
+    let current = frames_current be frames c.take_frames.ensures.rest c.take_frames.ensures.space c.take_frames.ensures.log c.in_ok-be_connected.ensures.current in
+    let followed = subst (λ (z : Connection _). IsLogCurrent z) (sym c.follow_ids.ensures.value) (current_by frames (record frames { core = record frames.core { remote_id = frames.control.ids.active.id } }) (λ on. on) refl refl current) in
+    on_ok _ _ (λ _. whole_queue c.follow_ids.new.self c.on_lost.new.self c.follow_ids.ensures.sound followed
+    (ap (λ x. x.is_connected) c.follow_ids.ensures.value ∙ (ap (λ x. x.is_connected) c.take_frames.ensures.rest ∙ c.in_ok-be_connected.ensures.connected)) c.on_lost.ensures.sendable) c.on_lost.result c.on_lost.ensures.ok
+
+pub returns-then-is_closed-clause-whole : goal.returns-then-is_closed-clause-whole
+returns-then-is_closed-clause-whole g c = record {
+  sound = c.take_frames.ensures.sound;
+  current = frames_current c.be_connected.new.self c.take_frames.new.self c.take_frames.ensures.rest c.take_frames.ensures.space c.take_frames.ensures.log c.in_ok-be_connected.ensures.current;
+  client = λ _ _. inl (ap (λ (z : Connection _). z.is_connected) c.take_frames.ensures.rest ∙ c.in_ok-be_connected.ensures.connected);
+}
+
+pub returns-in_err-accepted-clause-log : goal.returns-in_err-accepted-clause-log
+returns-in_err-accepted-clause-log g c =
+    let self = c.args.self.now in
+    let e = c.handle_datagram.ensures in
+    any_err _ c.from_residual.result ([], core_goes self c.handle_datagram.new.self (datagram_told _ c.args.now c.args.rest.now _ self.core c.handle_datagram.new.self c.handle_datagram.result e.ok e.err))
+
+pub returns-in_err-be_connected-clause-log : goal.returns-in_err-be_connected-clause-log
+returns-in_err-be_connected-clause-log g c =
+    let self = c.args.self.now in
+    let e = c.handle_datagram.ensures in
+    let mid : Connection _ = record self { core = c.handle_datagram.new.self } in
+    let first = core_goes self c.handle_datagram.new.self (datagram_told _ c.args.now c.args.rest.now _ self.core c.handle_datagram.new.self c.handle_datagram.result e.ok e.err) in
+    any_err _ c.from_residual-in_err-be_connected.result (goes_on self mid c.be_connected.new.self ([], first) c.be_connected.ensures.log)
+
+pub returns-in_err-take_frames-clause-log : goal.returns-in_err-take_frames-clause-log
+returns-in_err-take_frames-clause-log g c =
+    let self = c.args.self.now in
+    let e = c.handle_datagram.ensures in
+    let mid : Connection _ = record self { core = c.handle_datagram.new.self } in
+    let be = c.be_connected.new.self in
+    let first = core_goes self c.handle_datagram.new.self (datagram_told _ c.args.now c.args.rest.now _ self.core c.handle_datagram.new.self c.handle_datagram.result e.ok e.err) in
+    any_err _ c.from_residual-in_err-take_frames.result (goes_on self be c.take_frames.new.self (goes_on self mid be ([], first) c.be_connected.ensures.log) c.take_frames.ensures.log)
+
+pub returns-clause-log : goal.returns-clause-log
+returns-clause-log g c =
+    let self = c.args.self.now in
+    let e = c.handle_datagram.ensures in
+    let mid : Connection _ = record self { core = c.handle_datagram.new.self } in
+    let be = c.be_connected.new.self in
+    let frames = c.take_frames.new.self in
+    let first = core_goes self c.handle_datagram.new.self (datagram_told _ c.args.now c.args.rest.now _ self.core c.handle_datagram.new.self c.handle_datagram.result e.ok e.err) in
+    let goes = goes_on self be frames (goes_on self mid be ([], first) c.be_connected.ensures.log) c.take_frames.ensures.log in
+    any_err _ c.on_lost.result (goes_on self frames _ goes ([], followed_goes frames c.follow_ids.new.self c.on_lost.new.self c.follow_ids.ensures.value))
 
 pub returns-in_err-accepted-clause-safe : goal.returns-in_err-accepted-clause-safe
 returns-in_err-accepted-clause-safe g c =

@@ -1,6 +1,7 @@
-use Rattle.std.proofs.Common.{◌≡◌, true, Option, None, Some, refl, inl, inr, sym, ap, subst, ◌∙◌, ◌-◌, arith}
+use Rattle.std.proofs.Common.{◌≡◌, true, [], Option, None, Some, refl, inl, inr, sym, ap, subst, ◌∙◌, ◌-◌, arith}
 use Rattle.qh_base.specs.declared.transport_error.TransportError.{TransportError}
 use Rattle.qh_conn.proofs.InFrames.{all_read, cut_read, faulted_done, faulted_sound, faulted_stands, no_frame, one_more, refused_read}
+use Rattle.qh_conn.proofs.LogKept.{core_goes, goes_on}
 use Rattle.qh_conn.proofs.OutKeys.{closed_of}
 use Rattle.qh_core.specs.Inner.{is_open}
 use Rattle.qh_core.specs.Receiving.{IsFaulted}
@@ -30,6 +31,7 @@ loop-left-preserved g c = (
   one_more c.args.now c.args.accepted.now.frames.now c.loop-left.rest.now c.in-Ok.behind.now c.in-Ok.frame c.loop-left.left _ c.args.accepted.now.taken _ c.loop-left.self.control c.take_control.new.self.control
       c.in-Ok.ensures.found (omega (arith, c.loop-left-test.true)) c.in-Ok-take_control.ensures.unrefused c.in-Ok-take_control.ensures.taken c.loop-left.invariant.2,
   both_control true true _ c.loop-left.self.control _ c.loop-left.invariant.3 c.take_control.ensures.stays (λ is. is),
+  goes_on _ c.loop-left.self c.take_control.new.self c.loop-left.invariant.4 c.take_control.ensures.log,
 )
 
 refused_by : (f : StreamFault) (e : TransportError) (refusal : Option Refusal) → f ≡ Transport e → IsRefusedBy f refusal → IsRefusal (Transport e) refusal
@@ -105,3 +107,26 @@ returns-in-Err-Transport-clause-same g c =
     (both_same g.S.Session.key c.args.self.now c.loop-left.self tc (controls_same g.S.Session.key c.args.self.now c.loop-left.self c.loop-left.invariant.1 c.loop-left.invariant.3)
     (controls_same g.S.Session.key c.loop-left.self tc c.take_control.ensures.rest c.take_control.ensures.stays))
     (faulted_same g.S.Session.key c.args.now _ tc c.close_by_fault.new.self c.close_by_fault.ensures.faulted)
+
+pub returns-in_default-clause-log : goal.returns-in_default-clause-log
+returns-in_default-clause-log g c = c.loop-left.invariant.4
+
+pub returns-clause-log : goal.returns-clause-log
+returns-clause-log g c = c.loop-left.invariant.4
+
+pub returns-in-Err-Memory-clause-log : goal.returns-in-Err-Memory-clause-log
+returns-in-Err-Memory-clause-log g c = goes_on c.args.self.now c.loop-left.self c.take_control.new.self c.loop-left.invariant.4 c.take_control.ensures.log
+
+pub returns-in-Err-Memory-2-clause-log : goal.returns-in-Err-Memory-2-clause-log
+returns-in-Err-Memory-2-clause-log g c = goes_on c.args.self.now c.loop-left.self c.take_control.new.self c.loop-left.invariant.4 c.take_control.ensures.log
+
+pub returns-in-Err-Transport-clause-log : goal.returns-in-Err-Transport-clause-log
+returns-in-Err-Transport-clause-log g c =
+    let tc = c.take_control.new.self in
+    let is = c.close_by_fault.ensures.faulted.closed.rest_is in
+    goes_on c.args.self.now tc (record tc { core = c.close_by_fault.new.self }) (goes_on c.args.self.now c.loop-left.self tc c.loop-left.invariant.4 c.take_control.ensures.log)
+    ([], core_goes tc c.close_by_fault.new.self (record { lost = ap (λ (z : Inner _). z.is_lost_told) is; drained = ap (λ (z : Inner _). z.is_drained_told) is }))
+
+pub returns-in-Err-Transport-clause-space : goal.returns-in-Err-Transport-clause-space
+returns-in-Err-Transport-clause-space g c =
+    ap (λ (z : Inner _). z.space) c.close_by_fault.ensures.faulted.closed.rest_is ∙ (ap (λ (z : Connection _). z.core.space) c.take_control.ensures.rest ∙ ap (λ (z : Connection _). z.core.space) c.loop-left.invariant.1)

@@ -1,6 +1,7 @@
 use Rattle.std.proofs.Common.{◌≡◌, List, Option, ap, subst, ◌∙◌, inr}
 use Rattle.std.specs.Prelude.{IfOk}
 use Rattle.qh_conn.proofs.InSound.{on_ok}
+use Rattle.qh_conn.proofs.LogKept.{left_on}
 use Rattle.qh_conn.proofs.Noted.{any_err, on_err, still_untaken, taken_all, untaken_noted, whole_log}
 use Rattle.qh_conn.specs.declared.connection.Connection.{Connection}
 use Rattle.qh_conn.specs.Items.{untaken}
@@ -25,4 +26,6 @@ pub returns-in_err-note_loss-clause-still : goal.returns-in_err-note_loss-clause
 returns-in_err-note_loss-clause-still g c = any_err _ _ (ap (λ (z : Connection _). untaken z) c.in_err-note_loss.ensures.err)
 
 pub returns-clause-whole : goal.returns-clause-whole
-returns-clause-whole g c = whole_log c.note_loss.new.self _ (c.note_loss.ensures.whole c.requires)
+returns-clause-whole g c =
+    let mid = c.note_loss.new.self in
+    whole_log mid c.take.new.self (c.note_loss.ensures.whole c.requires) (left_on c.take.result mid.control.log c.take.new.self c.take.ensures.rest c.take.ensures.err)

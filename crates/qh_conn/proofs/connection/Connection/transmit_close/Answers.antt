@@ -92,7 +92,7 @@ returns-clause-whole g c =
     handshake_whole old c.transmit_close.new.self c.close_told.new.self c.requires.whole c.transmit_close.ensures.whole (ap (λ (z : Handshake). z.side) made.new_is)
     (ap (λ (z : Handshake). z.local_id) made.new_is) (ap (λ (z : Handshake). z.peer) made.new_is)
     (λ none. no_space old.handshake.space c.transmit_close.new.self.space made.space made.space_is none) c.close_told.ensures.same_end
-    (λ shut. subst (λ (z : Inner _). is_open z.state ≡ false) (sym c.close_told.ensures.value) (still_shut old.core.state shut))
+    (λ shut. subst (λ (z : Inner _). is_open z.state ≡ false) (sym c.close_told.ensures.value) (still_shut old.core.state shut)) (ap (λ (z : Inner _). z.space.log) c.close_told.ensures.value)
 
 pub returns-in_default-clause-same : goal.returns-in_default-clause-same
 returns-in_default-clause-same g c = same_self g.S.Session.key c.args.self.now

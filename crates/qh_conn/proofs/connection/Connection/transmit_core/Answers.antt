@@ -1,10 +1,13 @@
 use Rattle.std.proofs.Common.{◌≡◌, Option, Result, None, Some, Ok, Err, refl, ap}
+use Rattle.std.proofs.lemmas.Result.{on_err_weaker}
 use Rattle.std.specs.Prelude.{IfOk, IfSome}
 use Rattle.qh_base.specs.declared.memory.Memory.{Memory as OutOfMemory}
 use Rattle.qh_base.specs.declared.path.Transmit.{Transmit}
+use Rattle.qh_conn.proofs.CoreLog.{failed_told, transmit_log}
+use Rattle.qh_conn.proofs.InSound.{on_ok, safe_of}
+use Rattle.qh_conn.proofs.LogKept.{core_goes}
 use Rattle.qh_conn.proofs.OutCarries.{transmit_carries}
-use Rattle.qh_conn.proofs.OutWhole.{data_whole}
-use Rattle.qh_converse.proofs.MadeOpens.{made_opens}
+use Rattle.qh_conn.proofs.OutWhole.{data_sound, data_whole}
 use Rattle.qh_core.proofs.MadeEnds.{transmit_made}
 use Rattle.qh_core.specs.declared.inner.Inner.{Inner}
 use Rattle.qh_spec.specs.declared.sides.Space.TheVariants.{Data}
@@ -39,17 +42,24 @@ returns-clause-carries g c = λ named makes hello t p.
     (some_of _ _ c.poll_transmit.result e.some (λ m made. c.sends.ensures.short (g.S.Session.sealed old.core.session) c.args.now old.core new before after m made))
     (transmit_made g.S.Session.accepts g.S.Session.sealed c.args.now before after c.poll_transmit.result old.core new e.some e.read_back e.undisturbed e.none e.err e.follows e.same_end) p
 
+pub returns-clause-safe : goal.returns-clause-safe
+returns-clause-safe g c =
+    let old = c.args.self.now in
+    safe_of _ (data_sound old c.poll_transmit.new.self old.control old.is_control_next c.requires.whole c.poll_transmit.ensures.same_end c.requires.whole.sound.sendable refl)
+
 pub returns-clause-whole : goal.returns-clause-whole
 returns-clause-whole g c =
     let old = c.args.self.now in
-    let before = c.args.buf.now.items in
-    let after = c.poll_transmit.new.buf.items in
     let new = c.poll_transmit.new.self in
     let e = c.poll_transmit.ensures in
-    data_whole old new old.control old.is_control_next c.requires.whole c.requires.connected
-    (made_opens g.S.Session.accepts g.S.Session.sealed old.core new _
-    (transmit_made g.S.Session.accepts g.S.Session.sealed c.args.now before after c.poll_transmit.result old.core new e.some e.read_back e.undisturbed e.none e.err e.follows e.same_end).0)
-    c.poll_transmit.ensures.same_end c.requires.whole.sound.sendable refl
+    on_ok _ _ (λ log. data_whole old new old.control old.is_control_next c.requires.whole c.requires.connected e.same_end c.requires.whole.sound.sendable refl (λ on. on) log) c.poll_transmit.result
+    (transmit_log _ c.args.now c.args.buf.now.items c.poll_transmit.new.buf.items _ c.poll_transmit.result old.core new e.some e.none)
+
+pub returns-clause-log : goal.returns-clause-log
+returns-clause-log g c =
+    let old = c.args.self.now in
+    let new = c.poll_transmit.new.self in
+    on_err_weaker c.poll_transmit.result (λ h. core_goes old new (failed_told old.core new h.1)) c.poll_transmit.ensures.err
 
 pub returns-clause-same : goal.returns-clause-same
 returns-clause-same g c =

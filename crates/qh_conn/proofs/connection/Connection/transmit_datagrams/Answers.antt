@@ -1,5 +1,7 @@
-use Rattle.std.proofs.Common.{List, [], ◌∷◌, ◌||◌, Option, Ok, drop, false, sym, ap, subst, ◌∙◌, arith, refl}
+use Rattle.std.proofs.Common.{◌≡◌, List, [], ◌∷◌, ◌||◌, Option, is_some, Ok, drop, true, false, sym, ap, subst, ◌∙◌, arith, refl}
 use Rattle.std.specs.List.{AllByRecursion}
+use Rattle.qh_conn.proofs.CoreLog.{made_log}
+use Rattle.qh_conn.proofs.InSound.{safe_of}
 use Rattle.qh_conn.proofs.Noted.{log_sendable, next_whole}
 use Rattle.qh_conn.proofs.OutCarries.{err_carries, failed_carries, nothing_more, sent_carries}
 use Rattle.qh_conn.proofs.OutSent.{count_within, datagrams_out, some_payload, taken_within}
@@ -99,11 +101,16 @@ returns-clause-whole g c =
     let old = c.args.self.now in
     let sent = rw c.in-Some.is at c.in-Ok.ensures.some in
     let peer = old.core.config.peer_datagram in
+    let off = ap (λ (z : ControlState). z.log) (c.datagrams_sent.ensures.some sent.some) ∙ c.in_ok-entries.ensures.off in
     next_whole c.note_in.new.self false
     (c.note_in.ensures.whole
-    (data_whole old c.transmit_control.new.self c.datagrams_sent.new.self old.is_control_next c.requires.whole c.requires.connected (λ _. sent.opened) c.in-Ok.ensures.same_end
+    (data_whole old c.transmit_control.new.self c.datagrams_sent.new.self old.is_control_next c.requires.whole c.requires.connected c.in-Ok.ensures.same_end
     (c.datagrams_sent.ensures.sendable old.core.side peer (log_sendable old.core.side peer old.control _ c.requires.whole.sound.sendable))
-    (ap (λ (z : ControlState). z.ids.active.id) (c.datagrams_sent.ensures.some sent.some))))
+    (ap (λ (z : ControlState). z.ids.active.id) (c.datagrams_sent.ensures.some sent.some))
+    (λ on. let z : false ≡ true = sym (ap (λ (z : Option (List ConnectionItem)). is_some z) off) ∙ on in cc) (made_log c.args.now old.core c.transmit_control.new.self _ _ sent.made.bytes.made)))
+
+pub returns-clause-safe : goal.returns-clause-safe
+returns-clause-safe g c = safe_of _ (returns-clause-whole g c).sound
 
 pub returns-in_err-frames-clause-same : goal.returns-in_err-frames-clause-same
 returns-in_err-frames-clause-same g c = same_self g.S.Session.key c.args.self.now

@@ -50,7 +50,7 @@ module _ {S : Type 0} where
       subst (λ (z : Connection S). IsWhole z) (sym next_is)
       (handshake_whole old h (noted now flag old h).core w whole (ap (λ (z : Handshake). z.side) made.new_is) (ap (λ (z : Handshake). z.local_id) made.new_is)
       (ap (λ (z : Handshake). z.peer) made.new_is) (λ none. no_space old.handshake.space h.space made.space made.space_is none)
-      (record { side = refl; local_id = refl; remote_length = refl; config = refl }) (λ shut. shut))
+      (record { side = refl; local_id = refl; remote_length = refl; config = refl }) (λ shut. shut) refl)
 
 -- what the connection is once it was sent
 noted_is : (g : _) (c : goal.After-transmit_of g) → c.if-sent.self ≡ noted c.args.now c.in-Some.sent.is_ack_eliciting c.args.self.now c.poll_transmit.new.self

@@ -1,9 +1,10 @@
-use Rattle.std.proofs.Common.{Ok, false, refl, sym, ap, ◌∙◌, arith}
+use Rattle.std.proofs.Common.{Ok, false, refl, ap, ◌∙◌, arith}
+use Rattle.qh_conn.proofs.CoreLog.{made_log}
+use Rattle.qh_conn.proofs.InSound.{safe_of}
 use Rattle.qh_conn.proofs.OutCarries.{err_carries, failed_carries, sent_carries}
 use Rattle.qh_conn.proofs.OutSent.{count_within, waiting_sent}
-use Rattle.qh_conn.proofs.OutWhole.{data_whole, queue_sendable, same_queue}
+use Rattle.qh_conn.proofs.OutWhole.{data_sound, data_whole, queue_sendable, same_queue}
 use Rattle.qh_core.proofs.MadeEnds.{control_made}
-use Rattle.qh_core.specs.Inner.{is_open}
 use Rattle.qh_core.specs.declared.inner.Inner.{Inner}
 use Rattle.qh_spec.specs.declared.sides.Space.TheVariants.{Data}
 use Rattle.qh_conn.proofs.SameParts.{control_stays, out_same}
@@ -37,20 +38,21 @@ returns-clause-carries g c = λ named makes hello t p.
     (control_made g.S.Session.accepts g.S.Session.sealed c.args.now before after c.waiting-frames.result.now c.transmit_control.result old.core new e.some e.undisturbed e.none e.err e.follows e.same_end)
     (c.sends.ensures.short (g.S.Session.sealed old.core.session) c.args.now old.core new before after c.in-Some.sent.transmit sent.made) p
 
-pub returns-in_err-sent-clause-whole : goal.returns-in_err-sent-clause-whole
-returns-in_err-sent-clause-whole g c =
+pub returns-in_err-sent-clause-safe : goal.returns-in_err-sent-clause-safe
+returns-in_err-sent-clause-safe g c =
     let old = c.args.self.now in
     let s = c.requires.whole.sound.sendable in
-    data_whole old c.transmit_control.new.self (record old.control { queue = c.reserve.new.self }) old.is_control_next c.requires.whole c.requires.connected (λ _. c.in_err-sent.ensures.wanting.0) c.in_err-sent.ensures.same_end
-    (queue_sendable old.core.side old.core.config.peer_datagram old.control c.reserve.new.self (same_queue _ _ old.control.queue c.reserve.new.self c.in_ok-reserve.ensures.rest s.frames) s) refl
+    safe_of _
+    (data_sound old c.transmit_control.new.self (record old.control { queue = c.reserve.new.self }) old.is_control_next c.requires.whole c.in_err-sent.ensures.same_end
+    (queue_sendable old.core.side old.core.config.peer_datagram old.control c.reserve.new.self (same_queue _ _ old.control.queue c.reserve.new.self c.in_ok-reserve.ensures.rest s.frames) s) refl)
 
 pub returns-in_default-clause-whole : goal.returns-in_default-clause-whole
 returns-in_default-clause-whole g c =
     let old = c.args.self.now in
     let s = c.requires.whole.sound.sendable in
-    data_whole old c.transmit_control.new.self (record old.control { queue = c.reserve.new.self }) old.is_control_next c.requires.whole c.requires.connected
-    (λ up. ap (λ (z : Inner _). is_open z.state) (sym (c.in_ok-sent.ensures.none c.in_default.is).1) ∙ up) c.in_ok-sent.ensures.same_end
-    (queue_sendable old.core.side old.core.config.peer_datagram old.control c.reserve.new.self (same_queue _ _ old.control.queue c.reserve.new.self c.in_ok-reserve.ensures.rest s.frames) s) refl
+    data_whole old c.transmit_control.new.self (record old.control { queue = c.reserve.new.self }) old.is_control_next c.requires.whole c.requires.connected c.in_ok-sent.ensures.same_end
+    (queue_sendable old.core.side old.core.config.peer_datagram old.control c.reserve.new.self (same_queue _ _ old.control.queue c.reserve.new.self c.in_ok-reserve.ensures.rest s.frames) s) refl (λ on. on)
+    (ap (λ (z : Inner _). z.space.log) (c.in_ok-sent.ensures.none c.in_default.is).1)
 
 pub on_sent-requires-clause-some : goal.on_sent-requires-clause-some
 on_sent-requires-clause-some g c =
@@ -75,9 +77,13 @@ returns-clause-whole g c =
     let old = c.args.self.now in
     let sent = rw c.in-Some.is at c.in_ok-sent.ensures.some in
     let s = c.requires.whole.sound.sendable in
-    data_whole old c.transmit_control.new.self (record old.control { queue = c.on_sent.new.self }) false c.requires.whole c.requires.connected (λ _. sent.opened) c.in_ok-sent.ensures.same_end
+    data_whole old c.transmit_control.new.self (record old.control { queue = c.on_sent.new.self }) false c.requires.whole c.requires.connected c.in_ok-sent.ensures.same_end
     (queue_sendable old.core.side old.core.config.peer_datagram old.control c.on_sent.new.self
-    (c.on_sent.ensures.sendable old.core.side old.core.config.peer_datagram (same_queue _ _ old.control.queue c.reserve.new.self c.in_ok-reserve.ensures.rest s.frames)) s) refl
+    (c.on_sent.ensures.sendable old.core.side old.core.config.peer_datagram (same_queue _ _ old.control.queue c.reserve.new.self c.in_ok-reserve.ensures.rest s.frames)) s) refl (λ on. on)
+    (made_log c.args.now old.core c.transmit_control.new.self _ _ sent.made.bytes.made)
+
+pub returns-clause-safe : goal.returns-clause-safe
+returns-clause-safe g c = safe_of _ (returns-clause-whole g c).sound
 
 pub returns-in_err-reserve-clause-same : goal.returns-in_err-reserve-clause-same
 returns-in_err-reserve-clause-same g c =

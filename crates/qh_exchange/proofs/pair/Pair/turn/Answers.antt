@@ -8,7 +8,7 @@ use Rattle.qh_exchange.proofs.ClockSteps.{both_ticking}
 use Rattle.qh_exchange.proofs.Fairness.{fair_turn, told_by}
 use Rattle.qh_exchange.proofs.Faults.{fault_again}
 use Rattle.qh_exchange.proofs.FullTurns.{full_as}
-use Rattle.qh_exchange.proofs.Turns.{goes_well_as, goes_ill, clocked_well_as, clocked_ill, adds, protocol_again}
+use Rattle.qh_exchange.proofs.Turns.{goes_well_as, goes_ill, clocked_well_as, clocked_ill, known_well_as, known_ill, adds, protocol_again}
 use Rattle.qh_exchange.proofs.pair.Pair.turn.Goals as goal
 
 pub returns-in_err-advance-clause-goes_on : goal.returns-in_err-advance-clause-goes_on
@@ -38,6 +38,12 @@ returns-in_err-advance-clause-clock g c =
     let p = err_from_is_err_and c.from_residual.result c.from_residual.ensures.1 in
     rw (p.1, p.2, ← c.self.view_is)
     (λ before moments is t. clocked_ill _ _ _ _ _ _ (c.in_err-advance.ensures.clock before moments is (both_ticking _ _ moments t)))
+
+pub returns-in_err-advance-clause-known : goal.returns-in_err-advance-clause-known
+returns-in_err-advance-clause-known g c = rw (← c.self.view_is) (known_ill _ _ c.in_err-advance.ensures.step.same.known)
+
+pub returns-clause-known : goal.returns-clause-known
+returns-clause-known g c = rw (← c.self.view_is) (known_well_as _ _ _ c.self-2.view_is c.in_ok-advance.ensures.step.same.known)
 
 pub returns-clause-goes_on : goal.returns-clause-goes_on
 returns-clause-goes_on g c =

@@ -1,0 +1,4 @@
+mod After
+mod Answers
+mod Judged
+mod Kept

@@ -1,0 +1,19 @@
+use Rattle.std.proofs.Common.{sym}
+use Rattle.qh_endpoint.proofs.After.{unknown_answered}
+use Rattle.qh_endpoint.specs.Handled.{ignored, refused, attempt}
+use Rattle.qh_endpoint.proofs.endpoint.Endpoint.answer.Goals as goal
+
+pub returns-in-Ignored-clause-handled : goal.returns-in-Ignored-clause-handled
+returns-in-Ignored-clause-handled g c = λ log h is route judged. ignored h is route (rw c.in-Ignored.is at judged) c.requires.written
+
+pub returns-in-Unknown-clause-handled : goal.returns-in-Unknown-clause-handled
+returns-in-Unknown-clause-handled g c = unknown_answered g.K.G.ConnectionIdGenerator.cid_len g.K.G.ConnectionIdGenerator.validates _ _ _ _ _ _ c.args.now c.args.addresses.now c.args.datagram
+    c.stateless_reset.result c.args.self.now c.stateless_reset.new.self c.args.stranger c.in-Unknown.id c.stateless_reset.new.buf.items c.len.result c.in-Unknown.is (sym c.len.ensures.value) c.stateless_reset.ensures.reset
+
+pub returns-in_ok-transmit-in-Refused-clause-handled : goal.returns-in_ok-transmit-in-Refused-clause-handled
+returns-in_ok-transmit-in-Refused-clause-handled g c = λ log h is route judged. rw c.in_ok-transmit-in-Refused.ensures.transmit
+    (refused h c.args.self.now c.in-Refused.destination c.in-Refused.source c.in-Refused.code is route (rw c.in-Refused.is at judged) (c.in_ok-transmit-in-Refused.ensures.closed c.args.now c.args.datagram))
+
+pub returns-in_ok-incoming-in-Attempt-clause-handled : goal.returns-in_ok-incoming-in-Attempt-clause-handled
+returns-in_ok-incoming-in-Attempt-clause-handled g c = λ log h is route judged. attempt h c.args.self.now c.in-Attempt.destination c.in-Attempt.source c.in-Attempt.token c.in-Attempt.server c.in_ok-incoming-in-Attempt.incoming is route
+    (rw c.in-Attempt.is at judged) c.in_ok-incoming-in-Attempt.ensures.waiting c.requires.written

@@ -1,0 +1,5 @@
+pub mod Endpoint
+pub mod Handled
+pub mod Ids
+pub mod Leaving
+pub mod Stranger

@@ -1,0 +1,25 @@
+use qh_base::{ConnectionId, TransportErrorCode};
+use qh_incoming_token::IncomingToken;
+use qh_kit::ServerConfig;
+
+/// What a datagram is that has no route.
+#[derive(Clone, Copy)]
+pub(crate) enum Stranger {
+    /// Nothing is done with it.
+    Ignored,
+    /// It goes to an id of a connection that isn't known any more: a stateless reset answers it, as often as these are sent.
+    Unknown(ConnectionId),
+    /// It is an Initial packet of an attempt that is closed at once, with this error.
+    Refused {
+        destination: ConnectionId,
+        source: ConnectionId,
+        code: TransportErrorCode,
+    },
+    /// It begins an attempt.
+    Attempt {
+        destination: ConnectionId,
+        source: ConnectionId,
+        token: IncomingToken,
+        server: ServerConfig,
+    },
+}
