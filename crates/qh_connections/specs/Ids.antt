@@ -23,3 +23,8 @@ pub record AreNoneFresh (routes : Routes) (old new : List (List ℕ)) : Type 0 w
   pub all : length drawn ≡ 64
   pub all_issued : All (IsIssued routes) drawn
   pub given : new ≡ and_ids old drawn
+
+-- A source of ids after it gave some: they have the length that they had, and it takes for its own each id that it took for it.
+pub record IsSameSource {G : Type 0} (cid_len : G → ℕ) (validates : G → List ℕ → Type 0) (old new : G) : Type 0 where
+  pub same_len : cid_len new ≡ cid_len old
+  pub kept : (id : List ℕ) → validates old id → validates new id

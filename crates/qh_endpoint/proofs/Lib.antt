@@ -1,4 +1,5 @@
 mod After
 mod Answers
+mod Connects
 mod Judged
 mod Kept

@@ -1,3 +1,4 @@
+pub mod Connecting
 pub mod Endpoint
 pub mod Handled
 pub mod Ids

@@ -1,6 +1,7 @@
 ghost use Rattle.std.specs.Prelude.{◌≡◌, ◌↔◌, [], None, IfOk, IsTrue, is_some, option_copied};
 ghost use Rattle.qh_attempts.specs.Attempts.{IsPending, total_bytes};
-ghost use Rattle.qh_connections.specs.Connections.{connection_count, meta_at};
+ghost use Rattle.qh_connections.specs.Connections.{AreConnections, connection_count, meta_at};
+ghost use Rattle.qh_routes.specs.Routes.{HasNoEmptyId, NoKeyTwice};
 
 use crate::Incoming;
 use crate::incoming::Waiting;
@@ -77,6 +78,16 @@ impl<K: Kit> Endpoint<K> {
         ensures { self.new ≡ record self.old { server = server } }
     {
         self.server = server;
+    }
+
+    /// What holds of its connections and their routes at any time (`AreConnections`), and that each key has one route, and an empty id none. It does
+    /// nothing: its contract says so.
+    pub fn are_connections(&self)
+        ensures sound { AreConnections self.now.connections }
+        ensures distinct { NoKeyTwice self.now.connections.routes }
+        ensures named { HasNoEmptyId self.now.connections.routes }
+    {
+        self.connections.are_connections();
     }
 
     /// Whether a connection of this handle is live.

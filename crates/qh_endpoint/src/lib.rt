@@ -2,6 +2,8 @@
 //! connections, as `quinn-proto` has it in `endpoint`.
 #![tactic(auto)]
 
+mod asking;
+mod connecting;
 mod endpoint;
 mod event;
 mod handling;

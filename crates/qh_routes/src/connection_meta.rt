@@ -1,4 +1,4 @@
-ghost use Rattle.std.specs.Prelude.{◌≡◌, ◌+◌, ◌-◌, ◌<◌, ◌^◌, min, None, Some, OnOk, OnErr, []};
+ghost use Rattle.std.specs.Prelude.{◌≡◌, ◌+◌, ◌-◌, ◌<◌, ◌^◌, is_some, min, None, Some, OnOk, OnErr, []};
 ghost use Rattle.std.specs.Ordering.{nat_cmp};
 ghost use Rattle.std.specs.List.Sorted.{IsStrictlySortedBy};
 ghost use Rattle.std.specs.Map.{keys_of, lookup, remove_entry, values_of};
@@ -91,6 +91,13 @@ impl ConnectionMeta {
         ensures sorted { IsStrictlySortedBy nat_cmp (keys_of self.now.loc_cids) }
     {
         self.loc_cids.values()
+    }
+
+    /// Whether an id was issued with this sequence and not taken.
+    pub fn has_id(&self, sequence: u64) -> bool
+        ensures { result ≡ is_some (lookup (is_at (nat_cmp sequence)) self.now.loc_cids) }
+    {
+        self.loc_cids.contains_key(&sequence)
     }
 
     /// The id was issued with this sequence. It takes the place of one that was. The count of issued ids saturates.

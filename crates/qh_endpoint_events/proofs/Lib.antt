@@ -1,0 +1,4 @@
+mod Issuing
+mod Retiring
+mod Sequences
+mod TakingBack
