@@ -1,5 +1,6 @@
 ghost use Rattle.std.specs.Prelude.{◌≡◌, ◌≢◌, ◌↔◌, ℕ, ◌+◌, ◌-◌, ◌<◌, ◌≤◌, ◌^◌, [], List, length, Some, None, IfErr, IfOk, IsTrue, OnErr, OnOk};
 ghost use Rattle.qh_base.specs.declared.time.Moment.{Moment as AMoment};
+ghost use Rattle.qh_connections.specs.Ids.{IsSameSource};
 ghost use Rattle.qh_endpoint.specs.Endpoint.{PlainEndpoint, numbers};
 ghost use Rattle.qh_endpoint.specs.Handled.{IsClosed, IsHandled, IsKept, IsNegotiated, IsReset, IsUnhandled, IsWaiting};
 ghost use Rattle.qh_endpoint.specs.Ids.{HasShortIds};
@@ -47,6 +48,7 @@ impl<K: Kit> Endpoint<K> {
         requires { buf.old.items ≡ [] }
         ensures handled { IfOk result (IsHandled {S = K.S} (K.G.cid_len self.old.connections.ids) (K.G.validates self.old.connections.ids) K.G.given K.R.given K.T.limits K.T.stands K.S.key K.S.sealed now (record { remote = remote; local_ip = local_ip }) datagram self.old self.new buf.new.items) }
         ensures err { OnErr result (IsUnhandled self.old self.new buf.new.items) }
+        ensures source { IsSameSource K.G.cid_len K.G.validates self.old.connections.ids self.new.connections.ids }
     {
         let addresses = FourTuple { remote, local_ip };
         let header = match self.read(&datagram) {
@@ -126,6 +128,7 @@ impl<K: Kit> Endpoint<K> {
     ) -> Result<(), Memory>
         ensures ok { OnOk result (IsKept key now remote payload self.old self.new) }
         ensures err { OnErr result (self.new ≡ self.old) }
+        ensures ids { self.new.connections.ids ≡ self.old.connections.ids }
     {
         let datagram = KeptDatagram {
             now,
@@ -155,6 +158,7 @@ impl<K: Kit> Endpoint<K> {
             → IsHandled {S = K.S} (K.G.cid_len self.old.connections.ids) (K.G.validates self.old.connections.ids) K.G.given K.R.given K.T.limits K.T.stands K.S.key K.S.sealed now addresses.now datagram
             (record self.old { token_log = log }) self.new buf.new.items event) }
         ensures err { OnErr result (IsUnhandled self.old self.new buf.new.items) }
+        ensures source { IsSameSource K.G.cid_len K.G.validates self.old.connections.ids self.new.connections.ids }
     {
         match stranger {
             Stranger::Ignored => Ok(None),
@@ -203,6 +207,7 @@ impl<K: Kit> Endpoint<K> {
         ensures negotiated { IfOk result (λ event. (now : AMoment) (datagram : List ℕ) → length datagram ≡ size
             → IsNegotiated {S = K.S} (K.G.cid_len self.old.connections.ids) (K.G.validates self.old.connections.ids) K.G.given K.R.given K.T.limits K.T.stands K.S.key K.S.sealed now addresses.now datagram version destination.now source.now self.old self.new buf.new.items event) }
         ensures err { OnErr result (IsUnhandled self.old self.new buf.new.items) }
+        ensures ids { self.new.connections.ids ≡ self.old.connections.ids }
     {
         if self.server.is_none() || size < MIN_INITIAL_SIZE {
             return Ok(None);
@@ -231,6 +236,7 @@ impl<K: Kit> Endpoint<K> {
         ensures reset { IfOk result (λ event. (datagram : List ℕ) → length datagram ≡ size
             → IsReset {S = K.S} (K.G.cid_len self.old.connections.ids) (K.G.validates self.old.connections.ids) K.G.given K.R.given K.T.limits K.T.stands K.S.key K.S.sealed now addresses.now datagram id.now self.old self.new buf.new.items event) }
         ensures err { OnErr result (IsUnhandled self.old self.new buf.new.items) }
+        ensures ids { self.new.connections.ids ≡ self.old.connections.ids }
     {
         if self.is_reset_early(now) || size <= MAX_UNANSWERED {
             return Ok(None);
@@ -268,6 +274,7 @@ impl<K: Kit> Endpoint<K> {
             → IsClosed {S = K.S} (K.G.cid_len self.old.connections.ids) (K.G.validates self.old.connections.ids) K.G.given K.R.given K.T.limits K.T.stands K.S.key K.S.sealed now addresses.now datagram destination.now source.now code self.old self.new buf.new.items) }
         ensures transmit { IfOk result (λ transmit. transmit ≡ record { destination = addresses.now.remote; size = length buf.new.items; src_ip = addresses.now.local_ip }) }
         ensures err { OnErr result (IsUnhandled self.old self.new buf.new.items) }
+        ensures source { IsSameSource K.G.cid_len K.G.validates self.old.connections.ids self.new.connections.ids }
     {
         let own = self.connections.draw_any();
         let session = self.kit.session(*destination, b"")?;
@@ -294,6 +301,7 @@ impl<K: Kit> Endpoint<K> {
         requires { self.old.incoming.numbered ≢ 2 ^ 64 - 1 }
         ensures waiting { IfOk result (IsWaiting {S = K.S} (K.G.cid_len self.old.connections.ids) (K.G.validates self.old.connections.ids) K.G.given K.R.given K.T.limits K.T.stands K.S.key K.S.sealed now addresses.now datagram destination source token server self.old self.new) }
         ensures err { OnErr result (IsUnhandled self.old self.new []) }
+        ensures ids { self.new.connections.ids ≡ self.old.connections.ids }
     {
         let limits = BufferLimits {
             incoming_buffer_size: server.incoming_buffer_size,

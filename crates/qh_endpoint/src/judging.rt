@@ -33,6 +33,7 @@ impl<K: Kit> Endpoint<K> {
         requires { HasShortIds (header_of header.now) }
         ensures judged { IfOk result (IsJudged (K.G.cid_len self.old.connections.ids) (K.G.validates self.old.connections.ids) K.T.limits K.T.stands now remote size self.old self.new (header_of header.now)) }
         ensures err { OnErr result (self.new ≡ record self.old { token_log = self.new.token_log }) }
+        ensures ids { self.new.connections.ids ≡ self.old.connections.ids }
     {
         match *header {
             DatagramHeader::Initial {
@@ -73,6 +74,7 @@ impl<K: Kit> Endpoint<K> {
         requires source { length source.now ≤ 20 }
         ensures judged { IfOk result (λ stranger. (version : ℕ) → IsJudged (K.G.cid_len self.old.connections.ids) (K.G.validates self.old.connections.ids) K.T.limits K.T.stands now remote size self.old self.new (Initial version first destination.now source.now token.now) stranger) }
         ensures err { OnErr result (self.new ≡ record self.old { token_log = self.new.token_log }) }
+        ensures ids { self.new.connections.ids ≡ self.old.connections.ids }
     {
         let id = id_of(destination);
         let Some(server) = self.server else {
@@ -109,6 +111,7 @@ impl<K: Kit> Endpoint<K> {
             → IsFirstId (K.G.cid_len self.old.connections.ids) destination token.now → first / 4 % 4 ≡ 0
             → IsJudged (K.G.cid_len self.old.connections.ids) (K.G.validates self.old.connections.ids) K.T.limits K.T.stands now remote size self.old self.new (Initial version first destination source token.now) stranger) }
         ensures err { OnErr result (self.new ≡ record self.old { token_log = self.new.token_log }) }
+        ensures ids { self.new.connections.ids ≡ self.old.connections.ids }
     {
         let lifetimes = TokenLifetimes {
             retry: server.retry_token_lifetime,

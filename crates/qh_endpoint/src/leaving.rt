@@ -3,6 +3,7 @@ ghost use Rattle.qh_base.specs.declared.time.Moment.{Moment as AMoment};
 ghost use Rattle.qh_base.specs.declared.transport_error.TransportErrorCode.{TransportErrorCode as ACode};
 ghost use Rattle.qh_spec.specs.Codes as codes;
 ghost use Rattle.qh_attempts.specs.Attempts.{IsPending, PlainAttempt};
+ghost use Rattle.qh_connections.specs.Ids.{IsSameSource};
 ghost use Rattle.qh_endpoint.specs.Endpoint.{PlainEndpoint};
 ghost use Rattle.qh_endpoint.specs.Handled.{IsClosed, IsUnhandled};
 ghost use Rattle.qh_endpoint.specs.Leaving.{HasLeft};
@@ -31,6 +32,7 @@ impl<K: Kit> Endpoint<K> {
             × OnOk result ((code : ACode) × (code.0 ≡ codes.connection_refused) × ((now : AMoment) (datagram : List ℕ)
             → IsClosed {S = K.S} (K.G.cid_len mid.connections.ids) (K.G.validates mid.connections.ids) K.G.given K.R.given K.T.limits K.T.stands K.S.key K.S.sealed now incoming.addresses datagram incoming.destination incoming.source code mid self.new buf.new.items)) }
         ensures transmit { IfOk result (λ transmit. transmit ≡ record { destination = incoming.addresses.remote; size = length buf.new.items; src_ip = incoming.addresses.local_ip }) }
+        ensures source { IsSameSource K.G.cid_len K.G.validates self.old.connections.ids self.new.connections.ids }
     {
         let _ = self.take(&incoming);
         let code = TransportErrorCode::CONNECTION_REFUSED;
