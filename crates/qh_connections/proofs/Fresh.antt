@@ -1,8 +1,8 @@
 -- An id that a source gives is issued if the routes say so.
-use Rattle.std.proofs.Common.{ℕ, Bool, true, false, List, Option, Some, None}
+use Rattle.std.proofs.Common.{ℕ, Bool, true, false, List, Option, Some, None, inl, inr}
 use Rattle.std.specs.Prelude.{IfSome}
 use Rattle.std.proofs.lemmas.List.Elements.{All-weaker}
-use Rattle.qh_connections.specs.Ids.{AreNoneFresh, IsFreshId, IsIssued}
+use Rattle.qh_connections.specs.Ids.{AreNoneFresh, AreNoneFreshBut, IsFreshBut, IsFreshId, IsIssued, IsTaken}
 use Rattle.qh_generator.specs.Fresh.{AreIssued, IsFresh}
 use Rattle.qh_routes.specs.Routes.{Routes}
 
@@ -18,3 +18,12 @@ module _ (routes : Routes) (answers : List ℕ → Bool → Type 0) (yes : (id :
 
   pub none_here : AreIssued answers old new → AreNoneFresh routes old new
   none_here a = record { drawn = a.issued; all = a.all; all_issued = All-weaker (λ other. answers other true) (IsIssued routes) yes a.issued a.answered; given = a.given }
+
+module _ (routes : Routes) (other : List ℕ) (answers : List ℕ → Bool → Type 0) (yes : (id : List ℕ) → answers id true → IsTaken routes other id) (no : (id : List ℕ) → answers id false → IsTaken routes other id → ⊥) (old new : List (List ℕ)) where
+  pub fresh_but : (found : Option (List ℕ)) → IfSome found (IsFresh answers old new) → IfSome found (IsFreshBut routes other old new)
+  fresh_but found h =
+      if_some (IsFresh answers old new) (IsFreshBut routes other old new)
+      (λ id f. record { drawn = f.issued; few = f.few; all_taken = All-weaker (λ it. answers it true) (IsTaken routes other) yes f.issued f.answered; free = λ i. no id f.free (inl i); apart = λ e. no id f.free (inr e); given = f.given }) found h
+
+  pub none_but : AreIssued answers old new → AreNoneFreshBut routes other old new
+  none_but a = record { drawn = a.issued; all = a.all; all_taken = All-weaker (λ it. answers it true) (IsTaken routes other) yes a.issued a.answered; given = a.given }

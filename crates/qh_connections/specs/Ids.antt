@@ -1,5 +1,5 @@
 -- The ids of an endpoint, by its routes.
-use Rattle.std.specs.Prelude.{◌≡◌, ℕ, ◌<◌, List, [], ◌∷◌, ◌++◌, length, All}
+use Rattle.std.specs.Prelude.{◌≡◌, ◌≢◌, ◌⊎◌, ℕ, ◌<◌, List, [], ◌∷◌, ◌++◌, length, All}
 use Rattle.qh_generator.specs.Given.{and_ids}
 use Rattle.qh_routes.specs.Routes.{Routes, issued}
 use Rattle.qh_routes.specs.declared.connection_index.RouteDatagramTo.{RouteDatagramTo}
@@ -22,6 +22,26 @@ pub record AreNoneFresh (routes : Routes) (old new : List (List ℕ)) : Type 0 w
   pub drawn : List (List ℕ)
   pub all : length drawn ≡ 64
   pub all_issued : All (IsIssued routes) drawn
+  pub given : new ≡ and_ids old drawn
+
+-- the id is issued, or is this other one
+abbrev pub IsTaken : Routes → (other id : List ℕ) → Type 0
+IsTaken routes other id = IsIssued routes id ⊎ (id ≡ other)
+
+-- Fewer than 64 ids that are issued or the other one were drawn before this one, which is neither; no further one was.
+pub record IsFreshBut (routes : Routes) (other : List ℕ) (old new : List (List ℕ)) (id : List ℕ) : Type 0 where
+  pub drawn : List (List ℕ)
+  pub few : length drawn < 64
+  pub all_taken : All (IsTaken routes other) drawn
+  pub free : IsIssued routes id → ⊥
+  pub apart : id ≢ other
+  pub given : new ≡ and_ids old (drawn ++ id ∷ [])
+
+-- 64 ids were drawn, all of which are issued or the other one.
+pub record AreNoneFreshBut (routes : Routes) (other : List ℕ) (old new : List (List ℕ)) : Type 0 where
+  pub drawn : List (List ℕ)
+  pub all : length drawn ≡ 64
+  pub all_taken : All (IsTaken routes other) drawn
   pub given : new ≡ and_ids old drawn
 
 -- A source of ids after it gave some: they have the length that they had, and it takes for its own each id that it took for it.

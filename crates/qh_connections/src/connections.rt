@@ -1,7 +1,7 @@
 ghost use Rattle.std.specs.Prelude.{◌≡◌, ◌≢◌, ◌+◌, ◌-◌, ◌<◌, ◌^◌, ◌↔◌, ℕ, List, [], None, Some, IsOk, IsTrue, IfOk, IfErr, IfSome, OnErr, OnOk, length, option_copied, is_some, true};
 ghost use Rattle.qh_connections.specs.Connections.{AreConnections, AreExhausted, IsConnectionAdded, IsConnectionRemoved, IsKept, IsTokenReplaced, IsTracked, HasInstead, connection_count, id_at, meta_at, with_id, without_id, without_last};
 ghost use Rattle.qh_generator.specs.Given.{and_id};
-ghost use Rattle.qh_connections.specs.Ids.{AreNoneFresh, IsFreshId, IsIssued};
+ghost use Rattle.qh_connections.specs.Ids.{AreNoneFresh, AreNoneFreshBut, IsFreshBut, IsFreshId, IsIssued, IsTaken};
 ghost use Rattle.qh_connections.specs.declared.connections.IssueFault.TheVariants as fault;
 ghost use Rattle.qh_routes.specs.ConnectionMeta.{PlainMeta};
 ghost use Rattle.qh_routes.specs.Routes.{HasNoEmptyId, IsAdded, IsRemovedOf, IsRouted, NoKeyTwice, initial, issued, issued_count, keys_of, reset};
@@ -235,6 +235,20 @@ impl<G: ConnectionIdGenerator> Connections<G> {
         fresh_id(&mut self.ids, |id| index.is_issued(id))
     }
 
+    /// Draws the first id that isn't issued and isn't this one. None if 64 in a row are; then no further one is drawn.
+    pub fn draw_but(&mut self, other: &ConnectionId) -> Option<ConnectionId>
+        ensures fresh { IfSome result (λ id. IsFreshBut self.old.routes other.now (G.given self.old.ids) (G.given self.new.ids) id) }
+        ensures none { result ≡ None → AreNoneFreshBut self.old.routes other.now (G.given self.old.ids) (G.given self.new.ids) }
+        ensures size { IfSome result (λ id. length id ≡ G.cid_len self.old.ids) }
+        ensures own { IfSome result (λ id. G.validates self.new.ids id) }
+        ensures same_len { G.cid_len self.new.ids ≡ G.cid_len self.old.ids }
+        ensures kept { (id : List ℕ) → G.validates self.old.ids id → G.validates self.new.ids id }
+        ensures rest { self.new ≡ record self.old { ids = self.new.ids } }
+    {
+        let index = &self.index;
+        fresh_id(&mut self.ids, |id| is_taken(index, other, id))
+    }
+
     /// Draws an id from the source, whatever it is.
     pub fn draw_any(&mut self) -> ConnectionId
         ensures given { G.given self.new.ids ≡ and_id (G.given self.old.ids) result }
@@ -319,6 +333,13 @@ impl<G> Connections<G> {
         self.index.retire(id, handle);
         true
     }
+}
+
+// Whether the id is issued, or is the other one.
+fn is_taken(index: &ConnectionIndex, other: &ConnectionId, id: &ConnectionId) -> bool
+    ensures { IsTrue result ↔ IsTaken index.now other.now id.now }
+{
+    id.bytes() == other.bytes() || index.is_issued(id)
 }
 
 // Whether stateless resets from this address with this token are those from the other address with the other token.

@@ -1,16 +1,18 @@
 -- What judging a datagram leaves.
-use Rattle.std.proofs.Common.{◌≡◌, ℕ, ◌-◌, ◌^◌, List, length, Option, None, Result, Ok, Err, IfOk, OnErr, sym, ap, ◌∙◌, subst}
+use Rattle.std.proofs.Common.{◌≡◌, ℕ, ◌-◌, ◌<◌, ◌≤◌, ◌^◌, List, [], length, Option, Some, None, Result, Ok, Err, IfOk, OnErr, sym, ap, ◌∙◌, subst}
 use Rattle.std.specs.declared.net.socket_addr.SocketAddr.{SocketAddr}
 use Rattle.qh_base.specs.declared.memory.Memory.{Memory}
 use Rattle.qh_base.specs.declared.path.FourTuple.{FourTuple}
 use Rattle.qh_base.specs.declared.time.Moment.{Moment}
+use Rattle.qh_base.specs.declared.transport_error.TransportErrorCode.{TransportErrorCode}
+use Rattle.qh_endpoint.specs.Closed.{IsUnclosed}
 use Rattle.qh_endpoint.specs.Endpoint.{PlainEndpoint, numbers}
-use Rattle.qh_endpoint.specs.Handled.{IsHandled, IsNegotiated, IsReset, IsUnhandled, unknown, unsupported}
+use Rattle.qh_endpoint.specs.Handled.{IsHandled, IsLetGo, IsNegotiated, IsReset, IsResetEarly, IsUnhandled, closing, negotiating, resetting, unknown, unsupported, waiting}
 use Rattle.qh_endpoint.specs.Stranger.{IsJudged, numbered, no_server, unable, short_id, reserved, invalid, attempt, zero_rtt, long, foreign, short}
 use Rattle.qh_endpoint.specs.declared.event.DatagramEvent.{DatagramEvent}
+use Rattle.qh_endpoint.specs.declared.incoming.FirstPacket.{FirstPacket}
 use Rattle.qh_endpoint.specs.declared.stranger.Stranger.{Stranger}
-use Rattle.qh_endpoint.specs.declared.stranger.Stranger.TheVariants.{Unknown, Attempt}
-use Rattle.qh_incoming_token.specs.declared.incoming_token.IncomingToken.{IncomingToken}
+use Rattle.qh_endpoint.specs.declared.stranger.Stranger.TheVariants.{Unknown, Refused, Attempt}
 use Rattle.qh_kit.specs.declared.config.ServerConfig.{ServerConfig}
 use Rattle.qh_packet.specs.Session.{SealsTag}
 use Rattle.qh_routes.specs.Routes.{IsRouted, keys_of}
@@ -31,63 +33,98 @@ module _ {K G R T : Type 0} where
     only_log (short_id v f d s t server code is has can first e) = same_log old new e
     only_log (reserved v f d s t server has can first bits e) = same_log old new e
     only_log (invalid v f d s t server code is has can first bits taken e) = e
-    only_log (attempt v f d s t server taken has can first bits is e) = e
+    only_log (attempt v f d s t server known taken known_is has can first bits is e) = e
     only_log (zero_rtt v d s e) = same_log old new e
     only_log (long v d s e) = same_log old new e
     only_log (foreign f d is e) = same_log old new e
     only_log (short f d some own e) = same_log old new e
 
     -- an attempt that begins has a number
-    pub has_number : {h : Header} {s : Stranger} → IsJudged id_length Validates limits stands now remote size old new h s → (d c : List ℕ) (token : IncomingToken) (server : ServerConfig) → s ≡ Attempt d c token server
-        → new.incoming.numbered ≡ 2 ^ 64 - 1 → ⊥
-    has_number (no_server v f d s t n e) d' c token server is at_end = cc
-    has_number (unable v f d s t own has can e) d' c token server is at_end = cc
-    has_number (short_id v f d s t own code code_is has can first e) d' c token server is at_end = cc
-    has_number (reserved v f d s t own has can first bits e) d' c token server is at_end = cc
-    has_number (invalid v f d s t own code code_is has can first bits taken e) d' c token server is at_end = cc
-    has_number (attempt v f d s t own taken has can first bits taken_is e) d' c token server is at_end = can (numbered (sym (ap (λ (z : PlainEndpoint K G R T). z.incoming.numbered) e) ∙ at_end))
-    has_number (zero_rtt v d s e) d' c token server is at_end = cc
-    has_number (long v d s e) d' c token server is at_end = cc
-    has_number (foreign f d none e) d' c token server is at_end = cc
-    has_number (short f d some own e) d' c token server is at_end = cc
-
-  pub unhandled_after : {A : Type 0} (result : Result A Memory) (old mid new : PlainEndpoint K G R T) (written : List ℕ) → mid ≡ record old { token_log = mid.token_log }
-      → OnErr result (IsUnhandled mid new written) → OnErr result (IsUnhandled old new written)
-  unhandled_after (Ok a) old mid new written e u = tt
-  unhandled_after (Err x) old mid new written e u =
-      let is = subst (λ (z : PlainEndpoint K G R T). IsUnhandled z new written) e u in
-      record { unwritten = is.unwritten; routes = is.routes; metas = is.metas; attempts = is.attempts; numbered = is.numbered; rest = is.rest }
+    pub has_number : {h : Header} {s : Stranger} → IsJudged id_length Validates limits stands now remote size old new h s → (packet : FirstPacket) (server : ServerConfig) → s ≡ Attempt packet server → new.incoming.numbered ≡ 2 ^ 64 - 1 → ⊥
+    has_number (no_server v f d s t n e) packet server is at_end = cc
+    has_number (unable v f d s t own has can e) packet server is at_end = cc
+    has_number (short_id v f d s t own code code_is has can first e) packet server is at_end = cc
+    has_number (reserved v f d s t own has can first bits e) packet server is at_end = cc
+    has_number (invalid v f d s t own code code_is has can first bits taken e) packet server is at_end = cc
+    has_number (attempt v f d s t own known taken known_is has can first bits taken_is e) packet server is at_end = can (numbered (sym (ap (λ (z : PlainEndpoint K G R T). z.incoming.numbered) e) ∙ at_end))
+    has_number (zero_rtt v d s e) packet server is at_end = cc
+    has_number (long v d s e) packet server is at_end = cc
+    has_number (foreign f d none e) packet server is at_end = cc
+    has_number (short f d some own e) packet server is at_end = cc
 
 module _ {K G R T S : Type 0} (len : G → ℕ) (validates : G → List ℕ → Type 0) (given : G → List (List ℕ)) (drawn : R → List ℕ) (limits : T → TokenLimits) (stands : T → TokenLog → Type 0) (key : S → List ℕ)
     (sealed : S → SealsTag) (now : Moment) (addresses : FourTuple) (datagram : List ℕ) where
-  -- what is answered to a datagram that was judged at one endpoint, seen from another that has another log
-  abbrev pub IsAnswered : (from mid new : PlainEndpoint K G R T) (stranger : Stranger) (written : List ℕ) → Option DatagramEvent → Type 0
-  IsAnswered from mid new stranger written event = (log : T) (h : Header) → IsHeader (len from.connections.ids) (numbers from.config) from.config.grease_quic_bit datagram h
+  -- what follows where a datagram was judged at one endpoint, said of another that has another log
+  abbrev pub Follows : (P : PlainEndpoint K G R T → Type 0) (from mid : PlainEndpoint K G R T) (stranger : Stranger) → Type 0
+  Follows P from mid stranger = (log : T) (h : Header) → IsHeader (len from.connections.ids) (numbers from.config) from.config.grease_quic_bit datagram h
       → IsRouted from.connections.routes (keys_of addresses (destination_of h) (is_first h) datagram) None
-      → IsJudged (len from.connections.ids) (validates from.connections.ids) limits stands now addresses.remote (length datagram) (record from { token_log = log }) mid h stranger
-      → IsHandled {S = S} (len from.connections.ids) (validates from.connections.ids) given drawn limits stands key sealed now addresses datagram (record from { token_log = log }) new written event
+      → IsJudged (len from.connections.ids) (validates from.connections.ids) limits stands now addresses.remote (length datagram) (record from { token_log = log }) mid h stranger → P (record from { token_log = log })
+
+  abbrev pub Handled : (new : PlainEndpoint K G R T) (written : List ℕ) → Option DatagramEvent → (from : PlainEndpoint K G R T) → Type 0
+  Handled new written event from = IsHandled {S = S} len validates given drawn limits stands key sealed now addresses datagram from new written event
+
+  abbrev pub Unhandled : (new : PlainEndpoint K G R T) (written : List ℕ) (from : PlainEndpoint K G R T) → Type 0
+  Unhandled new written from = IsUnhandled {S = S} len validates given drawn limits stands key sealed now addresses datagram from new written
+
+  follows : (P : PlainEndpoint K G R T → Type 0) (old mid : PlainEndpoint K G R T) (h : Header) (stranger : Stranger)
+      → IsHeader (len old.connections.ids) (numbers old.config) old.config.grease_quic_bit datagram h
+      → IsRouted old.connections.routes (keys_of addresses (destination_of h) (is_first h) datagram) None
+      → IsJudged (len old.connections.ids) (validates old.connections.ids) limits stands now addresses.remote (length datagram) old mid h stranger
+      → Follows P mid mid stranger → P old
+  follows P old mid h stranger is route judged f = subst (λ (z : PlainEndpoint K G R T). Follows P z mid stranger) (only_log judged) f old.token_log h is route judged
 
   pub handled_after : (result : Result (Option DatagramEvent) Memory) (old mid new : PlainEndpoint K G R T) (h : Header) (stranger : Stranger) (written : List ℕ)
       → IsHeader (len old.connections.ids) (numbers old.config) old.config.grease_quic_bit datagram h
       → IsRouted old.connections.routes (keys_of addresses (destination_of h) (is_first h) datagram) None
       → IsJudged (len old.connections.ids) (validates old.connections.ids) limits stands now addresses.remote (length datagram) old mid h stranger
-      → IfOk result (IsAnswered mid mid new stranger written)
-      → IfOk result (IsHandled {S = S} (len old.connections.ids) (validates old.connections.ids) given drawn limits stands key sealed now addresses datagram old new written)
-  handled_after (Ok event) old mid new h stranger written is route judged answered =
-      subst (λ (z : PlainEndpoint K G R T). IsAnswered z mid new stranger written event) (only_log judged) answered old.token_log h is route judged
+      → IfOk result (λ event. Follows (Handled new written event) mid mid stranger) → IfOk result (λ event. Handled new written event old)
+  handled_after (Ok event) old mid new h stranger written is route judged answered = follows (Handled new written event) old mid h stranger is route judged answered
   handled_after (Err e) old mid new h stranger written is route judged answered = tt
+
+  pub unhandled_after : (result : Result (Option DatagramEvent) Memory) (old mid new : PlainEndpoint K G R T) (h : Header) (stranger : Stranger) (written : List ℕ)
+      → IsHeader (len old.connections.ids) (numbers old.config) old.config.grease_quic_bit datagram h
+      → IsRouted old.connections.routes (keys_of addresses (destination_of h) (is_first h) datagram) None
+      → IsJudged (len old.connections.ids) (validates old.connections.ids) limits stands now addresses.remote (length datagram) old mid h stranger
+      → OnErr result (Follows (Unhandled new written) mid mid stranger) → OnErr result (Unhandled new written old)
+  unhandled_after (Ok event) old mid new h stranger written is route judged answered = tt
+  unhandled_after (Err e) old mid new h stranger written is route judged answered = follows (Unhandled new written) old mid h stranger is route judged answered
 
   pub unknown_answered : (result : Result (Option DatagramEvent) Memory) (mid new : PlainEndpoint K G R T) (stranger : Stranger) (id written : List ℕ) (size : ℕ) → stranger ≡ Unknown id → length datagram ≡ size
       → IfOk result (λ event. (bytes : List ℕ) → length bytes ≡ size
-      → IsReset {S = S} (len mid.connections.ids) (validates mid.connections.ids) given drawn limits stands key sealed now addresses bytes id mid new written event)
-      → IfOk result (IsAnswered mid mid new stranger written)
+      → IsReset {S = S} len validates given drawn limits stands key sealed now addresses bytes id mid new written event)
+      → IfOk result (λ event. Follows (Handled new written event) mid mid stranger)
   unknown_answered (Ok event) mid new stranger id written size is size_is reset = λ log h header route judged. unknown h mid id event header route (rw is at judged) (reset datagram size_is)
   unknown_answered (Err e) mid new stranger id written size is size_is reset = tt
+
+  pub unknown_unanswered : (result : Result (Option DatagramEvent) Memory) (mid new : PlainEndpoint K G R T) (stranger : Stranger) (id written : List ℕ) (size : ℕ) → stranger ≡ Unknown id → length datagram ≡ size
+      → OnErr result (IsResetEarly {S = S} len validates given drawn limits stands key sealed now addresses datagram mid → ⊥) → OnErr result (21 < size) → OnErr result (new ≡ record mid { words = new.words }) → OnErr result (written ≡ [])
+      → OnErr result (Follows (Unhandled new written) mid mid stranger)
+  unknown_unanswered (Ok event) mid new stranger id written size is size_is late above rest none = tt
+  unknown_unanswered (Err e) mid new stranger id written size is size_is late above rest none =
+      λ log h header route judged. resetting h mid id header route (rw is at judged) late (subst (λ (n : ℕ). 21 < n) (sym size_is) above) rest none
+
+  pub closing_unanswered : {A : Type 0} (result : Result A Memory) (mid new : PlainEndpoint K G R T) (stranger : Stranger) (d s written : List ℕ) (code : TransportErrorCode) → stranger ≡ Refused d s code → IsUnclosed given mid new written
+      → OnErr result (Follows (Unhandled new written) mid mid stranger)
+  closing_unanswered (Ok a) mid new stranger d s written code is unclosed = tt
+  closing_unanswered (Err x) mid new stranger d s written code is unclosed = λ log h header route judged. closing h mid d s code header route (rw is at judged) unclosed
+
+  pub waiting_unanswered : {A : Type 0} (result : Result A Memory) (mid new : PlainEndpoint K G R T) (stranger : Stranger) (packet : FirstPacket) (server : ServerConfig) (written : List ℕ) → stranger ≡ Attempt packet server → IsLetGo mid new → written ≡ []
+      → OnErr result (Follows (Unhandled new written) mid mid stranger)
+  waiting_unanswered (Ok a) mid new stranger packet server written is gone empty = tt
+  waiting_unanswered (Err x) mid new stranger packet server written is gone empty = λ log h header route judged. waiting h mid packet server header route (rw is at judged) gone empty
 
   pub unsupported_handled : (result : Result (Option DatagramEvent) Memory) (old new : PlainEndpoint K G R T) (version : ℕ) (destination source written : List ℕ) (size : ℕ)
       → IsUnsupported (numbers old.config) old.config.grease_quic_bit datagram version destination source → length datagram ≡ size
       → IfOk result (λ event. (moment : Moment) (bytes : List ℕ) → length bytes ≡ size
-      → IsNegotiated {S = S} (len old.connections.ids) (validates old.connections.ids) given drawn limits stands key sealed moment addresses bytes version destination source old new written event)
-      → IfOk result (IsHandled {S = S} (len old.connections.ids) (validates old.connections.ids) given drawn limits stands key sealed now addresses datagram old new written)
+      → IsNegotiated {S = S} len validates given drawn limits stands key sealed moment addresses bytes version destination source old new written event)
+      → IfOk result (λ event. Handled new written event old)
   unsupported_handled (Ok event) old new version destination source written size is size_is told = unsupported version destination source event is (told now datagram size_is)
   unsupported_handled (Err e) old new version destination source written size is size_is told = tt
+
+  pub unsupported_unhandled : (result : Result (Option DatagramEvent) Memory) (old new : PlainEndpoint K G R T) (version : ℕ) (destination source written : List ℕ) (size : ℕ)
+      → IsUnsupported (numbers old.config) old.config.grease_quic_bit datagram version destination source → length datagram ≡ size
+      → OnErr result ((server : ServerConfig) × (old.server ≡ Some server) × (1200 ≤ size)) → OnErr result (new ≡ record old { words = new.words }) → OnErr result (written ≡ [])
+      → OnErr result (Unhandled new written old)
+  unsupported_unhandled (Ok event) old new version destination source written size is size_is large rest none = tt
+  unsupported_unhandled (Err e) old new version destination source written size is size_is large rest none =
+      negotiating version destination source large.0 is large.1 (subst (λ (n : ℕ). 1200 ≤ n) (sym size_is) large.2) rest none

@@ -24,22 +24,23 @@ same_fault n versions grease bytes datagram f g e is h = subst (λ (z : List ℕ
 abbrev pub IsSent : (addresses : FourTuple) (size : ℕ) → Transmit → Type 0
 IsSent addresses size t = t ≡ record { destination = addresses.remote; size = size; src_ip = addresses.local_ip }
 
-module _ {K G R T S : Type 0} (id_length : ℕ) (Validates : List ℕ → Type 0) (given : G → List (List ℕ)) (drawn : R → List ℕ) (limits : T → TokenLimits) (stands : T → TokenLog → Type 0) (key : S → List ℕ)
+module _ {K G R T S : Type 0} (cid_len : G → ℕ) (validates : G → List ℕ → Type 0) (given : G → List (List ℕ)) (drawn : R → List ℕ) (limits : T → TokenLimits) (stands : T → TokenLog → Type 0) (key : S → List ℕ)
     (sealed : S → SealsTag) (now : Moment) (addresses : FourTuple) (datagram : List ℕ) (old new : PlainEndpoint K G R T) (out written : List ℕ) (size : ℕ) (t : Transmit) (is_sent : IsSent addresses size t) (size_is : size ≡ length written) (empty : out ≡ []) where
-  pub reset_sent : (id : List ℕ) (count : ℕ) → length datagram ≡ count → (IsResetEarly {S = S} id_length Validates given drawn limits stands key sealed now addresses datagram old → ⊥) → 21 < count
+  pub reset_sent : (id : List ℕ) (count : ℕ) → length datagram ≡ count → ((cause_len : ℕ) (id words bytes : List ℕ) → IsResetOf cause_len id words bytes → (21 ≤ length bytes) × (length bytes < cause_len)) → (IsResetEarly {S = S} cid_len validates given drawn limits stands key sealed now addresses datagram old → ⊥) → 21 < count
       → ((words bytes : List ℕ) × (drawn new.words ≡ and_words (drawn old.words) words) × (written ≡ out ++ bytes) × IsResetOf count id words bytes)
       → new ≡ record old { words = new.words; last_reset = Some now }
-      → IsReset {S = S} id_length Validates given drawn limits stands key sealed now addresses datagram id old new written (Some (Response t))
-  reset_sent id count count_is late above put rest =
+      → IsReset {S = S} cid_len validates given drawn limits stands key sealed now addresses datagram id old new written (Some (Response t))
+  reset_sent id count count_is shorter late above put rest =
       let bytes : written ≡ put.1 = put.3 ∙ ap (λ (z : List ℕ). z ++ put.1) empty in
       let of_count : IsResetOf count id put.0 written = subst (λ (z : List ℕ). IsResetOf count id put.0 z) (sym bytes) put.4 in
       rw (is_sent ∙ ap (λ (n : ℕ). record { destination = addresses.remote; size = n; src_ip = addresses.local_ip }) size_is)
-      (sent put.0 late (subst (λ (n : ℕ). 21 < n) (sym count_is) above) put.2 (subst (λ (n : ℕ). IsResetOf n id put.0 written) (sym count_is) of_count) rest)
+      (sent put.0 late (subst (λ (n : ℕ). 21 < n) (sym count_is) above) put.2 (subst (λ (n : ℕ). IsResetOf n id put.0 written) (sym count_is) of_count)
+      (subst (λ (n : ℕ). length written < n) (sym count_is) (shorter count id put.0 written of_count).1) rest)
 
   pub versions_told : (version : ℕ) (destination source : List ℕ) (server : ServerConfig) → old.server ≡ Some server → 1200 ≤ length datagram
       → ((word : ℕ) × (drawn new.words ≡ and_word (drawn old.words) word) × (written ≡ out ++ negotiation_bytes word version destination source (numbers old.config)))
       → new ≡ record old { words = new.words }
-      → IsNegotiated {S = S} id_length Validates given drawn limits stands key sealed now addresses datagram version destination source old new written (Some (Response t))
+      → IsNegotiated {S = S} cid_len validates given drawn limits stands key sealed now addresses datagram version destination source old new written (Some (Response t))
   versions_told version destination source server has large put rest =
       rw (is_sent ∙ ap (λ (n : ℕ). record { destination = addresses.remote; size = n; src_ip = addresses.local_ip }) size_is)
       (told server put.0 has large put.1 (put.2 ∙ ap (λ (z : List ℕ). z ++ negotiation_bytes put.0 version destination source (numbers old.config)) empty) rest)

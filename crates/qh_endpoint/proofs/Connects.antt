@@ -27,9 +27,19 @@ pub only_ids : {K G R T : Type 0} (old : PlainEndpoint K G R T) (mid : PlainConn
     → record old { connections = mid } ≡ record old { connections = record old.connections { ids = mid.ids } }
 only_ids {G = G} old mid e = ap (λ (n : PlainConnections G). record old { connections = n }) e
 
+-- and the kit
+pub only_kit_ids : {K G R T : Type 0} (old : PlainEndpoint K G R T) (kit : K) (mid : PlainConnections G) → mid ≡ record old.connections { ids = mid.ids }
+    → record old { kit = kit; connections = mid } ≡ record old { kit = kit; connections = record old.connections { ids = mid.ids } }
+only_kit_ids {G = G} old kit mid e = ap (λ (n : PlainConnections G). record old { kit = kit; connections = n }) e
+
 -- the ids that were drawn come from one source
 pub same_source : {G : Type 0} (cid_len : G → ℕ) (validates : G → List ℕ → Type 0) (old mid new : G) → IsSameSource cid_len validates old mid → new ≡ mid → IsSameSource cid_len validates old new
 same_source cid_len validates old mid new same e = subst (IsSameSource cid_len validates old) (sym e) same
+
+pub source_through : {G : Type 0} (cid_len : G → ℕ) (validates : G → List ℕ → Type 0) (old mid after new : G) → IsSameSource cid_len validates old mid → after ≡ mid → IsSameSource cid_len validates after new → IsSameSource cid_len validates old new
+source_through {G = G} cid_len validates old mid after new first e later =
+    let second = subst (λ (z : G). IsSameSource cid_len validates z new) e later in
+    record { same_len = second.same_len ∙ first.same_len; kept = λ id valid. second.kept id (first.kept id valid) }
 
 -- what a test that answered no decides isn't so
 pub never : {P : Type 0} → (IsTrue false ↔ P) → P → ⊥

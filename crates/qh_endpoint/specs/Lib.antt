@@ -1,6 +1,9 @@
+pub mod Accepting
+pub mod Closed
 pub mod Connecting
 pub mod Endpoint
 pub mod Handled
 pub mod Ids
 pub mod Leaving
+pub mod Retrying
 pub mod Stranger

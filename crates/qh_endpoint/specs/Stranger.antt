@@ -10,8 +10,10 @@ use Rattle.qh_endpoint.specs.declared.stranger.Stranger.{Stranger}
 use Rattle.qh_endpoint.specs.declared.stranger.Stranger.TheVariants.{Ignored, Unknown, Refused, Attempt}
 use Rattle.qh_incoming_token.specs.IncomingToken.{IsTakenFor}
 use Rattle.qh_incoming_token.specs.declared.incoming_token.IncomingToken.{IncomingToken}
-use Rattle.qh_incoming_token.specs.declared.incoming_token.IncomingTokenFault.TheVariants.{InvalidRetryToken}
+use Rattle.qh_incoming_token.specs.declared.incoming_token.IncomingTokenFault.TheVariants.{InvalidRetryToken, Memory as Wanting}
 use Rattle.qh_kit.specs.declared.config.ServerConfig.{ServerConfig}
+use Rattle.qh_packet.specs.Version.{number_of}
+use Rattle.qh_packet.specs.declared.version.Version.{Version}
 use Rattle.qh_routes.specs.Routes.{issued_count}
 use Rattle.qh_spec.specs.Codes as codes
 use Rattle.qh_spec.specs.TokenFilter.{TokenLimits}
@@ -46,12 +48,18 @@ module _ {K G R T : Type 0} (id_length : ℕ) (Validates : List ℕ → Type 0) 
     invalid : (version first : ℕ) (destination source token : List ℕ) (server : ServerConfig) (code : TransportErrorCode) → code.0 ≡ codes.invalid_token → old.server ≡ Some server → (CannotWait old server size → ⊥) → IsFirstId id_length destination token → first / 4 % 4 ≡ 0
         → IsTakenFor limits stands (lifetimes_of server) remote now destination token old.token_log new.token_log (Err InvalidRetryToken) → new ≡ record old { token_log = new.token_log }
         → IsJudged now remote size old new (Initial version first destination source token) (Refused destination source code)
-    attempt : (version first : ℕ) (destination source token : List ℕ) (server : ServerConfig) (taken : IncomingToken) → old.server ≡ Some server → (CannotWait old server size → ⊥) → IsFirstId id_length destination token → first / 4 % 4 ≡ 0
+    attempt : (version first : ℕ) (destination source token : List ℕ) (server : ServerConfig) (known : Version) (taken : IncomingToken) → number_of known ≡ version → old.server ≡ Some server → (CannotWait old server size → ⊥) → IsFirstId id_length destination token → first / 4 % 4 ≡ 0
         → IsTakenFor limits stands (lifetimes_of server) remote now destination token old.token_log new.token_log (Ok taken) → new ≡ record old { token_log = new.token_log }
-        → IsJudged now remote size old new (Initial version first destination source token) (Attempt destination source taken server)
+        → IsJudged now remote size old new (Initial version first destination source token) (Attempt (record { version = known; destination = destination; source = source; token = taken }) server)
     zero_rtt : (version : ℕ) (destination source : List ℕ) → new ≡ old → IsJudged now remote size old new (ZeroRtt version destination source) Ignored
     long : (version : ℕ) (destination source : List ℕ) → new ≡ old → IsJudged now remote size old new (Long version destination source) Ignored
     -- the id is no id of this endpoint's
     foreign : (first : ℕ) (destination : List ℕ) → (destination ≡ []) ⊎ (Validates destination → ⊥) → new ≡ old → IsJudged now remote size old new (Short first destination) Ignored
     -- a connection that isn't known any more had the id
     short : (first : ℕ) (destination : List ℕ) → destination ≢ [] → Validates destination → new ≡ old → IsJudged now remote size old new (Short first destination) (Unknown destination)
+
+  -- memory is wanting to note that a token was used, at the end of what is looked at; the token wasn't used before
+  pub data IsUnjudged (now : Moment) (remote : SocketAddr) (size : ℕ) (old new : PlainEndpoint K G R T) : Header → Type 0 where
+    unnoted : (version first : ℕ) (destination source token : List ℕ) (server : ServerConfig) → old.server ≡ Some server → (CannotWait old server size → ⊥) → IsFirstId id_length destination token → first / 4 % 4 ≡ 0
+        → IsTakenFor limits stands (lifetimes_of server) remote now destination token old.token_log new.token_log (Err Wanting) → new ≡ record old { token_log = new.token_log }
+        → IsUnjudged now remote size old new (Initial version first destination source token)

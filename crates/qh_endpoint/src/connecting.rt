@@ -1,10 +1,15 @@
-ghost use Rattle.std.specs.Prelude.{◌≡◌, ◌↔◌, ◌≤◌, Contains, IfErr, IfOk, IsTrue, None, OnErr, length, not, ◌==◌};
+ghost use Rattle.std.specs.Prelude.{◌≡◌, ◌↔◌, ◌≤◌, ℕ, List, [], Contains, IfErr, IfOk, IsTrue, None, OnErr, length, not, ◌==◌};
+ghost use Rattle.qh_conn.specs.Whole.{IsWhole, Stands};
+ghost use Rattle.qh_conn.specs.declared.connection.Connection.{Connection as AConnection};
 ghost use Rattle.qh_connections.specs.Connections.{IsConnectionAdded, IsKept};
 ghost use Rattle.qh_connections.specs.Ids.{IsIssued, IsSameSource};
+ghost use Rattle.qh_core.specs.Made.{AcceptsTags, MakesTagsOf};
 ghost use Rattle.qh_endpoint.specs.Connecting.{IsConnectRefused, IsConnected, IsFirstConnection, IsNoName, IsNowhere, conn_of};
+ghost use Rattle.qh_handshake.specs.Follows.{IsFresh};
 ghost use Rattle.qh_spec.specs.declared.sides.Side.TheVariants.{Client as AClient};
 
 use crate::Endpoint;
+use bytes::Bytes;
 use qh_base::{ConnectionId, FourTuple, Memory, Moment, Side};
 use qh_conn::{ConnConfig, Connection};
 use qh_kit::{ClientConfig, ConnectError, Kit};
@@ -48,7 +53,34 @@ impl<K: Kit> Endpoint<K> {
         }
     }
 
-    // A connection with this id, which isn't issued.
+    /// As `connect`, but that each Initial packet before a Retry packet bears this token, which an earlier connection to the server was given, of at
+    /// most 512 bytes (RFC 9000, section 8.1.3).
+    pub fn connect_bearing(
+        &mut self,
+        now: Moment,
+        config: ClientConfig,
+        remote: SocketAddr,
+        server_name: &[u8],
+        token: Bytes,
+    ) -> Result<(ConnectionHandle, Connection<K::S>), ConnectError>
+        requires { length token ≤ 512 }
+        ensures connected { IfOk result (λ made. (first : AConnection K.S) × IsConnected {S = K.S} (K.G.cid_len self.old.connections.ids) K.G.given K.G.validates K.S.key K.S.name K.S.knows now config remote server_name.now self.old self.new made.0 first
+            × (made.1 ≡ record first { handshake = record first.handshake { token = token } })) }
+        ensures whole { IfOk result (λ made. IsWhole made.1) }
+        ensures stands { IfOk result (λ made. (hello : List ℕ) × IsFresh hello made.1.handshake × ((accepts : AcceptsTags K.S) (sealed : MakesTagsOf K.S) → Stands accepts sealed hello made.1 [])) }
+        ensures refused { IfErr result (IsConnectRefused {S = K.S} (K.G.cid_len self.old.connections.ids) K.G.given K.G.validates K.S.key K.S.name K.S.knows now config remote server_name.now self.old self.new) }
+        ensures source { IsSameSource K.G.cid_len K.G.validates self.old.connections.ids self.new.connections.ids }
+    {
+        match self.connect(now, config, remote, server_name) {
+            Ok((handle, mut connection)) => {
+                connection.bear(token);
+                Ok((handle, connection))
+            }
+            Err(error) => Err(error),
+        }
+    }
+
+    // A connection to a server with this id, which isn't issued.
     fn begin(
         &mut self,
         now: Moment,
@@ -72,21 +104,41 @@ impl<K: Kit> Endpoint<K> {
             remote,
             local_ip: None,
         };
-        let connection = Connection::new(
-            self.alloc,
-            conn_of(config),
+        self.add_connection(
             Side::Client,
             session,
+            conn_of(config),
             remote_id,
             local_id,
             remote_id,
             addresses,
             now,
+        )
+    }
+
+    /// A connection of this side, with this id of its own, which isn't issued (quinn-proto, `Endpoint::add_connection`).
+    pub(crate) fn add_connection(
+        &mut self,
+        side: Side,
+        session: K::S,
+        config: ConnConfig,
+        key_id: ConnectionId,
+        local_id: ConnectionId,
+        remote_id: ConnectionId,
+        addresses: FourTuple,
+        now: Moment,
+    ) -> Result<(ConnectionHandle, Connection<K::S>), Memory>
+        requires { IsIssued self.old.connections.routes local_id → ⊥ }
+        ensures first { IfOk result (λ made. IsFirstConnection K.S.name config side session key_id local_id remote_id addresses now made.1) }
+        ensures added { IfOk result (λ made. IsConnectionAdded self.old.connections self.new.connections made.0 side key_id local_id addresses) }
+        ensures ids { self.new.connections.ids ≡ self.old.connections.ids }
+        ensures err { OnErr result (IsKept self.old.connections self.new.connections) }
+        ensures rest { self.new ≡ record self.old { connections = self.new.connections } }
+    {
+        let connection = Connection::new(
+            self.alloc, config, side, session, key_id, local_id, remote_id, addresses, now,
         )?;
-        match self
-            .connections
-            .add(Side::Client, remote_id, local_id, addresses)
-        {
+        match self.connections.add(side, key_id, local_id, addresses) {
             Ok(handle) => Ok((handle, connection)),
             Err(Memory) => {
                 // By a call, since a drop where a scope ends is proved field by field.

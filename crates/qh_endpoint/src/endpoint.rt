@@ -1,5 +1,5 @@
 ghost use Rattle.std.specs.Prelude.{◌≡◌, ◌↔◌, [], None, IfOk, IsTrue, is_some, option_copied};
-ghost use Rattle.qh_attempts.specs.Attempts.{IsPending, total_bytes};
+ghost use Rattle.qh_attempts.specs.Attempts.{AreAttempts, IsPending, total_bytes};
 ghost use Rattle.qh_connections.specs.Connections.{AreConnections, connection_count, meta_at};
 ghost use Rattle.qh_routes.specs.Routes.{HasNoEmptyId, NoKeyTwice};
 
@@ -88,6 +88,13 @@ impl<K: Kit> Endpoint<K> {
         ensures named { HasNoEmptyId self.now.connections.routes }
     {
         self.connections.are_connections();
+    }
+
+    /// What holds of its attempts that wait at any time (`AreAttempts`). It does nothing: its contract says so.
+    pub fn are_attempts(&self)
+        ensures { AreAttempts self.now.incoming }
+    {
+        self.incoming.are_attempts();
     }
 
     /// Whether a connection of this handle is live.

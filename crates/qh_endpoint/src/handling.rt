@@ -1,33 +1,32 @@
 ghost use Rattle.std.specs.Prelude.{◌≡◌, ◌≢◌, ◌↔◌, ℕ, ◌+◌, ◌-◌, ◌<◌, ◌≤◌, ◌^◌, [], List, length, Some, None, IfErr, IfOk, IsTrue, OnErr, OnOk};
+ghost use Rattle.qh_attempts.specs.Attempts.{HasRoom};
 ghost use Rattle.qh_base.specs.declared.time.Moment.{Moment as AMoment};
 ghost use Rattle.qh_connections.specs.Ids.{IsSameSource};
 ghost use Rattle.qh_endpoint.specs.Endpoint.{PlainEndpoint, numbers};
-ghost use Rattle.qh_endpoint.specs.Handled.{IsClosed, IsHandled, IsKept, IsNegotiated, IsReset, IsUnhandled, IsWaiting};
-ghost use Rattle.qh_endpoint.specs.Ids.{HasShortIds};
+ghost use Rattle.qh_endpoint.specs.Handled.{IsHandled, IsKept, IsLetGo, IsNegotiated, IsReset, IsResetEarly, IsUnhandled, IsWaiting};
+ghost use Rattle.qh_endpoint.specs.Ids.{IsFitting};
 ghost use Rattle.qh_endpoint.specs.Stranger.{IsJudged};
+ghost use Rattle.qh_endpoint.specs.declared.incoming.FirstPacket.{FirstPacket as AFirst};
 ghost use Rattle.qh_endpoint.specs.declared.stranger.Stranger.TheVariants.{Attempt as AnAttempt};
-ghost use Rattle.qh_incoming_token.specs.declared.incoming_token.IncomingToken.{IncomingToken as AToken};
 ghost use Rattle.qh_kit.specs.declared.config.ServerConfig.{ServerConfig as AServer};
 ghost use Rattle.qh_routes.specs.Routes.{IsRouted, keys_of};
 ghost use Rattle.qh_stateless.specs.Header.{Header, IsFault, IsHeader};
 ghost use Rattle.qh_stateless.specs.View.{destination_of, fault_of, header_of, is_first};
 
-use crate::incoming::Waiting;
+use crate::closing::{error_of, reply};
+use crate::incoming::{FirstPacket, Waiting};
 use crate::judging::{MIN_INITIAL_SIZE, id_of};
 use crate::stranger::Stranger;
 use crate::{DatagramEvent, Endpoint, Incoming};
 use bytes::Bytes;
 use qh_attempts::{BufferLimits, KeptDatagram};
-use qh_base::{
-    ConnectionId, FourTuple, Memory, Moment, Reason, Transmit, TransportError, TransportErrorCode,
-};
+use qh_base::{ConnectionId, FourTuple, Memory, Moment};
 use qh_conn::ConnectionEvent;
 use qh_generator::ConnectionIdGenerator;
-use qh_incoming_token::IncomingToken;
 use qh_kit::{Kit, ServerConfig};
 use qh_routes::{RouteDatagramTo, Routed};
 use qh_stateless::{
-    DatagramHeader, HeaderFault, put_initial_close, put_stateless_reset, put_versions, read_header,
+    DatagramHeader, HeaderFault, put_stateless_reset, put_versions, read_header, stateless_resets,
 };
 use std::net::{IpAddr, SocketAddr};
 
@@ -46,8 +45,8 @@ impl<K: Kit> Endpoint<K> {
         buf: &mut Vec<u8>,
     ) -> Result<Option<DatagramEvent>, Memory>
         requires { buf.old.items ≡ [] }
-        ensures handled { IfOk result (IsHandled {S = K.S} (K.G.cid_len self.old.connections.ids) (K.G.validates self.old.connections.ids) K.G.given K.R.given K.T.limits K.T.stands K.S.key K.S.sealed now (record { remote = remote; local_ip = local_ip }) datagram self.old self.new buf.new.items) }
-        ensures err { OnErr result (IsUnhandled self.old self.new buf.new.items) }
+        ensures handled { IfOk result (IsHandled {S = K.S} K.G.cid_len K.G.validates K.G.given K.R.given K.T.limits K.T.stands K.S.key K.S.sealed now (record { remote = remote; local_ip = local_ip }) datagram self.old self.new buf.new.items) }
+        ensures err { OnErr result (IsUnhandled {S = K.S} K.G.cid_len K.G.validates K.G.given K.R.given K.T.limits K.T.stands K.S.key K.S.sealed now (record { remote = remote; local_ip = local_ip }) datagram self.old self.new buf.new.items) }
         ensures source { IsSameSource K.G.cid_len K.G.validates self.old.connections.ids self.new.connections.ids }
     {
         let addresses = FourTuple { remote, local_ip };
@@ -88,7 +87,7 @@ impl<K: Kit> Endpoint<K> {
     // The header of the datagram's first packet.
     fn read<'a>(&self, datagram: &'a [u8]) -> Result<DatagramHeader<'a>, HeaderFault<'a>>
         ensures header { IfOk result (λ h. IsHeader (K.G.cid_len self.now.connections.ids) (numbers self.now.config) self.now.config.grease_quic_bit datagram.now (header_of h)) }
-        ensures short { IfOk result (λ h. HasShortIds (header_of h)) }
+        ensures fitting { IfOk result (λ h. IsFitting (numbers self.now.config) (header_of h)) }
         ensures fault { IfErr result (λ f. IsFault (K.G.cid_len self.now.connections.ids) (numbers self.now.config) self.now.config.grease_quic_bit datagram.now (fault_of f)) }
     {
         let id_len = self.connections.ids().cid_len();
@@ -107,7 +106,7 @@ impl<K: Kit> Endpoint<K> {
         header: &DatagramHeader<'_>,
         datagram: &[u8],
     ) -> Option<RouteDatagramTo>
-        requires { HasShortIds (header_of header.now) }
+        requires { IsFitting (numbers self.now.config) (header_of header.now) }
         ensures { IsRouted self.now.connections.routes (keys_of addresses.now (destination_of (header_of header.now)) (is_first (header_of header.now)) datagram.now) result }
     {
         let packet = Routed {
@@ -127,6 +126,7 @@ impl<K: Kit> Endpoint<K> {
         payload: Bytes,
     ) -> Result<(), Memory>
         ensures ok { OnOk result (IsKept key now remote payload self.old self.new) }
+        ensures had_room { OnErr result (HasRoom self.old.incoming key (length payload)) }
         ensures err { OnErr result (self.new ≡ self.old) }
         ensures ids { self.new.connections.ids ≡ self.old.connections.ids }
     {
@@ -149,15 +149,20 @@ impl<K: Kit> Endpoint<K> {
         buf: &mut Vec<u8>,
     ) -> Result<Option<DatagramEvent>, Memory>
         requires written { buf.old.items ≡ [] }
-        requires numbered { (destination source : List ℕ) (token : AToken) (server : AServer) → stranger ≡ AnAttempt destination source token server → self.old.incoming.numbered ≢ 2 ^ 64 - 1 }
+        requires numbered { (first : AFirst) (server : AServer) → stranger ≡ AnAttempt first server → self.old.incoming.numbered ≢ 2 ^ 64 - 1 }
         // The log of used tokens may have changed when the datagram was judged.
         ensures handled { IfOk result (λ event. (log : K.T) (h : Header)
             → IsHeader (K.G.cid_len self.old.connections.ids) (numbers self.old.config) self.old.config.grease_quic_bit datagram h
             → IsRouted self.old.connections.routes (keys_of addresses.now (destination_of h) (is_first h) datagram) None
             → IsJudged (K.G.cid_len self.old.connections.ids) (K.G.validates self.old.connections.ids) K.T.limits K.T.stands now addresses.now.remote (length datagram) (record self.old { token_log = log }) self.old h stranger
-            → IsHandled {S = K.S} (K.G.cid_len self.old.connections.ids) (K.G.validates self.old.connections.ids) K.G.given K.R.given K.T.limits K.T.stands K.S.key K.S.sealed now addresses.now datagram
+            → IsHandled {S = K.S} K.G.cid_len K.G.validates K.G.given K.R.given K.T.limits K.T.stands K.S.key K.S.sealed now addresses.now datagram
             (record self.old { token_log = log }) self.new buf.new.items event) }
-        ensures err { OnErr result (IsUnhandled self.old self.new buf.new.items) }
+        ensures err { OnErr result ((log : K.T) (h : Header)
+            → IsHeader (K.G.cid_len self.old.connections.ids) (numbers self.old.config) self.old.config.grease_quic_bit datagram h
+            → IsRouted self.old.connections.routes (keys_of addresses.now (destination_of h) (is_first h) datagram) None
+            → IsJudged (K.G.cid_len self.old.connections.ids) (K.G.validates self.old.connections.ids) K.T.limits K.T.stands now addresses.now.remote (length datagram) (record self.old { token_log = log }) self.old h stranger
+            → IsUnhandled {S = K.S} K.G.cid_len K.G.validates K.G.given K.R.given K.T.limits K.T.stands K.S.key K.S.sealed now addresses.now datagram
+            (record self.old { token_log = log }) self.new buf.new.items) }
         ensures source { IsSameSource K.G.cid_len K.G.validates self.old.connections.ids self.new.connections.ids }
     {
         match stranger {
@@ -168,24 +173,12 @@ impl<K: Kit> Endpoint<K> {
                 source,
                 code,
             } => {
-                let transmit = self.initial_close(addresses, &destination, &source, code, buf)?;
+                let error = error_of(code);
+                let transmit = self.initial_close(addresses, &destination, &source, &error, buf)?;
                 Ok(Some(DatagramEvent::Response(transmit)))
             }
-            Stranger::Attempt {
-                destination,
-                source,
-                token,
-                server,
-            } => {
-                let incoming = self.let_wait(
-                    now,
-                    addresses,
-                    destination,
-                    source,
-                    token,
-                    server,
-                    datagram,
-                )?;
+            Stranger::Attempt { first, server } => {
+                let incoming = self.let_wait(now, addresses, first, server, datagram)?;
                 Ok(Some(DatagramEvent::NewConnection(incoming)))
             }
         }
@@ -205,8 +198,10 @@ impl<K: Kit> Endpoint<K> {
         requires source { length source.now ≤ 20 }
         requires written { buf.old.items ≡ [] }
         ensures negotiated { IfOk result (λ event. (now : AMoment) (datagram : List ℕ) → length datagram ≡ size
-            → IsNegotiated {S = K.S} (K.G.cid_len self.old.connections.ids) (K.G.validates self.old.connections.ids) K.G.given K.R.given K.T.limits K.T.stands K.S.key K.S.sealed now addresses.now datagram version destination.now source.now self.old self.new buf.new.items event) }
-        ensures err { OnErr result (IsUnhandled self.old self.new buf.new.items) }
+            → IsNegotiated {S = K.S} K.G.cid_len K.G.validates K.G.given K.R.given K.T.limits K.T.stands K.S.key K.S.sealed now addresses.now datagram version destination.now source.now self.old self.new buf.new.items event) }
+        ensures wanting { OnErr result ((server : AServer) × (self.old.server ≡ Some server) × (1200 ≤ size)) }
+        ensures err { OnErr result (self.new ≡ record self.old { words = self.new.words }) }
+        ensures unwritten { OnErr result (buf.new.items ≡ []) }
         ensures ids { self.new.connections.ids ≡ self.old.connections.ids }
     {
         if self.server.is_none() || size < MIN_INITIAL_SIZE {
@@ -234,10 +229,14 @@ impl<K: Kit> Endpoint<K> {
     ) -> Result<Option<DatagramEvent>, Memory>
         requires { buf.old.items ≡ [] }
         ensures reset { IfOk result (λ event. (datagram : List ℕ) → length datagram ≡ size
-            → IsReset {S = K.S} (K.G.cid_len self.old.connections.ids) (K.G.validates self.old.connections.ids) K.G.given K.R.given K.T.limits K.T.stands K.S.key K.S.sealed now addresses.now datagram id.now self.old self.new buf.new.items event) }
-        ensures err { OnErr result (IsUnhandled self.old self.new buf.new.items) }
+            → IsReset {S = K.S} K.G.cid_len K.G.validates K.G.given K.R.given K.T.limits K.T.stands K.S.key K.S.sealed now addresses.now datagram id.now self.old self.new buf.new.items event) }
+        ensures late { OnErr result (IsResetEarly {S = K.S} K.G.cid_len K.G.validates K.G.given K.R.given K.T.limits K.T.stands K.S.key K.S.sealed now addresses.now [] self.old → ⊥) }
+        ensures long { OnErr result (21 < size) }
+        ensures err { OnErr result (self.new ≡ record self.old { words = self.new.words }) }
+        ensures unwritten { OnErr result (buf.new.items ≡ []) }
         ensures ids { self.new.connections.ids ≡ self.old.connections.ids }
     {
+        stateless_resets();
         if self.is_reset_early(now) || size <= MAX_UNANSWERED {
             return Ok(None);
         }
@@ -260,47 +259,18 @@ impl<K: Kit> Endpoint<K> {
         }
     }
 
-    /// An Initial packet that closes an attempt.
-    pub(crate) fn initial_close(
-        &mut self,
-        addresses: &FourTuple,
-        destination: &ConnectionId,
-        source: &ConnectionId,
-        code: TransportErrorCode,
-        buf: &mut Vec<u8>,
-    ) -> Result<Transmit, Memory>
-        requires { buf.old.items ≡ [] }
-        ensures closed { OnOk result ((now : AMoment) (datagram : List ℕ)
-            → IsClosed {S = K.S} (K.G.cid_len self.old.connections.ids) (K.G.validates self.old.connections.ids) K.G.given K.R.given K.T.limits K.T.stands K.S.key K.S.sealed now addresses.now datagram destination.now source.now code self.old self.new buf.new.items) }
-        ensures transmit { IfOk result (λ transmit. transmit ≡ record { destination = addresses.now.remote; size = length buf.new.items; src_ip = addresses.now.local_ip }) }
-        ensures err { OnErr result (IsUnhandled self.old self.new buf.new.items) }
-        ensures source { IsSameSource K.G.cid_len K.G.validates self.old.connections.ids self.new.connections.ids }
-    {
-        let own = self.connections.draw_any();
-        let session = self.kit.session(*destination, b"")?;
-        let close = TransportError {
-            code,
-            frame: None,
-            reason: Reason::of(b""),
-        };
-        put_initial_close(&session, source, &own, &close, buf)?;
-        Ok(reply(addresses, buf.len()))
-    }
-
     // An attempt waits from now on.
     fn let_wait(
         &mut self,
         now: Moment,
         addresses: &FourTuple,
-        destination: ConnectionId,
-        source: ConnectionId,
-        token: IncomingToken,
+        first: FirstPacket,
         server: ServerConfig,
         datagram: Bytes,
     ) -> Result<Incoming, Memory>
         requires { self.old.incoming.numbered ≢ 2 ^ 64 - 1 }
-        ensures waiting { IfOk result (IsWaiting {S = K.S} (K.G.cid_len self.old.connections.ids) (K.G.validates self.old.connections.ids) K.G.given K.R.given K.T.limits K.T.stands K.S.key K.S.sealed now addresses.now datagram destination source token server self.old self.new) }
-        ensures err { OnErr result (IsUnhandled self.old self.new []) }
+        ensures waiting { IfOk result (IsWaiting {S = K.S} K.G.cid_len K.G.validates K.G.given K.R.given K.T.limits K.T.stands K.S.key K.S.sealed now addresses.now datagram first server self.old self.new) }
+        ensures err { OnErr result (IsLetGo self.old self.new) }
         ensures ids { self.new.connections.ids ≡ self.old.connections.ids }
     {
         let limits = BufferLimits {
@@ -310,12 +280,14 @@ impl<K: Kit> Endpoint<K> {
         let waiting = Waiting {
             server,
             received_at: now,
+            addresses: *addresses,
+            first,
             datagram,
         };
         let key = self.incoming.insert(limits, waiting)?.unwrap();
         let led = self
             .connections
-            .insert_initial_incoming(destination, key.key);
+            .insert_initial_incoming(first.destination, key.key);
         if led.is_err() {
             let _ = self.incoming.take(key);
             return Err(Memory);
@@ -323,20 +295,7 @@ impl<K: Kit> Endpoint<K> {
         Ok(Incoming {
             key,
             addresses: *addresses,
-            destination,
-            source,
-            token,
+            token: first.token,
         })
-    }
-}
-
-// What was written goes to where the datagram came from.
-fn reply(addresses: &FourTuple, size: usize) -> Transmit
-    ensures { result ≡ record { destination = addresses.now.remote; size = size; src_ip = addresses.now.local_ip } }
-{
-    Transmit {
-        destination: addresses.remote,
-        size,
-        src_ip: addresses.local_ip,
     }
 }

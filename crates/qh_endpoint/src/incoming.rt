@@ -5,7 +5,21 @@ use qh_attempts::AttemptKey;
 use qh_base::{ConnectionId, FourTuple, Moment};
 use qh_incoming_token::IncomingToken;
 use qh_kit::ServerConfig;
+use qh_packet::Version;
 use std::net::{IpAddr, SocketAddr};
+
+/// What the first packet of an attempt says (quinn-proto, `InitialHeader`).
+#[derive(Clone, Copy)]
+pub struct FirstPacket {
+    /// The version of the client's packets.
+    pub version: Version,
+    /// The id to which they go.
+    pub destination: ConnectionId,
+    /// The id from which they come.
+    pub source: ConnectionId,
+    /// What its token says of the client.
+    pub token: IncomingToken,
+}
 
 /// What an endpoint keeps with an attempt that waits.
 #[derive(Drop)]
@@ -14,18 +28,20 @@ pub struct Waiting {
     pub server: ServerConfig,
     /// When its first datagram came.
     pub received_at: Moment,
+    /// Over which addresses.
+    pub addresses: FourTuple,
+    /// What its first packet says.
+    pub first: FirstPacket,
     /// Its first datagram.
     pub datagram: Bytes,
 }
 
 /// A connection attempt that waits to be accepted, refused, retried or ignored (quinn-proto, `Incoming`). It is a token: the endpoint keeps the
-/// attempt.
+/// attempt, and what is told here of it are copies.
 #[derive(Drop)]
 pub struct Incoming {
     pub(crate) key: AttemptKey,
     pub(crate) addresses: FourTuple,
-    pub(crate) destination: ConnectionId,
-    pub(crate) source: ConnectionId,
     pub(crate) token: IncomingToken,
 }
 

@@ -1,17 +1,22 @@
-ghost use Rattle.std.specs.Prelude.{◌≡◌, ℕ, ◌↔◌, ◌/◌, ◌%◌, ◌≤◌, IfOk, IsTrue, OnErr, Some, length};
+ghost use Rattle.std.specs.Prelude.{◌≡◌, ℕ, ◌↔◌, ◌/◌, ◌%◌, ◌≤◌, Contains, IfOk, IfSome, IsTrue, None, OnErr, Some, length};
 ghost use Rattle.std.specs.declared.net.socket_addr.SocketAddr.{SocketAddr as AnAddress};
 ghost use Rattle.qh_base.specs.declared.time.Moment.{Moment as AMoment};
-ghost use Rattle.qh_endpoint.specs.Ids.{HasShortIds};
-ghost use Rattle.qh_endpoint.specs.Stranger.{CannotWait, IsFirstId, IsJudged};
+ghost use Rattle.qh_endpoint.specs.Endpoint.{numbers};
+ghost use Rattle.qh_endpoint.specs.Ids.{IsFitting};
+ghost use Rattle.qh_endpoint.specs.Stranger.{CannotWait, IsFirstId, IsJudged, IsUnjudged};
+ghost use Rattle.qh_packet.specs.Version.{number_of};
+ghost use Rattle.qh_packet.specs.declared.version.Version.{Version as AVersion};
 ghost use Rattle.qh_stateless.specs.Header.{Initial, Short};
 ghost use Rattle.qh_stateless.specs.View.{header_of};
 
 use crate::Endpoint;
+use crate::incoming::FirstPacket;
 use crate::stranger::Stranger;
 use qh_base::{ConnectionId, Memory, Moment, TransportErrorCode};
 use qh_generator::ConnectionIdGenerator;
 use qh_incoming_token::{IncomingToken, IncomingTokenFault, TokenLifetimes};
 use qh_kit::{Kit, ServerConfig};
+use qh_packet::Version;
 use qh_stateless::DatagramHeader;
 use std::net::SocketAddr;
 
@@ -30,19 +35,28 @@ impl<K: Kit> Endpoint<K> {
         size: usize,
         header: &DatagramHeader<'_>,
     ) -> Result<Stranger, Memory>
-        requires { HasShortIds (header_of header.now) }
+        requires { IsFitting (numbers self.old.config) (header_of header.now) }
         ensures judged { IfOk result (IsJudged (K.G.cid_len self.old.connections.ids) (K.G.validates self.old.connections.ids) K.T.limits K.T.stands now remote size self.old self.new (header_of header.now)) }
-        ensures err { OnErr result (self.new ≡ record self.old { token_log = self.new.token_log }) }
+        ensures err { OnErr result (IsUnjudged (K.G.cid_len self.old.connections.ids) (K.G.validates self.old.connections.ids) K.T.limits K.T.stands now remote size self.old self.new (header_of header.now)) }
         ensures ids { self.new.connections.ids ≡ self.old.connections.ids }
     {
         match *header {
             DatagramHeader::Initial {
-                version: _,
+                version,
                 first,
                 destination,
                 source,
                 token,
-            } => self.judge_initial(now, remote, size, first, destination, source, token),
+            } => self.judge_initial(
+                now,
+                remote,
+                size,
+                version,
+                first,
+                destination,
+                source,
+                token,
+            ),
             DatagramHeader::ZeroRtt { .. } => Ok(Stranger::Ignored),
             DatagramHeader::Long { .. } => Ok(Stranger::Ignored),
             DatagramHeader::Short { destination, .. } => Ok(self.judge_short(id_of(destination))),
@@ -65,6 +79,7 @@ impl<K: Kit> Endpoint<K> {
         now: Moment,
         remote: SocketAddr,
         size: usize,
+        version: u32,
         first: u8,
         destination: &[u8],
         source: &[u8],
@@ -72,8 +87,9 @@ impl<K: Kit> Endpoint<K> {
     ) -> Result<Stranger, Memory>
         requires destination { length destination.now ≤ 20 }
         requires source { length source.now ≤ 20 }
-        ensures judged { IfOk result (λ stranger. (version : ℕ) → IsJudged (K.G.cid_len self.old.connections.ids) (K.G.validates self.old.connections.ids) K.T.limits K.T.stands now remote size self.old self.new (Initial version first destination.now source.now token.now) stranger) }
-        ensures err { OnErr result (self.new ≡ record self.old { token_log = self.new.token_log }) }
+        requires listed { Contains (numbers self.old.config) version }
+        ensures judged { IfOk result (λ stranger. IsJudged (K.G.cid_len self.old.connections.ids) (K.G.validates self.old.connections.ids) K.T.limits K.T.stands now remote size self.old self.new (Initial version first destination.now source.now token.now) stranger) }
+        ensures err { OnErr result (IsUnjudged (K.G.cid_len self.old.connections.ids) (K.G.validates self.old.connections.ids) K.T.limits K.T.stands now remote size self.old self.new (Initial version first destination.now source.now token.now)) }
         ensures ids { self.new.connections.ids ≡ self.old.connections.ids }
     {
         let id = id_of(destination);
@@ -93,7 +109,8 @@ impl<K: Kit> Endpoint<K> {
         if first / 4 % 4 != 0 {
             return Ok(Stranger::Ignored);
         }
-        self.judge_token(now, remote, id, id_of(source), token, server)
+        let version = version_of(version).unwrap();
+        self.judge_token(now, remote, version, id, id_of(source), token, server)
     }
 
     // What a datagram is that begins with an Initial packet with this token, if its attempt can wait.
@@ -101,16 +118,20 @@ impl<K: Kit> Endpoint<K> {
         &mut self,
         now: Moment,
         remote: SocketAddr,
+        version: Version,
         destination: ConnectionId,
         source: ConnectionId,
         token: &[u8],
         server: ServerConfig,
     ) -> Result<Stranger, Memory>
-        ensures judged { IfOk result (λ stranger. (version first size : ℕ) → self.old.server ≡ Some server
+        ensures judged { IfOk result (λ stranger. (first size : ℕ) → self.old.server ≡ Some server
             → (CannotWait (K.G.cid_len self.old.connections.ids) (K.G.validates self.old.connections.ids) K.T.limits K.T.stands self.old server size → ⊥)
             → IsFirstId (K.G.cid_len self.old.connections.ids) destination token.now → first / 4 % 4 ≡ 0
-            → IsJudged (K.G.cid_len self.old.connections.ids) (K.G.validates self.old.connections.ids) K.T.limits K.T.stands now remote size self.old self.new (Initial version first destination source token.now) stranger) }
-        ensures err { OnErr result (self.new ≡ record self.old { token_log = self.new.token_log }) }
+            → IsJudged (K.G.cid_len self.old.connections.ids) (K.G.validates self.old.connections.ids) K.T.limits K.T.stands now remote size self.old self.new (Initial (number_of version) first destination source token.now) stranger) }
+        ensures err { OnErr result ((first size : ℕ) → self.old.server ≡ Some server
+            → (CannotWait (K.G.cid_len self.old.connections.ids) (K.G.validates self.old.connections.ids) K.T.limits K.T.stands self.old server size → ⊥)
+            → IsFirstId (K.G.cid_len self.old.connections.ids) destination token.now → first / 4 % 4 ≡ 0
+            → IsUnjudged (K.G.cid_len self.old.connections.ids) (K.G.validates self.old.connections.ids) K.T.limits K.T.stands now remote size self.old self.new (Initial (number_of version) first destination source token.now)) }
         ensures ids { self.new.connections.ids ≡ self.old.connections.ids }
     {
         let lifetimes = TokenLifetimes {
@@ -128,9 +149,12 @@ impl<K: Kit> Endpoint<K> {
         );
         match taken {
             Ok(token) => Ok(Stranger::Attempt {
-                destination,
-                source,
-                token,
+                first: FirstPacket {
+                    version,
+                    destination,
+                    source,
+                    token,
+                },
                 server,
             }),
             Err(fault) => match fault {
@@ -171,4 +195,15 @@ pub(crate) fn id_of(bytes: &[u8]) -> ConnectionId
     ensures { result ≡ bytes.now }
 {
     ConnectionId::new(bytes).unwrap()
+}
+
+// The version of this number, if there is one.
+fn version_of(number: u32) -> Option<Version>
+    ensures found { IfSome result (λ version. number_of version ≡ number) }
+    ensures none { result ≡ None → (version : AVersion) → number_of version ≡ number → ⊥ }
+{
+    match number {
+        1 => Some(Version::One),
+        _ => None,
+    }
 }

@@ -1,14 +1,12 @@
-ghost use Rattle.std.specs.Prelude.{◌≡◌, [], List, ℕ, length, IfOk, OnErr, OnOk};
-ghost use Rattle.qh_base.specs.declared.time.Moment.{Moment as AMoment};
-ghost use Rattle.qh_base.specs.declared.transport_error.TransportErrorCode.{TransportErrorCode as ACode};
-ghost use Rattle.qh_spec.specs.Codes as codes;
+ghost use Rattle.std.specs.Prelude.{◌≡◌, [], length, IfOk, OnErr, OnOk};
 ghost use Rattle.qh_attempts.specs.Attempts.{IsPending, PlainAttempt};
 ghost use Rattle.qh_connections.specs.Ids.{IsSameSource};
+ghost use Rattle.qh_endpoint.specs.Closed.{IsClosed, IsUnclosed, refused, reply_to};
 ghost use Rattle.qh_endpoint.specs.Endpoint.{PlainEndpoint};
-ghost use Rattle.qh_endpoint.specs.Handled.{IsClosed, IsUnhandled};
 ghost use Rattle.qh_endpoint.specs.Leaving.{HasLeft};
 ghost use Rattle.qh_endpoint.specs.declared.incoming.Waiting.{Waiting as AWaiting};
 
+use crate::closing::error_of;
 use crate::incoming::Waiting;
 use crate::{Endpoint, Incoming};
 use qh_attempts::KeptDatagram;
@@ -19,7 +17,7 @@ impl<K: Kit> Endpoint<K> {
     /// The attempt is forgotten, and nothing is sent. It takes no memory.
     pub fn ignore(&mut self, incoming: Incoming)
         requires { IsPending self.old.incoming incoming.key }
-        ensures { (attempt : PlainAttempt AWaiting) × HasLeft incoming attempt self.old self.new }
+        ensures { (attempt : PlainAttempt AWaiting) × HasLeft incoming.key attempt self.old self.new }
     {
         let _ = self.take(&incoming);
     }
@@ -28,32 +26,33 @@ impl<K: Kit> Endpoint<K> {
     pub fn refuse(&mut self, incoming: Incoming, buf: &mut Vec<u8>) -> Result<Transmit, Memory>
         requires pending { IsPending self.old.incoming incoming.key }
         requires written { buf.old.items ≡ [] }
-        ensures left { (attempt : PlainAttempt AWaiting) × (mid : PlainEndpoint K K.G K.R K.T) × HasLeft incoming attempt self.old mid × OnErr result (IsUnhandled mid self.new buf.new.items)
-            × OnOk result ((code : ACode) × (code.0 ≡ codes.connection_refused) × ((now : AMoment) (datagram : List ℕ)
-            → IsClosed {S = K.S} (K.G.cid_len mid.connections.ids) (K.G.validates mid.connections.ids) K.G.given K.R.given K.T.limits K.T.stands K.S.key K.S.sealed now incoming.addresses datagram incoming.destination incoming.source code mid self.new buf.new.items)) }
-        ensures transmit { IfOk result (λ transmit. transmit ≡ record { destination = incoming.addresses.remote; size = length buf.new.items; src_ip = incoming.addresses.local_ip }) }
+        ensures left { (attempt : PlainAttempt AWaiting) × (mid : PlainEndpoint K K.G K.R K.T) × HasLeft incoming.key attempt self.old mid
+            × OnOk result (IsClosed K.G.cid_len K.G.validates K.G.given K.S.key K.S.sealed attempt.config.first.destination attempt.config.first.source refused mid self.new buf.new.items)
+            × IfOk result (λ transmit. transmit ≡ reply_to attempt.config.addresses (length buf.new.items))
+            × OnErr result (IsUnclosed K.G.given mid self.new buf.new.items) }
         ensures source { IsSameSource K.G.cid_len K.G.validates self.old.connections.ids self.new.connections.ids }
     {
-        let _ = self.take(&incoming);
-        let code = TransportErrorCode::CONNECTION_REFUSED;
-        let addresses = incoming.addresses;
+        let (waiting, _) = self.take(&incoming);
+        let first = waiting.first;
+        let error = error_of(TransportErrorCode::CONNECTION_REFUSED);
         self.initial_close(
-            &addresses,
-            &incoming.destination,
-            &incoming.source,
-            code,
+            &waiting.addresses,
+            &first.destination,
+            &first.source,
+            &error,
             buf,
         )
     }
 
-    // Takes the attempt, with what was kept for it.
+    /// Takes the attempt, with what was kept for it.
     pub(crate) fn take(&mut self, incoming: &Incoming) -> (Waiting, Vec<KeptDatagram>)
         requires { IsPending self.old.incoming incoming.now.key }
-        ensures { (attempt : PlainAttempt AWaiting) × HasLeft incoming.now attempt self.old self.new × (result.0 ≡ attempt.config) × (result.1.items ≡ attempt.datagrams) }
+        ensures { (attempt : PlainAttempt AWaiting) × HasLeft incoming.now.key attempt self.old self.new × (result.0 ≡ attempt.config) × (result.1.items ≡ attempt.datagrams) }
     {
+        let (_, first) = self.waiting_at(incoming.key.key);
         let attempt = self.incoming.take(incoming.key);
         self.connections
-            .remove_initial_incoming(incoming.destination, incoming.key.key);
+            .remove_initial_incoming(first.destination, incoming.key.key);
         attempt.into_parts()
     }
 }

@@ -2,16 +2,23 @@
 //! connections, as `quinn-proto` has it in `endpoint`.
 #![tactic(auto)]
 
+mod accepting;
 mod asking;
+mod closing;
 mod connecting;
 mod endpoint;
 mod event;
 mod handling;
 mod incoming;
 mod judging;
+mod laws;
 mod leaving;
+mod retrying;
 mod stranger;
 
+pub use accepting::AcceptError;
 pub use endpoint::Endpoint;
 pub use event::DatagramEvent;
 pub use incoming::Incoming;
+pub use laws::{attempts_leave_once, routed_datagrams};
+pub use retrying::{RetryError, RetryFault};

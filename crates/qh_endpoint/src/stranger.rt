@@ -1,5 +1,5 @@
+use crate::incoming::FirstPacket;
 use qh_base::{ConnectionId, TransportErrorCode};
-use qh_incoming_token::IncomingToken;
 use qh_kit::ServerConfig;
 
 /// What a datagram is that has no route.
@@ -17,9 +17,7 @@ pub(crate) enum Stranger {
     },
     /// It begins an attempt.
     Attempt {
-        destination: ConnectionId,
-        source: ConnectionId,
-        token: IncomingToken,
+        first: FirstPacket,
         server: ServerConfig,
     },
 }

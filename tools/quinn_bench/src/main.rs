@@ -1,7 +1,9 @@
 //! Work of two quinn-proto connections in memory, to be timed. `quinn_bench STREAMS BYTES` sends so many bytes on the first of so
 //! many open streams, and `quinn_bench handshake N` connects N pairs of fresh ends in turn. It does what the words `bulk
-//! connection STREAMS BYTES` and `bulk handshake N` of the program `conn_rows` of this repository do.
+//! connection STREAMS BYTES` and `bulk handshake N` of the program `conn_rows` of this repository do. `quinn_bench route
+//! CONNECTIONS DATAGRAMS` hands so many datagrams in turn over so many live connections to the endpoint of their server.
 mod plain;
+mod route;
 
 use bytes::BytesMut;
 use plain::Plain;
@@ -10,6 +12,7 @@ use quinn_proto::{
     ClientConfig, Connection, ConnectionHandle, DatagramEvent, Dir, Endpoint, EndpointConfig,
     ServerConfig, StreamId, Transmit, TransportConfig, VarInt,
 };
+use route::Crowd;
 use std::net::{Ipv4Addr, SocketAddr};
 use std::str::FromStr;
 use std::sync::Arc;
@@ -31,6 +34,7 @@ fn main() {
     let words: Vec<String> = std::env::args().skip(1).collect();
     match words.first() {
         Some(word) if word == "handshake" => connect_many(number(&words, 1, 0)),
+        Some(word) if word == "route" => route_all(number(&words, 1, 1), number(&words, 2, 0)),
         _ => send_over(number(&words, 0, 1), number(&words, 1, 0)),
     }
 }
@@ -57,6 +61,16 @@ fn connect_many(count: u32) {
     let seconds = start.elapsed().as_secs_f64();
     println!("{count} connected, datagrams: {client} from clients, {server} from servers");
     println!("{seconds:.3} seconds, {:.0} handshakes a second", f64::from(count) / seconds);
+}
+
+/// Hands that many datagrams to the endpoint of that many connections.
+fn route_all(connections: u32, count: usize) {
+    let mut crowd = Crowd::new(connections);
+    let start = Instant::now();
+    let reached = crowd.route(count);
+    let seconds = start.elapsed().as_secs_f64();
+    println!("{reached} of {count} datagrams reached their own of {connections} connections");
+    println!("{seconds:.3} seconds, {:.0} datagrams a second", count as f64 / seconds);
 }
 
 /// Sends that many bytes on the first of that many streams.

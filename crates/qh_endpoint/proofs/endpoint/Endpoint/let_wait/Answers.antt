@@ -12,12 +12,15 @@ returns-clause-waiting g c = rw (sym c.self.view_is) (
     let there = c.unwrap-key.ensures in
     let ok = c.if-is_err.ensures.value in
     record {
-      incoming_is = refl;
+      addresses_are = refl;
+      token_is = refl;
       number = rw there at is.number;
       numbered = rw there at is.numbered;
       named = rw there at is.named;
       free = rw there at is.was_free;
       waits = rw there at is.waits;
+      count = rw there at is.len;
+      bytes = rw there at is.bytes;
       led = when_ok _ _ ok c.insert_initial_incoming-led.ensures.added;
       unled = λ none. ap (λ n. n.routes) ((c.insert_initial_incoming-led.ensures.empty none).1);
       rest = only_routes old c.insert.new.self c.insert_initial_incoming-led.new.self c.insert_initial_incoming-led.ensures.rest;

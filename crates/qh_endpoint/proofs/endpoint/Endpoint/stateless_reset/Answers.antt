@@ -13,5 +13,5 @@ returns-then-is_reset_early-clause-reset g c = elim c.then-is_reset_early.branch
 pub returns-clause-reset : goal.returns-clause-reset
 returns-clause-reset g c = λ datagram is. rw (sym c.self.view_is)
     (reset_sent _ _ _ _ _ _ _ _ c.args.now c.args.addresses.now datagram _ _ c.args.buf.now.items c.put_stateless_reset.new.out.items c.len.result c.reply.result c.reply.ensures (search rules) c.requires
-    c.args.id.now c.args.size is (λ early. let late = (rw (sym c.self.view_is) at c.if-is_reset_early.ensures).1 early in cc) (omega (arith, c.if-size-le-MAX_UNANSWERED.false))
+    c.args.id.now c.args.size is c.stateless_resets.ensures.shorter (λ early. let late = (rw (sym c.self.view_is) at c.if-is_reset_early.ensures).1 early in cc) (omega (arith, c.if-size-le-MAX_UNANSWERED.false))
     (c.in_ok-put_stateless_reset.ensures.reset (c.in_ok-put_stateless_reset.ensures.answered.1 (omega (arith, c.if-size-le-MAX_UNANSWERED.false)))) refl)

@@ -1,0 +1,113 @@
+-- How an attempt is accepted, or isn't.
+use Rattle.std.proofs.Common.{◌≡◌, ℕ, List, [], ◌∷◌, ◌++◌, length, Option, Some, None, Result, Ok, Err, IfOk, IfErr, OnOk, OnErr, refl, sym, ap, ◌∙◌, subst}
+use Rattle.std.specs.Option.{unwrap_or}
+use Rattle.qh_attempts.specs.declared.attempt.KeptDatagram.{KeptDatagram}
+use Rattle.qh_base.specs.declared.connection_error.ConnectionError.TheVariants.{CidsExhausted, Memory}
+use Rattle.qh_base.specs.declared.memory.Memory.{Memory as Want}
+use Rattle.qh_base.specs.declared.path.Transmit.{Transmit}
+use Rattle.qh_base.specs.declared.time.Moment.{Moment}
+use Rattle.qh_conn.specs.declared.connection.Connection.{Connection}
+use Rattle.qh_connections.specs.Connections.{AreExhausted, IsConnectionAdded, IsConnectionRemoved, IsKept, PlainConnections, meta_at}
+use Rattle.qh_connections.specs.Ids.{AreNoneFresh}
+use Rattle.qh_endpoint.specs.Accepting.{AreHanded, IsAccepted, IsAdmitted, IsHanded, IsLost, IsNotAccepted, IsReady, IsStale, IsWelcome, exhausted, failed, more, none, none_fresh, settings_of, wanting}
+use Rattle.qh_endpoint.specs.Closed.{IsClosed, IsClosedFrom, IsUnclosed, refused, reply_to}
+use Rattle.qh_endpoint.specs.Endpoint.{PlainEndpoint}
+use Rattle.qh_endpoint.specs.declared.accepting.AcceptError.{AcceptError}
+use Rattle.qh_endpoint.specs.declared.incoming.Waiting.{Waiting}
+use Rattle.qh_handshake.specs.Incoming.{SessionView}
+use Rattle.qh_kit.specs.declared.config.ServerConfig.{ServerConfig}
+use Rattle.qh_routes.specs.ConnectionMeta.{PlainMeta}
+use Rattle.qh_routes.specs.Routes.{issued_count}
+use Rattle.qh_routes.specs.declared.connection_handle.ConnectionHandle.{ConnectionHandle}
+use Rattle.qh_spec.specs.declared.sides.Side.TheVariants.{Server}
+
+-- where only the source of ids differs, all routes and connections are kept
+pub kept_but_ids : {G : Type 0} (old new : PlainConnections G) → new ≡ record old { ids = new.ids } → IsKept old new
+kept_but_ids {G = G} old new e = subst (λ (z : PlainConnections G). IsKept old z) (sym e) (record { routes = record { kept = λ k t is. is; none_new = λ k t is. is }; metas = λ handle. refl })
+
+-- what is kept of the one is kept of the other, which differs in the source of ids
+pub kept_from : {G : Type 0} (old mid new : PlainConnections G) → mid ≡ record old { ids = mid.ids } → IsKept mid new → IsKept old new
+kept_from {G = G} old mid new e kept = let k = subst (λ (z : PlainConnections G). IsKept z new) e kept in record { routes = k.routes; metas = k.metas }
+
+module _ {K G R T S : Type 0} (cid_len : G → ℕ) (validates : G → List ℕ → Type 0) (given : G → List (List ℕ)) (v : SessionView S) (server : ServerConfig) (w : Waiting) (now : Moment) where
+  abbrev pub NotAccepted : (old new : PlainEndpoint K G R T) (written : List ℕ) → AcceptError → Type 0
+  NotAccepted old new written e = IsNotAccepted cid_len validates given v server w now old new written e
+
+  -- what was answered where ids are exhausted
+  pub exhausted_of : (sent : Result Transmit Want) (e : AcceptError) (old new : PlainEndpoint K G R T) (written : List ℕ)
+      → IfOk sent (λ t. e ≡ record { cause = CidsExhausted; response = Some t }) → IfErr sent (λ x. e ≡ record { cause = Memory; response = None })
+      → (IsStale server w now → ⊥) → AreExhausted (cid_len old.connections.ids) (issued_count old.connections.routes)
+      → OnOk sent (IsClosed {S = S} cid_len validates given v.key v.sealed w.first.destination w.first.source refused old new written) → IfOk sent (λ t. t ≡ reply_to w.addresses (length written)) → OnErr sent (IsUnclosed given old new written)
+      → NotAccepted old new written e
+  exhausted_of (Ok t) e old new written is is_err fresh full closed transmit left =
+      subst (λ (z : AcceptError). NotAccepted old new written z) (sym (is ∙ ap (λ (z : Transmit). record { cause = CidsExhausted; response = Some z }) transmit)) (exhausted fresh full closed)
+  exhausted_of (Err x) e old new written is is_err fresh full closed transmit left =
+      subst (λ (z : AcceptError). NotAccepted old new written z) (sym is_err)
+      (wanting fresh (kept_but_ids old.connections new.connections (ap (λ (z : PlainEndpoint K G R T). z.connections) left.rest))
+      (left.rest ∙ ap (λ (z : PlainConnections G). record old { kit = new.kit; connections = z }) (sym (ap (λ (z : PlainEndpoint K G R T). z.connections) left.rest))) left.unwritten)
+
+  -- where no id is fresh
+  pub none_fresh_of : (sent : Result Transmit Want) (e : AcceptError) (old mid new : PlainEndpoint K G R T) (written : List ℕ)
+      → IfOk sent (λ t. e ≡ record { cause = CidsExhausted; response = Some t }) → IfErr sent (λ x. e ≡ record { cause = Memory; response = None })
+      → IsWelcome cid_len validates given v server w now old → AreNoneFresh old.connections.routes (given old.connections.ids) (given mid.connections.ids)
+      → mid ≡ record old { kit = mid.kit; connections = record old.connections { ids = mid.connections.ids } }
+      → OnOk sent (IsClosedFrom {S = S} cid_len validates given v.key v.sealed w.first.destination w.first.destination w.first.source refused mid new written) → IfOk sent (λ t. t ≡ reply_to w.addresses (length written)) → OnErr sent (written ≡ [])
+      → new ≡ record mid { kit = new.kit } → NotAccepted old new written e
+  none_fresh_of (Ok t) e old mid new written is is_err welcome no_id mid_is closed transmit unwritten rest =
+      subst (λ (z : AcceptError). NotAccepted old new written z) (sym (is ∙ ap (λ (z : Transmit). record { cause = CidsExhausted; response = Some z }) transmit)) (none_fresh mid welcome no_id mid_is closed)
+  none_fresh_of (Err x) e old mid new written is is_err welcome no_id mid_is closed transmit unwritten rest =
+      let is_new : new ≡ record old { kit = new.kit; connections = record old.connections { ids = mid.connections.ids } } = subst (λ (z : PlainEndpoint K G R T). new ≡ record z { kit = new.kit }) mid_is rest in
+      subst (λ (z : AcceptError). NotAccepted old new written z) (sym is_err)
+      (wanting welcome.timely.fresh (subst (λ (z : PlainEndpoint K G R T). IsKept old.connections z.connections) (sym is_new) (record { routes = record { kept = λ k t h. h; none_new = λ k t h. h }; metas = λ handle. refl }))
+      (is_new ∙ ap (λ (z : PlainConnections G). record old { kit = new.kit; connections = z }) (sym (ap (λ (z : PlainEndpoint K G R T). z.connections) is_new))) unwritten)
+
+  -- memory is wanting for the connection
+  pub unbegun_of : (old mid new : PlainEndpoint K G R T) (local_id written : List ℕ) → IsAdmitted cid_len validates given v server w now old mid local_id → IsKept mid.connections new.connections → new ≡ record mid { connections = new.connections } → written ≡ []
+      → NotAccepted old new written (record { cause = Memory; response = None })
+  unbegun_of old mid new local_id written admitted kept rest empty =
+      wanting admitted.welcome.timely.fresh (kept_from old.connections mid.connections new.connections (ap (λ (z : PlainEndpoint K G R T). z.connections) admitted.rest) kept)
+      (let is = subst (λ (z : PlainEndpoint K G R T). new ≡ record z { connections = new.connections }) admitted.rest rest in
+      is ∙ ap (λ (z : K). record old { kit = z; connections = new.connections }) (sym (ap (λ (z : PlainEndpoint K G R T). z.kit) is))) empty
+
+  module _ (old mid after : PlainEndpoint K G R T) (local_id : List ℕ) (handle : ConnectionHandle) (before : Connection S) (admitted : IsAdmitted cid_len validates given v server w now old mid local_id)
+      (added : IsConnectionAdded mid.connections after.connections handle Server w.first.destination local_id w.addresses) (ids : after.connections.ids ≡ mid.connections.ids) (rest : after ≡ record mid { connections = after.connections })
+      (ready : IsReady v server w local_id before) where
+    pub accepted_of : (new : PlainEndpoint K G R T) (datagrams : List KeptDatagram) (made : ConnectionHandle) (connection : Connection S)
+        → (made ≡ handle) × (first : Connection S) × IsHanded v w.received_at w.datagram before first × (first.core.error ≡ None) × AreHanded v datagrams first connection → new ≡ after
+        → IsAccepted cid_len validates given v server w now datagrams old new made connection
+    accepted_of new datagrams made connection (same, first, handed, lives, others) is =
+        subst (λ (z : PlainEndpoint K G R T). IsAccepted cid_len validates given v server w now datagrams old z made connection) (sym is)
+        (record {
+          local_id = local_id;
+          mid = mid;
+          admitted = admitted;
+          added = subst (λ (z : ConnectionHandle). IsConnectionAdded mid.connections after.connections z Server w.first.destination local_id w.addresses) (sym same) added;
+          first = first;
+          begun = record { before = before; ready = ready; handed = handed };
+          lives = lives;
+          handed = others;
+          rest = rest;
+          ids = ids;
+        })
+
+    pub failed_of : (new : PlainEndpoint K G R T) (written : List ℕ) (e : AcceptError)
+        → ((m : PlainMeta) → meta_at after.connections handle ≡ Some m → (first : Connection S) × (gone : PlainEndpoint K G R T) × IsHanded v w.received_at w.datagram before first
+        × IsConnectionRemoved after.connections gone.connections handle m × (gone.connections.ids ≡ after.connections.ids) × (gone ≡ record after { connections = gone.connections })
+        × IsLost cid_len validates given v w first gone new written e)
+        → NotAccepted old new written e
+    failed_of new written e lost =
+        let is = lost _ added.meta.there in
+        let gone = is.1 in
+        failed local_id mid gone is.0 e admitted (record { before = before; ready = ready; handed = is.2 })
+        (record { handle = handle; between = after.connections; meta = _; added = added; removed = is.3 }) (is.4 ∙ ids)
+        (subst (λ (z : PlainEndpoint K G R T). gone ≡ record z { connections = gone.connections }) rest is.5) is.6
+
+-- one more is handed in behind the others
+pub handed_push : {S : Type 0} (v : SessionView S) (ds : List KeptDatagram) (d : KeptDatagram) (a c e : Connection S) → AreHanded v ds a c → IsHanded v d.now d.payload c e → AreHanded v (ds ++ d ∷ []) a e
+handed_push v [] d a c e (none x) h = more d [] a e e h (none e)
+handed_push v (x ∷ xs) d a c e (more x' xs' a' mid c' first rest) h = more x (xs ++ d ∷ []) a mid e first (handed_push v xs d mid c e rest h)
+
+-- the settings that are used
+pub settings_are : (o : Option ServerConfig) (w : Waiting) → unwrap_or o w.server ≡ settings_of o w
+settings_are None w = refl
+settings_are (Some server) w = refl
