@@ -23,7 +23,7 @@ module _ (routes : Routes) (other : List ℕ) (answers : List ℕ → Bool → T
   pub fresh_but : (found : Option (List ℕ)) → IfSome found (IsFresh answers old new) → IfSome found (IsFreshBut routes other old new)
   fresh_but found h =
       if_some (IsFresh answers old new) (IsFreshBut routes other old new)
-      (λ id f. record { drawn = f.issued; few = f.few; all_taken = All-weaker (λ it. answers it true) (IsTaken routes other) yes f.issued f.answered; free = λ i. no id f.free (inl i); apart = λ e. no id f.free (inr e); given = f.given }) found h
+      (λ id f. record { drawn = f.issued; few = f.few; all_taken = All-weaker (λ it. answers it true) (IsTaken routes other) yes f.issued f.answered; free = λ i. no id f.free (inl i); unchosen = λ i. no id f.free (inr (inl i)); apart = λ e. no id f.free (inr (inr e)); given = f.given }) found h
 
   pub none_but : AreIssued answers old new → AreNoneFreshBut routes other old new
   none_but a = record { drawn = a.issued; all = a.all; all_taken = All-weaker (λ it. answers it true) (IsTaken routes other) yes a.issued a.answered; given = a.given }

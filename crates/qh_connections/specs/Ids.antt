@@ -1,7 +1,7 @@
 -- The ids of an endpoint, by its routes.
 use Rattle.std.specs.Prelude.{◌≡◌, ◌≢◌, ◌⊎◌, ℕ, ◌<◌, List, [], ◌∷◌, ◌++◌, length, All}
 use Rattle.qh_generator.specs.Given.{and_ids}
-use Rattle.qh_routes.specs.Routes.{Routes, issued}
+use Rattle.qh_routes.specs.Routes.{Routes, initial, issued}
 use Rattle.qh_routes.specs.declared.connection_index.RouteDatagramTo.{RouteDatagramTo}
 use Rattle.qh_spec.specs.Lists.{In}
 
@@ -24,20 +24,25 @@ pub record AreNoneFresh (routes : Routes) (old new : List (List ℕ)) : Type 0 w
   pub all_issued : All (IsIssued routes) drawn
   pub given : new ≡ and_ids old drawn
 
--- the id is issued, or is this other one
-abbrev pub IsTaken : Routes → (other id : List ℕ) → Type 0
-IsTaken routes other id = IsIssued routes id ⊎ (id ≡ other)
+-- a client's first packets that go to this id lead to something
+abbrev pub IsInitial : Routes → (id : List ℕ) → Type 0
+IsInitial routes id = (t : RouteDatagramTo) × In (initial id, t) routes
 
--- Fewer than 64 ids that are issued or the other one were drawn before this one, which is neither; no further one was.
+-- the id is issued, or has a route as that of a client's first packets, or it is this other one
+abbrev pub IsTaken : Routes → (other id : List ℕ) → Type 0
+IsTaken routes other id = IsIssued routes id ⊎ (IsInitial routes id ⊎ (id ≡ other))
+
+-- Fewer than 64 ids that are taken were drawn before this one, which isn't; no further one was.
 pub record IsFreshBut (routes : Routes) (other : List ℕ) (old new : List (List ℕ)) (id : List ℕ) : Type 0 where
   pub drawn : List (List ℕ)
   pub few : length drawn < 64
   pub all_taken : All (IsTaken routes other) drawn
   pub free : IsIssued routes id → ⊥
+  pub unchosen : IsInitial routes id → ⊥
   pub apart : id ≢ other
   pub given : new ≡ and_ids old (drawn ++ id ∷ [])
 
--- 64 ids were drawn, all of which are issued or the other one.
+-- 64 ids were drawn, all of which are taken.
 pub record AreNoneFreshBut (routes : Routes) (other : List ℕ) (old new : List (List ℕ)) : Type 0 where
   pub drawn : List (List ℕ)
   pub all : length drawn ≡ 64

@@ -235,7 +235,8 @@ impl<G: ConnectionIdGenerator> Connections<G> {
         fresh_id(&mut self.ids, |id| index.is_issued(id))
     }
 
-    /// Draws the first id that isn't issued and isn't this one. None if 64 in a row are; then no further one is drawn.
+    /// Draws the first id that isn't issued, isn't one to which a client's first packets go that have a route, and isn't this one. None if 64 in
+    /// a row are one of these; then no further one is drawn.
     pub fn draw_but(&mut self, other: &ConnectionId) -> Option<ConnectionId>
         ensures fresh { IfSome result (λ id. IsFreshBut self.old.routes other.now (G.given self.old.ids) (G.given self.new.ids) id) }
         ensures none { result ≡ None → AreNoneFreshBut self.old.routes other.now (G.given self.old.ids) (G.given self.new.ids) }
@@ -335,11 +336,11 @@ impl<G> Connections<G> {
     }
 }
 
-// Whether the id is issued, or is the other one.
+// Whether the id is issued, or has a route as that of a client's first packets, or it is the other one.
 fn is_taken(index: &ConnectionIndex, other: &ConnectionId, id: &ConnectionId) -> bool
     ensures { IsTrue result ↔ IsTaken index.now other.now id.now }
 {
-    id.bytes() == other.bytes() || index.is_issued(id)
+    index.is_issued(id) || index.is_initial(id) || id.bytes() == other.bytes()
 }
 
 // Whether stateless resets from this address with this token are those from the other address with the other token.

@@ -7,9 +7,9 @@ use Rattle.qh_base.specs.declared.memory.Memory.{Memory as Want}
 use Rattle.qh_base.specs.declared.path.Transmit.{Transmit}
 use Rattle.qh_base.specs.declared.time.Moment.{Moment}
 use Rattle.qh_conn.specs.declared.connection.Connection.{Connection}
-use Rattle.qh_connections.specs.Connections.{AreExhausted, IsConnectionAdded, IsConnectionRemoved, IsKept, PlainConnections, meta_at}
+use Rattle.qh_connections.specs.Connections.{AreExhausted, IsConnectionAdded, IsConnectionRemoved, PlainConnections, meta_at}
 use Rattle.qh_connections.specs.Ids.{AreNoneFresh}
-use Rattle.qh_endpoint.specs.Accepting.{AreHanded, IsAccepted, IsAdmitted, IsHanded, IsLost, IsNotAccepted, IsReady, IsStale, IsWelcome, exhausted, failed, more, none, none_fresh, settings_of, wanting}
+use Rattle.qh_endpoint.specs.Accepting.{AreHanded, IsAccepted, IsAdmitted, IsHanded, IsLost, IsNotAccepted, IsReady, IsStale, IsWelcome, exhausted, failed, more, none, none_fresh, settings_of, unanswered, unclosed}
 use Rattle.qh_endpoint.specs.Closed.{IsClosed, IsClosedFrom, IsUnclosed, refused, reply_to}
 use Rattle.qh_endpoint.specs.Endpoint.{PlainEndpoint}
 use Rattle.qh_endpoint.specs.declared.accepting.AcceptError.{AcceptError}
@@ -20,14 +20,6 @@ use Rattle.qh_routes.specs.ConnectionMeta.{PlainMeta}
 use Rattle.qh_routes.specs.Routes.{issued_count}
 use Rattle.qh_routes.specs.declared.connection_handle.ConnectionHandle.{ConnectionHandle}
 use Rattle.qh_spec.specs.declared.sides.Side.TheVariants.{Server}
-
--- where only the source of ids differs, all routes and connections are kept
-pub kept_but_ids : {G : Type 0} (old new : PlainConnections G) → new ≡ record old { ids = new.ids } → IsKept old new
-kept_but_ids {G = G} old new e = subst (λ (z : PlainConnections G). IsKept old z) (sym e) (record { routes = record { kept = λ k t is. is; none_new = λ k t is. is }; metas = λ handle. refl })
-
--- what is kept of the one is kept of the other, which differs in the source of ids
-pub kept_from : {G : Type 0} (old mid new : PlainConnections G) → mid ≡ record old { ids = mid.ids } → IsKept mid new → IsKept old new
-kept_from {G = G} old mid new e kept = let k = subst (λ (z : PlainConnections G). IsKept z new) e kept in record { routes = k.routes; metas = k.metas }
 
 module _ {K G R T S : Type 0} (cid_len : G → ℕ) (validates : G → List ℕ → Type 0) (given : G → List (List ℕ)) (v : SessionView S) (server : ServerConfig) (w : Waiting) (now : Moment) where
   abbrev pub NotAccepted : (old new : PlainEndpoint K G R T) (written : List ℕ) → AcceptError → Type 0
@@ -43,8 +35,7 @@ module _ {K G R T S : Type 0} (cid_len : G → ℕ) (validates : G → List ℕ 
       subst (λ (z : AcceptError). NotAccepted old new written z) (sym (is ∙ ap (λ (z : Transmit). record { cause = CidsExhausted; response = Some z }) transmit)) (exhausted fresh full closed)
   exhausted_of (Err x) e old new written is is_err fresh full closed transmit left =
       subst (λ (z : AcceptError). NotAccepted old new written z) (sym is_err)
-      (wanting fresh (kept_but_ids old.connections new.connections (ap (λ (z : PlainEndpoint K G R T). z.connections) left.rest))
-      (left.rest ∙ ap (λ (z : PlainConnections G). record old { kit = new.kit; connections = z }) (sym (ap (λ (z : PlainEndpoint K G R T). z.connections) left.rest))) left.unwritten)
+      (unclosed fresh full left)
 
   -- where no id is fresh
   pub none_fresh_of : (sent : Result Transmit Want) (e : AcceptError) (old mid new : PlainEndpoint K G R T) (written : List ℕ)
@@ -56,18 +47,7 @@ module _ {K G R T S : Type 0} (cid_len : G → ℕ) (validates : G → List ℕ 
   none_fresh_of (Ok t) e old mid new written is is_err welcome no_id mid_is closed transmit unwritten rest =
       subst (λ (z : AcceptError). NotAccepted old new written z) (sym (is ∙ ap (λ (z : Transmit). record { cause = CidsExhausted; response = Some z }) transmit)) (none_fresh mid welcome no_id mid_is closed)
   none_fresh_of (Err x) e old mid new written is is_err welcome no_id mid_is closed transmit unwritten rest =
-      let is_new : new ≡ record old { kit = new.kit; connections = record old.connections { ids = mid.connections.ids } } = subst (λ (z : PlainEndpoint K G R T). new ≡ record z { kit = new.kit }) mid_is rest in
-      subst (λ (z : AcceptError). NotAccepted old new written z) (sym is_err)
-      (wanting welcome.timely.fresh (subst (λ (z : PlainEndpoint K G R T). IsKept old.connections z.connections) (sym is_new) (record { routes = record { kept = λ k t h. h; none_new = λ k t h. h }; metas = λ handle. refl }))
-      (is_new ∙ ap (λ (z : PlainConnections G). record old { kit = new.kit; connections = z }) (sym (ap (λ (z : PlainEndpoint K G R T). z.connections) is_new))) unwritten)
-
-  -- memory is wanting for the connection
-  pub unbegun_of : (old mid new : PlainEndpoint K G R T) (local_id written : List ℕ) → IsAdmitted cid_len validates given v server w now old mid local_id → IsKept mid.connections new.connections → new ≡ record mid { connections = new.connections } → written ≡ []
-      → NotAccepted old new written (record { cause = Memory; response = None })
-  unbegun_of old mid new local_id written admitted kept rest empty =
-      wanting admitted.welcome.timely.fresh (kept_from old.connections mid.connections new.connections (ap (λ (z : PlainEndpoint K G R T). z.connections) admitted.rest) kept)
-      (let is = subst (λ (z : PlainEndpoint K G R T). new ≡ record z { connections = new.connections }) admitted.rest rest in
-      is ∙ ap (λ (z : K). record old { kit = z; connections = new.connections }) (sym (ap (λ (z : PlainEndpoint K G R T). z.kit) is))) empty
+      subst (λ (z : AcceptError). NotAccepted old new written z) (sym is_err) (unanswered mid welcome no_id mid_is rest unwritten)
 
   module _ (old mid after : PlainEndpoint K G R T) (local_id : List ℕ) (handle : ConnectionHandle) (before : Connection S) (admitted : IsAdmitted cid_len validates given v server w now old mid local_id)
       (added : IsConnectionAdded mid.connections after.connections handle Server w.first.destination local_id w.addresses) (ids : after.connections.ids ≡ mid.connections.ids) (rest : after ≡ record mid { connections = after.connections })

@@ -20,6 +20,7 @@ use Rattle.qh_spec.specs.TokenFilter.{TokenLimits}
 use Rattle.qh_spec.specs.TokenLog.{TokenLog}
 use Rattle.qh_stateless.specs.Header.{Header, IsHeader, IsUnsupported}
 use Rattle.qh_stateless.specs.View.{destination_of, is_first}
+use Rattle.qh_stateless.specs.Words.{HasDrawn, and_word}
 
 module _ {K G R T : Type 0} where
   same_log : (old new : PlainEndpoint K G R T) → new ≡ old → new ≡ record old { token_log = new.token_log }
@@ -97,11 +98,11 @@ module _ {K G R T S : Type 0} (len : G → ℕ) (validates : G → List ℕ → 
   unknown_answered (Err e) mid new stranger id written size is size_is reset = tt
 
   pub unknown_unanswered : (result : Result (Option DatagramEvent) Memory) (mid new : PlainEndpoint K G R T) (stranger : Stranger) (id written : List ℕ) (size : ℕ) → stranger ≡ Unknown id → length datagram ≡ size
-      → OnErr result (IsResetEarly {S = S} len validates given drawn limits stands key sealed now addresses datagram mid → ⊥) → OnErr result (21 < size) → OnErr result (new ≡ record mid { words = new.words }) → OnErr result (written ≡ [])
+      → OnErr result (IsResetEarly {S = S} len validates given drawn limits stands key sealed now addresses datagram mid → ⊥) → OnErr result (21 < size) → OnErr result (HasDrawn (drawn mid.words) (drawn new.words)) → OnErr result (new ≡ record mid { words = new.words }) → OnErr result (written ≡ [])
       → OnErr result (Follows (Unhandled new written) mid mid stranger)
-  unknown_unanswered (Ok event) mid new stranger id written size is size_is late above rest none = tt
-  unknown_unanswered (Err e) mid new stranger id written size is size_is late above rest none =
-      λ log h header route judged. resetting h mid id header route (rw is at judged) late (subst (λ (n : ℕ). 21 < n) (sym size_is) above) rest none
+  unknown_unanswered (Ok event) mid new stranger id written size is size_is late above words rest none = tt
+  unknown_unanswered (Err e) mid new stranger id written size is size_is late above words rest none =
+      λ log h header route judged. resetting h mid id header route (rw is at judged) late (subst (λ (n : ℕ). 21 < n) (sym size_is) above) words rest none
 
   pub closing_unanswered : {A : Type 0} (result : Result A Memory) (mid new : PlainEndpoint K G R T) (stranger : Stranger) (d s written : List ℕ) (code : TransportErrorCode) → stranger ≡ Refused d s code → IsUnclosed given mid new written
       → OnErr result (Follows (Unhandled new written) mid mid stranger)
@@ -123,8 +124,8 @@ module _ {K G R T S : Type 0} (len : G → ℕ) (validates : G → List ℕ → 
 
   pub unsupported_unhandled : (result : Result (Option DatagramEvent) Memory) (old new : PlainEndpoint K G R T) (version : ℕ) (destination source written : List ℕ) (size : ℕ)
       → IsUnsupported (numbers old.config) old.config.grease_quic_bit datagram version destination source → length datagram ≡ size
-      → OnErr result ((server : ServerConfig) × (old.server ≡ Some server) × (1200 ≤ size)) → OnErr result (new ≡ record old { words = new.words }) → OnErr result (written ≡ [])
+      → OnErr result ((server : ServerConfig) × (old.server ≡ Some server) × (1200 ≤ size)) → OnErr result ((word : ℕ) × (drawn new.words ≡ and_word (drawn old.words) word)) → OnErr result (new ≡ record old { words = new.words }) → OnErr result (written ≡ [])
       → OnErr result (Unhandled new written old)
-  unsupported_unhandled (Ok event) old new version destination source written size is size_is large rest none = tt
-  unsupported_unhandled (Err e) old new version destination source written size is size_is large rest none =
-      negotiating version destination source large.0 is large.1 (subst (λ (n : ℕ). 1200 ≤ n) (sym size_is) large.2) rest none
+  unsupported_unhandled (Ok event) old new version destination source written size is size_is large words rest none = tt
+  unsupported_unhandled (Err e) old new version destination source written size is size_is large words rest none =
+      negotiating version destination source large.0 words.0 is large.1 (subst (λ (n : ℕ). 1200 ≤ n) (sym size_is) large.2) words.1 rest none

@@ -6,3 +6,4 @@ mod Judged
 mod Kept
 mod Reaching
 mod Retries
+mod Staying

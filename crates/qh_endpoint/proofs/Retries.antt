@@ -1,5 +1,5 @@
 -- How an attempt is answered by a Retry packet, or isn't.
-use Rattle.std.proofs.Common.{◌≡◌, ℕ, true, false, List, [], ◌∷◌, length, sym, ap, ◌∙◌, subst}
+use Rattle.std.proofs.Common.{◌≡◌, ℕ, ◌<◌, ◌^◌, true, false, List, [], ◌∷◌, length, sym, ap, ◌∙◌, subst}
 use Rattle.std.specs.Prelude.{is_some}
 use Rattle.qh_base.specs.declared.path.FourTuple.{FourTuple}
 use Rattle.qh_base.specs.declared.time.Moment.{Moment}
@@ -12,7 +12,7 @@ use Rattle.qh_endpoint.specs.declared.incoming.Waiting.{Waiting}
 use Rattle.qh_endpoint.specs.declared.retrying.RetryFault.TheVariants.{Answered, CidsExhausted, Memory}
 use Rattle.qh_packet.specs.Retry.{retry_bytes}
 use Rattle.qh_stateless.specs.Words.{and_words}
-use Rattle.qh_token.specs.Token.{token_bytes}
+use Rattle.qh_token.specs.Token.{IsToken}
 
 module _ {K G R T : Type 0} (cid_len : G → ℕ) (validates : G → List ℕ → Type 0) (given : G → List (List ℕ)) (drawn : R → List ℕ) (w : Waiting) (first : FirstPacket) (same : first ≡ w.first) (old new : PlainEndpoint K G R T) where
   pub answered_of : true ≡ is_some first.token.retry_src_cid → new ≡ old → IsNotRetried cid_len validates given drawn w old new Answered
@@ -40,13 +40,13 @@ module _ {K G R T : Type 0} (cid_len : G → ℕ) (validates : G → List ℕ �
       fresh_here = subst (λ (z : G). IsFreshBut old.connections.routes w.first.destination (given old.connections.ids) (given z) id) same_ids
           (subst (λ (p : FirstPacket). IsFreshBut old.connections.routes p.destination (given old.connections.ids) (given ids.ids) id) same fresh)
 
-      pub wanting_of : IsNotRetried cid_len validates given drawn w old new Memory
-      wanting_of = wanting id may_here fresh_here rest_of
+      pub wanting_of : (high low : ℕ) → drawn new.words ≡ and_words (drawn old.words) (high ∷ low ∷ []) → IsNotRetried cid_len validates given drawn w old new Memory
+      wanting_of high low words = wanting id high low may_here fresh_here words rest_of
 
       pub written_of : (now : Moment) (addresses : FourTuple) (written token : List ℕ) → addresses ≡ w.addresses → length id ≡ cid_len old.connections.ids → validates ids.ids id
-          → (high low : ℕ) × (drawn new.words ≡ and_words (drawn old.words) (high ∷ low ∷ [])) × (token ≡ token_bytes (retry_token (nonce_of high low) addresses.remote first.destination now))
+          → (high low : ℕ) × (high < 2 ^ 64) × (low < 2 ^ 64) × (drawn new.words ≡ and_words (drawn old.words) (high ∷ low ∷ [])) × IsToken token (retry_token (nonce_of high low) addresses.remote first.destination now)
           → written ≡ retry_bytes first.source id token first.destination → IsRetryWritten cid_len validates given drawn now w old new written
-      written_of now addresses written token at size own (high, low, words, token_is) written_is = record {
+      written_of now addresses written token at size own (high, low, high_fits, low_fits, words, token_is) written_is = record {
         may = may_here;
         id = id;
         fresh = fresh_here;
@@ -54,9 +54,11 @@ module _ {K G R T : Type 0} (cid_len : G → ℕ) (validates : G → List ℕ �
         own = subst (λ (z : G). validates z id) same_ids own;
         high = high;
         low = low;
+        fits = (high_fits, low_fits);
         words = words;
-        written_is = written_is ∙ ap (λ (t : List ℕ). retry_bytes first.source id t first.destination) token_is
-            ∙ ap (λ (a : FourTuple). retry_bytes first.source id (token_bytes (retry_token (nonce_of high low) a.remote first.destination now)) first.destination) at
-            ∙ ap (λ (p : FirstPacket). retry_bytes p.source id (token_bytes (retry_token (nonce_of high low) w.addresses.remote p.destination now)) p.destination) same;
+        token = token;
+        token_is = subst (λ (p : FirstPacket). IsToken token (retry_token (nonce_of high low) w.addresses.remote p.destination now)) same
+            (subst (λ (a : FourTuple). IsToken token (retry_token (nonce_of high low) a.remote first.destination now)) at token_is);
+        written_is = written_is ∙ ap (λ (p : FirstPacket). retry_bytes p.source id token p.destination) same;
         rest = rest_of;
       }

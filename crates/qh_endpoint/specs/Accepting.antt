@@ -163,6 +163,15 @@ module _ {K G R T S : Type 0} (cid_len : G → ℕ) (validates : G → List ℕ 
     failed : (local_id : List ℕ) (mid gone : PlainEndpoint K G R T) (connection : Connection S) (e : AcceptError) → IsAdmitted old mid local_id → IsBegun v server w local_id connection
         → IsFleeting w local_id mid.connections gone.connections → gone.connections.ids ≡ mid.connections.ids → gone ≡ record mid { connections = gone.connections }
         → IsLost cid_len validates given v w connection gone new written e → IsNotAccepted old new written e
-    -- memory is wanting: to close, or for a session, or a connection
-    wanting : (IsStale server w now → ⊥) → IsKept old.connections new.connections → new ≡ record old { kit = new.kit; connections = new.connections } → written ≡ []
+    -- memory is wanting to answer that ids are exhausted
+    unclosed : (IsStale server w now → ⊥) → AreExhausted (cid_len old.connections.ids) (issued_count old.connections.routes) → IsUnclosed given old new written
         → IsNotAccepted old new written (record { cause = Memory; response = None })
+    -- for a session
+    no_session : IsTimely old → new ≡ record old { kit = new.kit } → written ≡ [] → IsNotAccepted old new written (record { cause = Memory; response = None })
+    -- to answer that no id is fresh
+    unanswered : (mid : PlainEndpoint K G R T) → IsWelcome old → AreNoneFresh old.connections.routes (given old.connections.ids) (given mid.connections.ids)
+        → mid ≡ record old { kit = mid.kit; connections = record old.connections { ids = mid.connections.ids } } → new ≡ record mid { kit = new.kit } → written ≡ []
+        → IsNotAccepted old new written (record { cause = Memory; response = None })
+    -- for the connection, for which an id was drawn
+    unbegun : (local_id : List ℕ) (mid : PlainEndpoint K G R T) → IsAdmitted old mid local_id → IsKept mid.connections new.connections → new.connections.ids ≡ mid.connections.ids
+        → new ≡ record mid { connections = new.connections } → written ≡ [] → IsNotAccepted old new written (record { cause = Memory; response = None })

@@ -13,6 +13,7 @@ use Rattle.qh_endpoint.specs.declared.event.DatagramEvent.{DatagramEvent}
 use Rattle.qh_endpoint.specs.declared.event.DatagramEvent.TheVariants.{ConnectionEvent, NewConnection, Response}
 use Rattle.qh_endpoint.specs.declared.incoming.FirstPacket.{FirstPacket}
 use Rattle.qh_endpoint.specs.declared.incoming.Incoming.{Incoming}
+use Rattle.qh_endpoint.specs.declared.incoming.Waiting.{Waiting}
 use Rattle.qh_endpoint.specs.declared.stranger.Stranger.TheVariants.{Ignored, Unknown, Refused, Attempt}
 use Rattle.qh_kit.specs.declared.config.ServerConfig.{ServerConfig}
 use Rattle.qh_packet.specs.Session.{SealsTag}
@@ -26,7 +27,7 @@ use Rattle.qh_stateless.specs.Header.{Header, IsHeader, IsMalformed, IsUnsupport
 use Rattle.qh_stateless.specs.Negotiation.{negotiation_bytes}
 use Rattle.qh_stateless.specs.Reset.{IsReset as IsResetOf}
 use Rattle.qh_stateless.specs.View.{destination_of, is_first}
-use Rattle.qh_stateless.specs.Words.{and_word, and_words}
+use Rattle.qh_stateless.specs.Words.{HasDrawn, and_word, and_words}
 
 -- what was written, of so many bytes, goes to where the datagram came from
 abbrev pub reply : FourTuple → (size : ℕ) → DatagramEvent
@@ -39,6 +40,10 @@ pub data IsKept {K G R T : Type 0} (key : ℕ) (now : Moment) (remote : SocketAd
       → new.incoming.numbered ≡ old.incoming.numbered → attempt_count new.incoming ≡ attempt_count old.incoming → total_bytes new.incoming ≡ total_bytes old.incoming + length datagram
       → new ≡ record old { incoming = new.incoming } → IsKept key now remote datagram old new
   dropped : (HasRoom old.incoming key (length datagram) → ⊥) → new ≡ old → IsKept key now remote datagram old new
+
+-- an attempt that waited still does, as it was, or this datagram was kept for it behind the others
+abbrev pub StillWaits : (now : Moment) (remote : SocketAddr) (datagram : List ℕ) → PlainAttempt Waiting → Option (PlainAttempt Waiting) → Type 0
+StillWaits now remote datagram a slot = (slot ≡ Some a) ⊎ (slot ≡ Some (record a { datagrams = a.datagrams ++ record { now = now; remote = remote; payload = datagram } ∷ [] }))
 
 -- an attempt couldn't be let wait: those that wait are the same, and a number may have been given
 pub record IsLetGo {K G R T : Type 0} (old new : PlainEndpoint K G R T) : Type 0 where
@@ -112,8 +117,8 @@ module _ {K G R T S : Type 0} (cid_len : G → ℕ) (validates : G → List ℕ 
   -- Memory is wanting for what is to be done with a datagram. Nothing is written, and all routes, connections and attempts are as they were. What was
   -- drawn stays drawn, a token that was looked up stays so, and a session may have begun.
   pub data IsUnhandled (old new : PlainEndpoint K G R T) (written : List ℕ) : Type 0 where
-    negotiating : (version : ℕ) (destination source : List ℕ) (server : ServerConfig) → IsUnsupported (numbers old.config) old.config.grease_quic_bit datagram version destination source → old.server ≡ Some server → 1200 ≤ length datagram
-        → new ≡ record old { words = new.words } → written ≡ [] → IsUnhandled old new written
+    negotiating : (version : ℕ) (destination source : List ℕ) (server : ServerConfig) (word : ℕ) → IsUnsupported (numbers old.config) old.config.grease_quic_bit datagram version destination source → old.server ≡ Some server → 1200 ≤ length datagram
+        → drawn new.words ≡ and_word (drawn old.words) word → new ≡ record old { words = new.words } → written ≡ [] → IsUnhandled old new written
     keeping : (h : Header) (k : ℕ) → IsHeader (cid_len old.connections.ids) (numbers old.config) old.config.grease_quic_bit datagram h → IsRoutedTo old h (Some (target.Incoming k)) → HasRoom old.incoming k (length datagram)
         → new ≡ old → written ≡ [] → IsUnhandled old new written
     -- to note that a token was used
@@ -121,7 +126,7 @@ module _ {K G R T S : Type 0} (cid_len : G → ℕ) (validates : G → List ℕ 
         → IsUnjudged (cid_len old.connections.ids) (validates old.connections.ids) limits stands now addresses.remote (length datagram) old new h → written ≡ [] → IsUnhandled old new written
     resetting : (h : Header) (mid : PlainEndpoint K G R T) (id : List ℕ) → IsHeader (cid_len old.connections.ids) (numbers old.config) old.config.grease_quic_bit datagram h → IsRoutedTo old h None
         → IsJudged (cid_len old.connections.ids) (validates old.connections.ids) limits stands now addresses.remote (length datagram) old mid h (Unknown id) → (IsResetEarly mid → ⊥) → 21 < length datagram
-        → new ≡ record mid { words = new.words } → written ≡ [] → IsUnhandled old new written
+        → HasDrawn (drawn mid.words) (drawn new.words) → new ≡ record mid { words = new.words } → written ≡ [] → IsUnhandled old new written
     closing : (h : Header) (mid : PlainEndpoint K G R T) (destination source : List ℕ) (code : TransportErrorCode) → IsHeader (cid_len old.connections.ids) (numbers old.config) old.config.grease_quic_bit datagram h → IsRoutedTo old h None
         → IsJudged (cid_len old.connections.ids) (validates old.connections.ids) limits stands now addresses.remote (length datagram) old mid h (Refused destination source code)
         → IsUnclosed given mid new written → IsUnhandled old new written

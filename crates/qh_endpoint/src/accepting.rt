@@ -36,7 +36,8 @@ pub struct AcceptError {
 impl<K: Kit> Endpoint<K> {
     /// Accepts an attempt, under the config that is given, or else under the one under which it came (quinn-proto, `Endpoint::accept`). It is refused,
     /// in this order: silently with `TimedOut`, if the connection would have been idle for too long already; with `CidsExhausted`, and closed with
-    /// CONNECTION_REFUSED, if ids are exhausted; silently with a PROTOCOL_VIOLATION, if the tag of its first packet is refused; as before, if 64 ids
+    /// CONNECTION_REFUSED, if ids are exhausted; silently with a PROTOCOL_VIOLATION, if the tag of its first packet is refused, or that has no fixed bit, as it may where
+    /// that bit is greased; as for exhausted ids, if 64 ids
     /// in a row that were drawn are issued; and by what its first datagram ends the connection with, which is closed if that is an error of the
     /// transport. Datagrams that were kept for it are handed to the connection behind the first one. The buffer is empty before. The attempt is spent
     /// whatever is answered. Want of memory for anything but the connection's own datagrams leaves no connection; for those behind the first one it

@@ -1,4 +1,4 @@
-ghost use Rattle.std.specs.Prelude.{◌≡◌, ◌↔◌, [], None, IfOk, IsTrue, is_some, option_copied};
+ghost use Rattle.std.specs.Prelude.{◌≡◌, ◌≢◌, ◌↔◌, [], None, IfOk, IsTrue, OnErr, is_some, option_copied};
 ghost use Rattle.qh_attempts.specs.Attempts.{AreAttempts, IsPending, total_bytes};
 ghost use Rattle.qh_connections.specs.Connections.{AreConnections, connection_count, meta_at};
 ghost use Rattle.qh_routes.specs.Routes.{HasNoEmptyId, NoKeyTwice};
@@ -41,7 +41,7 @@ impl<K: Kit> Model for Endpoint<K> {
 }
 
 impl<K: Kit> Endpoint<K> {
-    /// An endpoint without connections.
+    /// An endpoint without connections. Memory is asked for as many numbers as there are versions.
     pub fn new(
         alloc: Global,
         config: EndpointConfig,
@@ -51,7 +51,8 @@ impl<K: Kit> Endpoint<K> {
         words: K::R,
         token_log: K::T,
     ) -> Result<Endpoint<K>, Memory>
-        ensures { IfOk result (λ e. e ≡ record { config = config; server = server; kit = kit; words = words; token_log = token_log; connections = record { routes = []; metas = []; ids = ids }; incoming = record { slots = []; numbered = 0 }; last_reset = None }) }
+        ensures made { IfOk result (λ e. e ≡ record { config = config; server = server; kit = kit; words = words; token_log = token_log; connections = record { routes = []; metas = []; ids = ids }; incoming = record { slots = []; numbered = 0 }; last_reset = None }) }
+        ensures wanting { OnErr result (config.versions.items ≢ []) }
     {
         let mut versions = Vec::new(alloc);
         for version in &config.versions {

@@ -12,6 +12,7 @@ ghost use Rattle.qh_kit.specs.declared.config.ServerConfig.{ServerConfig as ASer
 ghost use Rattle.qh_routes.specs.Routes.{IsRouted, keys_of};
 ghost use Rattle.qh_stateless.specs.Header.{Header, IsFault, IsHeader};
 ghost use Rattle.qh_stateless.specs.View.{destination_of, fault_of, header_of, is_first};
+ghost use Rattle.qh_stateless.specs.Words.{HasDrawn, and_word};
 
 use crate::closing::{error_of, reply};
 use crate::incoming::{FirstPacket, Waiting};
@@ -200,6 +201,7 @@ impl<K: Kit> Endpoint<K> {
         ensures negotiated { IfOk result (λ event. (now : AMoment) (datagram : List ℕ) → length datagram ≡ size
             → IsNegotiated {S = K.S} K.G.cid_len K.G.validates K.G.given K.R.given K.T.limits K.T.stands K.S.key K.S.sealed now addresses.now datagram version destination.now source.now self.old self.new buf.new.items event) }
         ensures wanting { OnErr result ((server : AServer) × (self.old.server ≡ Some server) × (1200 ≤ size)) }
+        ensures drawn { OnErr result ((word : ℕ) × (K.R.given self.new.words ≡ and_word (K.R.given self.old.words) word)) }
         ensures err { OnErr result (self.new ≡ record self.old { words = self.new.words }) }
         ensures unwritten { OnErr result (buf.new.items ≡ []) }
         ensures ids { self.new.connections.ids ≡ self.old.connections.ids }
@@ -232,6 +234,7 @@ impl<K: Kit> Endpoint<K> {
             → IsReset {S = K.S} K.G.cid_len K.G.validates K.G.given K.R.given K.T.limits K.T.stands K.S.key K.S.sealed now addresses.now datagram id.now self.old self.new buf.new.items event) }
         ensures late { OnErr result (IsResetEarly {S = K.S} K.G.cid_len K.G.validates K.G.given K.R.given K.T.limits K.T.stands K.S.key K.S.sealed now addresses.now [] self.old → ⊥) }
         ensures long { OnErr result (21 < size) }
+        ensures drawn { OnErr result (HasDrawn (K.R.given self.old.words) (K.R.given self.new.words)) }
         ensures err { OnErr result (self.new ≡ record self.old { words = self.new.words }) }
         ensures unwritten { OnErr result (buf.new.items ≡ []) }
         ensures ids { self.new.connections.ids ≡ self.old.connections.ids }

@@ -1,4 +1,4 @@
-ghost use Rattle.std.specs.Prelude.{◌≡◌, ◌↔◌, ◌<◌, ◌≤◌, ℕ, [], ◌∷◌, length, IfErr, IfOk, IfSome, IsTrue, None, Some, is_some, true};
+ghost use Rattle.std.specs.Prelude.{◌≡◌, ◌↔◌, ◌<◌, ◌≤◌, ◌^◌, ℕ, [], ◌∷◌, length, IfErr, IfOk, IfSome, IsTrue, None, OnErr, Some, is_some, true};
 ghost use Rattle.qh_attempts.specs.Attempts.{IsPending, PlainAttempt, attempt_at, config_at};
 ghost use Rattle.qh_connections.specs.Ids.{IsSameSource};
 ghost use Rattle.qh_endpoint.specs.Closed.{reply_to};
@@ -8,7 +8,7 @@ ghost use Rattle.qh_endpoint.specs.Retrying.{IsNotRetried, IsRetryWritten, later
 ghost use Rattle.qh_endpoint.specs.declared.incoming.Waiting.{Waiting as AWaiting};
 ghost use Rattle.qh_endpoint.specs.declared.retrying.RetryFault.TheVariants as fault;
 ghost use Rattle.qh_stateless.specs.Words.{and_words};
-ghost use Rattle.qh_token.specs.Token.{said, token_bytes};
+ghost use Rattle.qh_token.specs.Token.{IsToken, said};
 
 use crate::closing::reply;
 use crate::incoming::FirstPacket;
@@ -26,8 +26,8 @@ use std::net::IpAddr;
 pub enum RetryFault {
     /// It answers a Retry packet itself (RFC 9000, section 17.2.5.2).
     Answered,
-    /// No id could be drawn for the packet: 64 in a row are issued, or the one to which the attempt's first packet went, from which a Retry packet may
-    /// not come (section 17.2.5.1).
+    /// No id could be drawn for the packet: 64 in a row are issued, or ones to which first packets of clients go, the attempt's own among them, from
+    /// which a Retry packet may not come (section 17.2.5.1).
     CidsExhausted,
     /// The allocator had no memory.
     Memory,
@@ -91,10 +91,11 @@ impl<K: Kit> Endpoint<K> {
     }
 
     /// A token by which a client shows at a later connection that it receives at this address (RFC 9000, section 8.1.3). `Connection::queue_token`
-    /// sends it.
+    /// sends it. Two words are drawn for its nonce, after want of memory too.
     pub fn validation_token(&mut self, remote: IpAddr, now: Moment) -> Result<Bytes, Memory>
-        ensures token { IfOk result (λ token. (high low : ℕ) × (K.R.given self.new.words ≡ and_words (K.R.given self.old.words) (high ∷ low ∷ [])) × (token ≡ token_bytes (later_token (nonce_of high low) remote now))) }
+        ensures token { IfOk result (λ token. (high low : ℕ) × (high < 2 ^ 64) × (low < 2 ^ 64) × (K.R.given self.new.words ≡ and_words (K.R.given self.old.words) (high ∷ low ∷ [])) × IsToken token (later_token (nonce_of high low) remote now)) }
         ensures short { IfOk result (λ token. length token ≤ 66) }
+        ensures drawn { OnErr result ((high low : ℕ) × (K.R.given self.new.words ≡ and_words (K.R.given self.old.words) (high ∷ low ∷ []))) }
         ensures rest { self.new ≡ record self.old { words = self.new.words } }
     {
         let payload = TokenPayload::Validation {
@@ -158,7 +159,7 @@ impl<K: Kit> Endpoint<K> {
 
     // The bytes of a token with a new nonce.
     fn token(&mut self, payload: TokenPayload) -> Result<Vec<u8>, Memory>
-        ensures token { IfOk result (λ token. (high low : ℕ) × (K.R.given self.new.words ≡ and_words (K.R.given self.old.words) (high ∷ low ∷ [])) × (token.items ≡ token_bytes (said (nonce_of high low) payload))) }
+        ensures token { (high low : ℕ) × (high < 2 ^ 64) × (low < 2 ^ 64) × (K.R.given self.new.words ≡ and_words (K.R.given self.old.words) (high ∷ low ∷ [])) × IfOk result (λ token. IsToken token.items (said (nonce_of high low) payload)) }
         ensures short { IfOk result (λ token. length token.items ≤ 66) }
         ensures some { IfOk result (λ token. 0 < length token.items) }
         ensures rest { self.new ≡ record self.old { words = self.new.words } }

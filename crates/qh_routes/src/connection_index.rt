@@ -235,6 +235,13 @@ impl ConnectionIndex {
         self.ids.contains_key(id)
     }
 
+    /// Whether a client's first packets that go to this id lead to something.
+    pub fn is_initial(&self, id: &ConnectionId) -> bool
+        ensures { IsTrue result ↔ ((t : Target) × In (initial id.now, t) self.now) }
+    {
+        self.initials.contains_key(id)
+    }
+
     /// Takes away all routes to a connection that are by what the endpoint keeps of it. A key that leads to another connection or to
     /// an attempt by now keeps its route.
     pub fn remove(&mut self, handle: ConnectionHandle, meta: &ConnectionMeta)

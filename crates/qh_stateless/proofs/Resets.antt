@@ -2,7 +2,7 @@
 use Rattle.std.proofs.Common.{◌≡◌, ℕ, ◌+◌, ◌-◌, ◌<◌, ◌≤◌, ◌/◌, ◌%◌, List, [], ◌∷◌, ◌++◌, length, get_or, drop, drop_at, replicate, refl, sym, ap, ◌∙◌, arith, append_assoc, length-append, length-drop}
 use Rattle.std.proofs.lemmas.List.{append-nil, length-map, length-replicate, map-append}
 use Rattle.qh_stateless.specs.Reset.{IsPaddingSize, short, long, IsReset, low_bytes_of, padding_of}
-use Rattle.qh_stateless.specs.Words.{and_word, and_words}
+use Rattle.qh_stateless.specs.Words.{HasDrawn, and_word, and_words}
 use Rattle.qh_token.specs.Reset.{reset_token_of}
 
 token_length : (id : List ℕ) → length (reset_token_of id) ≡ 16
@@ -80,6 +80,15 @@ one_more given drawn now next w e f = f ∙ ap (λ (z : List ℕ). z ++ w ∷ []
 pub words_append : (given xs ys : List ℕ) → and_words given (xs ++ ys) ≡ and_words (and_words given xs) ys
 words_append given [] ys = refl
 words_append given (x ∷ xs) ys = words_append (and_word given x) xs ys
+
+pub none_of_them : (given : List ℕ) → HasDrawn given given
+none_of_them given = ([], refl)
+
+pub one_word : (old new : List ℕ) (word : ℕ) → new ≡ and_word old word → HasDrawn old new
+one_word old new word e = (word ∷ [], e)
+
+pub then_drawn : (old mid new : List ℕ) → HasDrawn old mid → HasDrawn mid new → HasDrawn old new
+then_drawn old mid new (front, e) (rest, f) = (front ++ rest, f ∙ ap (λ (z : List ℕ). and_words z rest) e ∙ sym (words_append old front rest))
 
 -- So many words were drawn, and their low bytes appended.
 pub record IsDrawn (old now before after : List ℕ) (count : ℕ) : Type 0 where

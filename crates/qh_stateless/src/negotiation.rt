@@ -16,7 +16,7 @@ const OTHER_RESERVED_VERSION: u32 = 0x0a1a2a4a;
 
 /// Appends the packet of version negotiation that answers a datagram of an unsupported version with these ids, or nothing. A word chooses
 /// the low six bits of its first byte, both ids are exchanged, and it lists a reserved version other than the datagram's and then the
-/// endpoint's in order (RFC 9000, sections 6.1 and 17.2.1).
+/// endpoint's in order (RFC 9000, sections 6.1 and 17.2.1). The word is drawn after want of memory too.
 pub fn put_versions<W: Words>(
     words: &mut W,
     version: u32,
@@ -29,6 +29,7 @@ pub fn put_versions<W: Words>(
     requires source { length source.now ≤ 20 }
     ensures ok { OnOk result ((word : ℕ) × (W.given words.new ≡ and_word (W.given words.old) word)
         × (out.new.items ≡ out.old.items ++ negotiation_bytes word version destination.now source.now versions.now)) }
+    ensures drawn { OnErr result ((word : ℕ) × (W.given words.new ≡ and_word (W.given words.old) word)) }
     ensures err { OnErr result (out.new.items ≡ out.old.items) }
 {
     let start = out.len();

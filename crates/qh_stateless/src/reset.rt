@@ -1,6 +1,6 @@
 ghost use Rattle.std.specs.Prelude.{◌≡◌, ℕ, ◌+◌, ◌-◌, ◌<◌, ◌≤◌, ◌/◌, ◌++◌, ◌↔◌, List, length, drop, get_or, true, false, IsTrue, IfOk, OnOk, OnErr};
 ghost use Rattle.qh_stateless.specs.Reset.{IsPaddingSize, IsReset, low_bytes_of, padding_of};
-ghost use Rattle.qh_stateless.specs.Words.{and_words};
+ghost use Rattle.qh_stateless.specs.Words.{HasDrawn, and_words};
 ghost use Rattle.qh_token.specs.Reset.{reset_token_of};
 
 use crate::Words;
@@ -30,6 +30,7 @@ pub fn put_stateless_reset<W: Words>(
         × IsReset cause_len id.now drawn bytes) }
     ensures none { IfOk result (λ put. put ≡ false → (W.given words.new ≡ W.given words.old) × (out.new.items ≡ out.old.items)) }
     ensures wanted { OnErr result (21 < cause_len) }
+    ensures drawn { HasDrawn (W.given words.old) (W.given words.new) }
     ensures err { OnErr result (out.new.items ≡ out.old.items) }
 {
     if cause_len <= MAX_UNANSWERED {
@@ -73,6 +74,7 @@ fn put_reset<W: Words>(
 ) -> Result<(), Memory>
     requires { 0 < size }
     ensures ok { OnOk result ((drawn : List ℕ) × (W.given words.new ≡ and_words (W.given words.old) drawn) × (length drawn ≡ size) × (out.new.items ≡ out.old.items ++ (padding_of drawn ++ reset_token_of id.now))) }
+    ensures drawn { HasDrawn (W.given words.old) (W.given words.new) }
     ensures err { OnErr result (out.new.items ≡ out.old.items) }
 {
     let start = out.len();
@@ -88,6 +90,7 @@ fn put_reset<W: Words>(
 fn put_padding<W: Words>(words: &mut W, size: usize, out: &mut Vec<u8>) -> Result<(), Memory>
     requires { 0 < size }
     ensures ok { OnOk result ((drawn : List ℕ) × (W.given words.new ≡ and_words (W.given words.old) drawn) × (length drawn ≡ size) × (out.new.items ≡ out.old.items ++ padding_of drawn)) }
+    ensures drawn { HasDrawn (W.given words.old) (W.given words.new) }
     ensures err { OnErr result (out.new.items ≡ out.old.items) }
 {
     let start = out.len();
@@ -103,6 +106,7 @@ fn put_padding<W: Words>(words: &mut W, size: usize, out: &mut Vec<u8>) -> Resul
 // Appends the low bytes of so many words, or nothing.
 fn put_low_bytes<W: Words>(words: &mut W, count: usize, out: &mut Vec<u8>) -> Result<(), Memory>
     ensures ok { OnOk result ((drawn : List ℕ) × (W.given words.new ≡ and_words (W.given words.old) drawn) × (length drawn ≡ count) × (out.new.items ≡ out.old.items ++ low_bytes_of drawn)) }
+    ensures drawn { HasDrawn (W.given words.old) (W.given words.new) }
     ensures err { OnErr result (out.new.items ≡ out.old.items) }
 {
     let start = out.len();

@@ -1,6 +1,6 @@
 use Rattle.std.proofs.Common.{◌%◌, [], ◌∷◌}
 use Rattle.qh_frame.proofs.FramesWritten.{appended}
-use Rattle.qh_stateless.proofs.Resets.{one_drawn}
+use Rattle.qh_stateless.proofs.Resets.{one_drawn, one_word, then_drawn}
 use Rattle.qh_stateless.proofs.reset.put_low_bytes.Goals as goal
 
 pub loop-preserved : goal.loop-preserved
@@ -10,3 +10,9 @@ loop-preserved g c = (
       (appended c.push.result c.loop.out.items c.push.new.self.items ((c.next-word.result % 256) ∷ []) c.if-is_err.ensures.value c.push.ensures.items),
   c.loop.invariant.1,
 )
+
+pub returns-then-is_err-clause-drawn : goal.returns-then-is_err-clause-drawn
+returns-then-is_err-clause-drawn g c = then_drawn _ _ _ (c.loop.invariant.0.drawn, c.loop.invariant.0.given_are) (one_word _ _ c.next-word.result c.next-word.ensures)
+
+pub returns-clause-drawn : goal.returns-clause-drawn
+returns-clause-drawn g c = (c.loop.invariant.0.drawn, c.loop.invariant.0.given_are)

@@ -1,5 +1,6 @@
 use Rattle.std.proofs.Common.{◌≡◌, ℕ, ◌+◌, ◌-◌, ◌%◌, List, [], ◌∷◌, ◌++◌, length, ap, ◌∙◌, append_assoc, arith}
 use Rattle.qh_frame.proofs.FramesWritten.{on_ok}
+use Rattle.qh_stateless.proofs.Resets.{one_word, then_drawn}
 use Rattle.qh_stateless.specs.Reset.{low_bytes_of}
 use Rattle.qh_stateless.specs.Words.{and_words}
 use Rattle.qh_stateless.proofs.reset.put_padding.Goals as goal
@@ -14,3 +15,12 @@ returns-clause-ok g c =
       omega (arith, size),
       low.3 ∙ ap (λ (z : List ℕ). z ++ low_bytes_of low.0) c.in_ok-push.ensures.items ∙ append_assoc c.args.out.now.items ((64 + c.next-first.result % 64) ∷ []) (low_bytes_of low.0),
     )
+
+pub returns-in_err-push-clause-drawn : goal.returns-in_err-push-clause-drawn
+returns-in_err-push-clause-drawn g c = one_word _ _ c.next-first.result c.next-first.ensures
+
+pub returns-then-is_err-clause-drawn : goal.returns-then-is_err-clause-drawn
+returns-then-is_err-clause-drawn g c = then_drawn _ _ _ (one_word _ _ c.next-first.result c.next-first.ensures) c.put_low_bytes.ensures.drawn
+
+pub returns-clause-drawn : goal.returns-clause-drawn
+returns-clause-drawn g c = then_drawn _ _ _ (one_word _ _ c.next-first.result c.next-first.ensures) c.put_low_bytes.ensures.drawn

@@ -1,5 +1,5 @@
 use Rattle.std.proofs.Common.{ℕ, List, ◌-◌, ◌++◌, refl, sym, ap, ◌∙◌, subst, arith}
-use Rattle.qh_stateless.proofs.Resets.{words_append}
+use Rattle.qh_stateless.proofs.Resets.{none_of_them, then_drawn, words_append}
 use Rattle.qh_stateless.specs.Words.{and_words}
 use Rattle.qh_stateless.specs.Reset.{IsPaddingSize, padding_of}
 use Rattle.qh_token.specs.Reset.{reset_token_of}
@@ -24,3 +24,12 @@ returns-clause-reset g c = λ done.
         whole = refl;
       },
     )
+
+pub returns-then-cause_len-le-MAX_UNANSWERED-clause-drawn : goal.returns-then-cause_len-le-MAX_UNANSWERED-clause-drawn
+returns-then-cause_len-le-MAX_UNANSWERED-clause-drawn g c = none_of_them _
+
+pub returns-in_err-put_reset-clause-drawn : goal.returns-in_err-put_reset-clause-drawn
+returns-in_err-put_reset-clause-drawn g c = then_drawn _ _ _ (let size = c.padding_size-size.ensures.size in (size.0, size.1)) c.put_reset.ensures.drawn
+
+pub returns-clause-drawn : goal.returns-clause-drawn
+returns-clause-drawn g c = then_drawn _ _ _ (let size = c.padding_size-size.ensures.size in (size.0, size.1)) c.put_reset.ensures.drawn

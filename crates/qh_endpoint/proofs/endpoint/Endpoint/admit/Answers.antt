@@ -2,7 +2,7 @@ use Rattle.std.proofs.Common.{refl, sym, subst}
 use Rattle.qh_connections.specs.Connections.{AreExhausted}
 use Rattle.qh_endpoint.proofs.Accepts.{exhausted_of, none_fresh_of}
 use Rattle.qh_endpoint.proofs.Connects.{never, only_kit_ids}
-use Rattle.qh_endpoint.specs.Accepting.{stale, untaken, wanting}
+use Rattle.qh_endpoint.specs.Accepting.{no_session, stale, untaken}
 use Rattle.qh_endpoint.specs.Endpoint.{PlainEndpoint}
 use Rattle.qh_routes.specs.Routes.{issued_count}
 use Rattle.qh_endpoint.proofs.endpoint.Endpoint.admit.Goals as goal
@@ -17,7 +17,7 @@ returns-then-ids_exhausted-clause-refused g c = exhausted_of g.K.G.ConnectionIdG
     (rw c.error_of-error.ensures at c.initial_close-sent.ensures.closed) c.initial_close-sent.ensures.transmit c.initial_close-sent.ensures.err
 
 pub returns-in-Err-clause-refused : goal.returns-in-Err-clause-refused
-returns-in-Err-clause-refused g c = rw (sym c.self.view_is) (rw c.silent-in-Err.ensures (wanting (never c.if-is_stale.ensures) (record { routes = record { kept = λ k t h. h; none_new = λ k t h. h }; metas = λ handle. refl }) refl c.requires))
+returns-in-Err-clause-refused g c = rw (sym c.self.view_is) (rw c.silent-in-Err.ensures (no_session (record { fresh = never c.if-is_stale.ensures; some_left = never c.if-ids_exhausted.ensures }) refl c.requires))
 
 pub returns-then-not-opens-clause-refused : goal.returns-then-not-opens-clause-refused
 returns-then-not-opens-clause-refused g c = rw (sym c.self.view_is) (rw c.silent-then-not-opens.ensures (rw c.error_of-violation.ensures

@@ -12,7 +12,7 @@ returns-in-Unknown-clause-handled g c = unknown_answered g.K.G.ConnectionIdGener
 
 pub returns-in-Unknown-clause-err : goal.returns-in-Unknown-clause-err
 returns-in-Unknown-clause-err g c = let e = c.stateless_reset.ensures in unknown_unanswered g.K.G.ConnectionIdGenerator.cid_len g.K.G.ConnectionIdGenerator.validates _ _ _ _ _ _ c.args.now c.args.addresses.now c.args.datagram
-    c.stateless_reset.result c.args.self.now c.stateless_reset.new.self c.args.stranger c.in-Unknown.id c.stateless_reset.new.buf.items c.len.result c.in-Unknown.is (sym c.len.ensures.value) e.late e.long e.err e.unwritten
+    c.stateless_reset.result c.args.self.now c.stateless_reset.new.self c.args.stranger c.in-Unknown.id c.stateless_reset.new.buf.items c.len.result c.in-Unknown.is (sym c.len.ensures.value) e.late e.long e.drawn e.err e.unwritten
 
 pub returns-in_ok-transmit-in-Refused-clause-handled : goal.returns-in_ok-transmit-in-Refused-clause-handled
 returns-in_ok-transmit-in-Refused-clause-handled g c = λ log h is route judged. rw c.in_ok-transmit-in-Refused.ensures.transmit

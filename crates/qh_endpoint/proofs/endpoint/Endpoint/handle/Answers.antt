@@ -37,7 +37,7 @@ returns-in-UnsupportedVersion-clause-err g c =
     unsupported_unhandled g.K.G.ConnectionIdGenerator.cid_len g.K.G.ConnectionIdGenerator.validates _ _ _ _ _ _ c.args.now (record { remote = c.args.remote; local_ip = c.args.local_ip }) c.args.datagram
     c.negotiate.result c.args.self.now c.negotiate.new.self u.version u.destination.now u.source.now c.negotiate.new.buf.items c.len-size.result
     (same_fault _ _ _ c.deref.result.now c.args.datagram c.in-Err.fault (fault.UnsupportedVersion u.version u.destination u.source) c.deref.ensures u.is c.in-Err.ensures.fault)
-    (sym c.len-size.ensures.value) c.negotiate.ensures.wanting c.negotiate.ensures.err c.negotiate.ensures.unwritten
+    (sym c.len-size.ensures.value) c.negotiate.ensures.wanting c.negotiate.ensures.drawn c.negotiate.ensures.err c.negotiate.ensures.unwritten
 
 pub returns-in_err-stranger-clause-err : goal.returns-in_err-stranger-clause-err
 returns-in_err-stranger-clause-err g c = on_err _ (looking (header_of c.in-Ok.header) (rw c.deref.ensures at c.in-Ok.ensures.header) (rw c.deref-2.ensures at c.in_default.ensures) (rw c.len.ensures.value at c.in_err-stranger.ensures.err) c.requires)

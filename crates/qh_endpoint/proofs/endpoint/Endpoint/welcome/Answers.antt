@@ -1,6 +1,7 @@
-use Rattle.qh_endpoint.proofs.Accepts.{accepted_of, failed_of, unbegun_of}
+use Rattle.qh_endpoint.proofs.Accepts.{accepted_of, failed_of}
 use Rattle.qh_endpoint.proofs.Connects.{source_through}
 use Rattle.qh_endpoint.proofs.Kept.{if_err, if_ok_both}
+use Rattle.qh_endpoint.specs.Accepting.{unbegun}
 use Rattle.qh_endpoint.proofs.endpoint.Endpoint.welcome.Goals as goal
 
 pub returns-in-Ok-clause-accepted : goal.returns-in-Ok-clause-accepted
@@ -14,4 +15,4 @@ returns-in-Ok-clause-source g c = source_through g.K.G.ConnectionIdGenerator.cid
     c.in_ok-session.ensures.source c.in-Ok.ensures.ids c.greet.ensures.source
 
 pub returns-in-Err-clause-lost : goal.returns-in-Err-clause-lost
-returns-in-Err-clause-lost g c = rw c.silent.ensures (unbegun_of g.K.G.ConnectionIdGenerator.cid_len g.K.G.ConnectionIdGenerator.validates _ _ _ _ _ c.args.self.now c.admit.new.self c.begin_server.new.self c.in_ok-session.local_id c.admit.new.buf.items c.in_ok-session.ensures.admitted c.in-Err.ensures.kept c.in-Err.ensures.rest c.in_ok-session.ensures.unwritten)
+returns-in-Err-clause-lost g c = rw c.silent.ensures (unbegun c.in_ok-session.local_id c.admit.new.self c.in_ok-session.ensures.admitted c.in-Err.ensures.kept c.in-Err.ensures.ids c.in-Err.ensures.rest c.in_ok-session.ensures.unwritten)
