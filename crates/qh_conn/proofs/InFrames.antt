@@ -1,10 +1,14 @@
 -- The frames of a packet that was accepted, as they are read again for what is the connection's own.
-use Rattle.std.proofs.Common.{◌≡◌, ℕ, suc, zero, true, false, List, [], ◌∷◌, length, is_some, Option, None, Some, sym, ap, subst, ◌∙◌, ◌<◌, arith}
+use Rattle.std.proofs.Common.{◌≡◌, ℕ, suc, zero, Bool, true, false, if◌then◌else◌, List, [], ◌∷◌, length, is_some, Option, None, Some, sym, ap, subst, ◌∙◌, ◌<◌, arith}
 use Rattle.qh_base.specs.declared.connection_error.ConnectionError.{ConnectionError}
 use Rattle.qh_base.specs.declared.time.Moment.{Moment}
 use Rattle.qh_base.specs.declared.transport_error.TransportError.{TransportError}
 use Rattle.qh_conn.proofs.InSound.{sound_core}
+use Rattle.qh_conn.proofs.Noted.{taken_state}
+use Rattle.qh_conn.specs.Greeting.{connected}
+use Rattle.qh_conn.specs.Items.{noted}
 use Rattle.qh_conn.specs.Incoming.{AreControlsTaken, AreFramesDone, AreFramesHandled, BeginsWithFrames, IsRestTaken, connected_if}
+use Rattle.qh_conn.specs.Unread.{IsRestUnread}
 use Rattle.qh_conn.specs.Whole.{IsSound, Stands}
 use Rattle.qh_conn.specs.declared.connection.Connection.{Connection}
 use Rattle.qh_control.specs.Control.{IsControlTaken, control_refusal, keeps}
@@ -150,6 +154,20 @@ module _ {S : Type 0} where
   open_handled now read be tf fi q (AreFramesDone.cut took down same) rest up follows lost =
       let z : true ≡ false = sym up ∙ (ap (λ (z : Inner S). is_open z.state) same ∙ down) in cc
 
+  -- of an end that is open then each was taken
+  all_taken : (now : Moment) (read : List Frame) (be tf : Connection S) → AreFramesDone now read be tf → is_open tf.core.state ≡ true → AreControlsTaken now read be.control tf.control None
+  all_taken now read be tf (AreFramesDone.done took same) up = took
+  all_taken now read be tf (AreFramesDone.refused e took f) up = let z : true ≡ false = sym up ∙ ap (λ (z : Inner S). is_open z.state) f.closed.rest_is in cc
+  all_taken now read be tf (AreFramesDone.cut took down same) up = let z : true ≡ false = sym up ∙ (ap (λ (z : Inner S). is_open z.state) same ∙ down) in cc
+
+  -- an end that is connected now is as open as before
+  if_open : (now : Moment) (c : Connection S) (b : Bool) → is_open (if b then noted [] c else connected now c).core.state ≡ is_open c.core.state
+  if_open now c true = ap is_open (taken_state c.control.log c.core)
+  if_open now c false = ap is_open (taken_state c.control.log c.core)
+
+  open_as : (now : Moment) (core : Inner S) (old be : Connection S) → be ≡ connected_if now (record old { core = core }) → is_open be.core.state ≡ is_open core.state
+  open_as now core old be is = ap (λ (z : Connection S). is_open z.core.state) is ∙ if_open now (record old { core = core }) old.is_connected
+
   pub rest_closed : (accepts : AcceptsTag) (now : Moment) (d rest frames : List ℕ) (old be tf : Connection S) (core : Inner S) (count : ℕ) → is_some old.handshake.peer ≡ true
       → (b : BringsPacket accepts now rest frames (counted_in (length rest) old.core) core) × (count ≡ length b.taken.taken) → be ≡ connected_if now (record old { core = core })
       → tf ≡ record be { core = tf.core; control = tf.control } → ((taken : List Frame) → BeginsWithFrames frames taken → count ≡ length taken → AreDone now frames (length taken) be tf)
@@ -167,3 +185,30 @@ module _ {S : Type 0} where
       let r = done b.0.taken.taken (of_taken now.0 frames _ _ _ _ b.0.taken.are_taken) b.1 in
       IsRestTaken.accepted core frames r.0 greeted b.0 r.1 r.2
       (subst (λ (z : Connection S). AreFramesHandled now r.0 z (record fi { control = record fi.control { queue = q } })) connects (open_handled now r.0 be tf fi q r.3 only up follows lost))
+
+  -- ---- want of memory for one of them, or behind them
+
+  pub rest_cut : (accepts : AcceptsTag) (now : Moment) (rest frames : List ℕ) (old be tf : Connection S) (core : Inner S) (count : ℕ)
+      → (b : BringsPacket accepts now rest frames (counted_in (length rest) old.core) core) × (count ≡ length b.taken.taken) → be ≡ connected_if now (record old { core = core })
+      → tf ≡ record be { core = tf.core; control = tf.control } → (is_open tf.core.state ≡ true → tf.core ≡ be.core) → is_open tf.core.state ≡ true
+      → ((taken : List Frame) → BeginsWithFrames frames taken → count ≡ length taken → IsRead now frames (length taken) be.control tf.control (Some Wanting)) → IsRestUnread accepts now rest old tf
+  rest_cut accepts now rest frames old be tf core count b connects only same up cut =
+      let r = cut b.0.taken.taken (of_taken now.0 frames _ _ _ _ b.0.taken.are_taken) b.1 in
+      IsRestUnread.frame core frames r.0 b.0 r.1 r.2 (sym (open_as now core old be connects) ∙ (sym (ap (λ (z : Inner S). is_open z.state) (same up)) ∙ up))
+      (subst (λ (z : Connection S). AreControlsTaken now r.0 z.control tf.control (Some Wanting)) connects r.3)
+      (only ∙ (ap (λ (z : Inner S). record be { core = z; control = tf.control }) (same up) ∙ ap (λ (z : Connection S). record z { control = tf.control }) connects))
+
+  pub rest_lost : (accepts : AcceptsTag) (now : Moment) (rest frames : List ℕ) (old be tf fi : Connection S) (q : PlainQueue) (core : Inner S) (count : ℕ)
+      → (b : BringsPacket accepts now rest frames (counted_in (length rest) old.core) core) × (count ≡ length b.taken.taken) → be ≡ connected_if now (record old { core = core })
+      → tf ≡ record be { core = tf.core; control = tf.control } → (is_open tf.core.state ≡ true → tf.core ≡ be.core) → is_open tf.core.state ≡ true
+      → ((taken : List Frame) → BeginsWithFrames frames taken → count ≡ length taken → AreDone now frames (length taken) be tf)
+      → fi ≡ record tf { core = record tf.core { remote_id = tf.control.ids.active.id } } → q ≡ fi.control.queue → IsRestUnread accepts now rest old (record fi { control = record fi.control { queue = q } })
+  rest_lost accepts now rest frames old be tf fi q core count b connects only same up done follows still =
+      let r = done b.0.taken.taken (of_taken now.0 frames _ _ _ _ b.0.taken.are_taken) b.1 in
+      let is = ap (λ (z : PlainQueue). record fi { control = record fi.control { queue = z } }) still ∙ follows in
+      subst (λ (z : Connection S). IsRestUnread accepts now rest old z) (sym is)
+      (IsRestUnread.lost core frames r.0 b.0 r.1 r.2 (sym (open_as now core old be connects) ∙ (sym (ap (λ (z : Inner S). is_open z.state) (same up)) ∙ up))
+      (subst (λ (z : Connection S). AreControlsTaken now r.0 z.control tf.control None) connects (all_taken now r.0 be tf r.3 up))
+      (ap (λ (z : Connection S). record z { core = record z.core { remote_id = z.control.ids.active.id } }) only
+      ∙ (ap (λ (z : Inner S). record be { core = record z { remote_id = tf.control.ids.active.id }; control = tf.control }) (same up)
+      ∙ ap (λ (z : Connection S). record z { core = record z.core { remote_id = tf.control.ids.active.id }; control = tf.control }) connects)))

@@ -1,8 +1,10 @@
 -- A datagram carries on how a connection stands to all that was done with it.
-use Rattle.std.proofs.Common.{◌≡◌, ℕ, ◌+◌, ◌-◌, ◌^◌, min, Bool, true, false, List, [], ◌∷◌, ◌++◌, length, get_or, is_some, Result, Ok, Err, refl, sym, ap, subst, ◌∙◌, arith}
+use Rattle.std.proofs.Common.{◌≡◌, ℕ, ◌+◌, ◌-◌, ◌^◌, min, Bool, true, false, List, [], ◌∷◌, ◌++◌, length, get_or, Option, None, Some, is_some, Result, Ok, Err, refl, sym, ap, subst, ◌∙◌, arith}
 use Rattle.std.proofs.Math.Nat.{min_comm}
 use Rattle.std.proofs.lemmas.List.{append-nil}
 use Rattle.std.specs.Prelude.{OnOk, OnErr}
+use Rattle.qh_base.specs.declared.connection_error.ConnectionError.{ConnectionError}
+use Rattle.qh_base.specs.declared.connection_error.ConnectionError.TheVariants.{TransportError as Fault}
 use Rattle.qh_base.specs.declared.memory.Memory.{Memory as OutOfMemory}
 use Rattle.qh_base.specs.declared.time.Moment.{Moment}
 use Rattle.qh_conn.specs.Hearing.{FailsTo, HearsStill, StandsOrFails}
@@ -19,8 +21,8 @@ use Rattle.qh_core.specs.Inner.{IsFailedBy, IsSameEnd, is_open}
 use Rattle.qh_core.specs.Made.{AcceptsTags, IsMade, IsMadeLocally, IsMadeOnStreams, MakesTagsOf}
 use Rattle.qh_core.specs.Made.IsLocalCall.{on_streams}
 use Rattle.qh_core.specs.Made.IsStreamCall.{unchanged}
-use Rattle.qh_core.specs.Receiving.{BringsPacket, IsDatagramTaken, IsDatagramUnread, counted_in}
-use Rattle.qh_core.specs.Timers.{IsUndisturbed}
+use Rattle.qh_core.specs.Receiving.{BringsPacket, GoesOnWith, IsDatagramTaken, IsDatagramUnread, counted_in}
+use Rattle.qh_core.specs.Timers.{IsUndisturbed, restarted}
 use Rattle.qh_core.specs.declared.event.ConnectionEvent.TheVariants.{Datagram}
 use Rattle.qh_core.specs.declared.inner.Inner.{Inner}
 use Rattle.qh_core.specs.declared.state.Close.{Close}
@@ -153,6 +155,15 @@ module _ {S : Type 0} where
       subst (λ (z : List ℕ). HasPacketOf (length z) u (other side) Data) (sym same.local_id)
       (subst (λ (z : Side). HasPacketOf (length old.local_id) u (other z) Data) side_is
       (opened_came accepts (length old.local_id) (other old.side) b.is.expected tail d b.number frames b.taken.is_eliciting t named b.is.is b.taken.surveyed ends))
+
+  -- the end that took it isn't drained
+  goes_lives : (now : Moment) (end : Option ConnectionError) (old new : Inner S) → is_open old.state ≡ true → GoesOnWith now end old new → is_drained new.state ≡ false
+  goes_lives now None old new up is = ap (λ (z : Inner S). is_drained z.state) is ∙ open_lives old.state up
+  goes_lives now (Some (Fault e)) old new up f = ap (λ (z : Inner S). is_drained z.state) f.closed.rest_is
+  goes_lives now (Some e) old new up d = ap (λ (z : Inner S). is_drained z.state) d.rest_is
+
+  pub brought_lives : (accepts : AcceptsTag) (now : Moment) (tail frames : List ℕ) (old new : Inner S) → BringsPacket accepts now tail frames old new → is_drained new.state ≡ false
+  brought_lives accepts now tail frames old new b = goes_lives now b.taken.end (record old { space = b.taken.space; idle = restarted now old.idle }) new b.opened b.taken.goes_on
 
   pub either_way : (accepts : AcceptsTags S) (sealed : MakesTagsOf S) (result : Result Unit OutOfMemory) (hello : List ℕ) (c : Connection S) (t : List Act) → Stands accepts sealed hello c t
       → StandsOrFails accepts sealed result hello c t

@@ -18,5 +18,6 @@ pub mod OutKeys
 pub mod OutSent
 pub mod OutStill
 pub mod OutWhole
+pub mod Over
 pub mod Same
 pub mod SameParts

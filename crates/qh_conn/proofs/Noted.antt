@@ -11,7 +11,8 @@ use Rattle.qh_conn.proofs.InSound.{sound_control, sound_core}
 use Rattle.qh_conn.proofs.LogKept.{GoesOn, current_by, none_left, noted_current, quiet_goes, same_goes, self_flags, streamed_own, told_of, own_both, flags_by}
 use Rattle.qh_base.specs.declared.time.Moment.{Moment}
 use Rattle.qh_conn.specs.Greeting.{connected, ids_asked}
-use Rattle.qh_conn.specs.Items.{IsLogCurrent, is_connected_since, is_loss_logged, items_taken as all_taken, own_items, loss, loss_noted, noted, noted_in, streams_taken, untaken}
+use Rattle.qh_conn.specs.Incoming.{connected_if}
+use Rattle.qh_conn.specs.Items.{IsLogCurrent, given_back, is_connected_since, is_loss_logged, items_taken as all_taken, own_items, loss, loss_noted, noted, noted_in, streams_taken, untaken}
 use Rattle.qh_conn.specs.Whole.{IsSound, IsWhole, Stands}
 use Rattle.qh_conn.specs.declared.connection.Connection.{Connection}
 use Rattle.qh_control.specs.Control.{IsSendable}
@@ -74,9 +75,9 @@ asked_as : (now : Moment) (b : Bool) (s : ControlState) → (if b then ids_asked
 asked_as now true s = refl
 asked_as now false s = refl
 
-asked_log : (now : Moment) (b : Bool) (s : ControlState) → (if b then ids_asked now s else s).log ≡ s.log
-asked_log now true s = refl
-asked_log now false s = refl
+asked_back : (now : Moment) (b : Bool) (s : ControlState) (log more : Option (List ConnectionItem)) → record (if b then ids_asked now s else s) { log = more } ≡ record (if b then ids_asked now (record s { log = log }) else record s { log = log }) { log = more }
+asked_back now true s log more = refl
+asked_back now false s log more = refl
 
 module _ {S : Type 0} where
   pub taken_session : (log : Option (List ConnectionItem)) (core : Inner S) → (streams_taken log core).session ≡ core.session
@@ -249,25 +250,28 @@ module _ {S : Type 0} where
       is ∙ ap (λ (z : ControlState). record old { control = z }) (asked_as now (is_open old.core.state) old.control)
       ∙ ap (λ (z : Connection S). record old { control = record old.control { endpoint_events = z.control.endpoint_events } }) (sym is)
 
-  pub same_events : (old new : Connection S) → new ≡ old → new ≡ record old { control = record old.control { endpoint_events = new.control.endpoint_events } }
-  same_events old new is = is ∙ ap (λ (z : Connection S). record old { control = record old.control { endpoint_events = z.control.endpoint_events } }) (sym is)
-
   pub events_sound : (old new : Connection S) → new ≡ record old { control = record old.control { endpoint_events = new.control.endpoint_events } } → IsSound old → IsSound new
   events_sound old new is s =
       subst (λ (z : Connection S). IsSound z) (sym is)
       (sound_control old (record old.control { endpoint_events = new.control.endpoint_events }) s (λ peer is. record { frames = is.frames; peer = is.peer; bounded = is.bounded; payloads = is.payloads }) refl)
 
-  -- the ids are asked for, then it is noted, and then the handshake is complete
-  pub connected_by : (now : Moment) (old mid : Connection S) (h : Handshake) → mid ≡ noted (item.Connected ∷ []) (asked now old) → IsCompleted mid.handshake h → completed mid h ≡ connected now old
-  connected_by now old mid h is h_is =
+  -- the same, of a log that was lent out
+  pub connected_in : (log : Option (List ConnectionItem)) (now : Moment) (old mid : Connection S) (h : Handshake) → mid ≡ noted_in log (item.Connected ∷ []) (asked now old) → IsCompleted mid.handshake h
+      → completed mid h ≡ connected now (given_back log old)
+  connected_in log now old mid h is h_is =
       let hand = h_is ∙ ap (λ (z : Connection S). record (dropping z.handshake) { is_validated = true }) is in
-      let s = if is_open old.core.state then ids_asked now old.control else old.control in
       ap (λ (z : Handshake). completed mid z) hand
       ∙ ap (λ (z : Connection S). completed z (record (dropping old.handshake) { is_validated = true })) is
-      ∙ ap (λ (z : Option (List ConnectionItem)). completed (record old {
-        core = streams_taken z old.core;
-        control = record s { log = logged z (streamed old.core.space.log ++ item.Connected ∷ []) };
-      }) (record (dropping old.handshake) { is_validated = true })) (asked_log now (is_open old.core.state) old.control)
+      ∙ ap (λ (z : ControlState). completed (record old { core = streams_taken log old.core; control = z }) (record (dropping old.handshake) { is_validated = true }))
+      (asked_back now (is_open old.core.state) old.control log (logged log (streamed old.core.space.log ++ item.Connected ∷ [])))
+
+  pub noted_if : (now : Moment) (c new : Connection S) (b : Bool) → b ≡ true → new ≡ noted [] c → new ≡ (if b then noted [] c else connected now c)
+  noted_if now c new true e is = is
+  noted_if now c new false e is = let z : false ≡ true = e in cc
+
+  pub connected_else : (now : Moment) (c new : Connection S) (b : Bool) → b ≡ false → new ≡ connected now c → new ≡ (if b then noted [] c else connected now c)
+  connected_else now c new false e is = is
+  connected_else now c new true e is = let z : true ≡ false = e in cc
 
   -- that is logged, and to be told
   pub connect_goes : (now : Moment) (old new : Connection S) → old.is_connected ≡ false → new ≡ connected now old → GoesOn old new
@@ -288,18 +292,47 @@ module _ {S : Type 0} where
         },
       )
 
-  -- memory is wanting: nothing of it changed but that the ids may have been asked for
-  pub unconnected : (old new : Connection S) → new ≡ record old { control = record old.control { endpoint_events = new.control.endpoint_events } } → GoesOn old new
-  unconnected old new is = ([], same_goes old new (flags_by old new _ is (record { connected = refl; due = refl; data_due = λ due. due; lost_logged = refl; told = record { lost = refl; drained = refl } })) (ap (λ (z : Connection S). z.control.log) is))
-
   -- what came to the streams is in the log of an end that is connected now
   pub connected_current : (now : Moment) (c : Connection S) → (c.handshake.peer ≡ None → streamed c.core.space.log ≡ []) → IsLogCurrent (connected now c)
   connected_current now c ungreeted = current_by (noted (item.Connected ∷ []) c) (connected now c) (λ on. on) refl refl (noted_current c.control.log (item.Connected ∷ []) c ungreeted)
 
-  -- how an end stands that is connected now, or for which memory was wanting
-  pub connect_stands : {X E : Type 0} (r : Result X E) (accepts : AcceptsTags S) (sealed : MakesTagsOf S) (hello : List ℕ) (now : Moment) (old new : Connection S) (t : List Act) → OnOk r (new ≡ connected now old)
-      → OnErr r (new ≡ record old { control = record old.control { endpoint_events = new.control.endpoint_events } }) → IsMadeLocally old.core new.core []
-      → HasPacketOf (length old.core.local_id) (handed_in t) (other old.handshake.side) Data → Stands accepts sealed hello old t → Stands accepts sealed hello new t
-  connect_stands (Ok x) accepts sealed hello now old new t ok err made has p =
-      connected_stands accepts sealed hello old new t (ap (λ (z : Connection S). z.handshake) ok) (ap (λ (z : Connection S). z.is_connected) ok) made has p
-  connect_stands (Err e) accepts sealed hello now old new t ok err made has p = subst (λ (z : Connection S). Stands accepts sealed hello z t) (sym err) p
+  -- its log goes on, or memory was wanting and nothing changed
+  pub connect_logs : {X E : Type 0} (r : Result X E) (now : Moment) (old new : Connection S) → old.is_connected ≡ false → OnOk r (new ≡ connected now old) → OnErr r (new ≡ old) → GoesOn old new
+  connect_logs (Ok x) now old new early ok err = connect_goes now old new early ok
+  connect_logs (Err e) now old new early ok err = ([], same_goes old new (flags_by old new old err (self_flags old)) (ap (λ (z : Connection S). z.control.log) err))
+
+  if_goes : (now : Moment) (c : Connection S) (b : Bool) → c.is_connected ≡ b → GoesOn c (if b then noted [] c else connected now c)
+  if_goes now c true e = note_goes {X = Unit} {E = OutOfMemory} (Ok tt) [] c (noted [] c) refl refl tt
+  if_goes now c false e = connect_goes now c (connected now c) e refl
+
+  pub accepted_goes : (now : Moment) (c new : Connection S) → new ≡ connected_if now c → GoesOn c new
+  accepted_goes now c new is = subst (λ (z : Connection S). GoesOn c z) (sym is) (if_goes now c c.is_connected refl)
+
+  if_current : (now : Moment) (c : Connection S) (b : Bool) → (c.handshake.peer ≡ None → streamed c.core.space.log ≡ []) → IsLogCurrent (if b then noted [] c else connected now c)
+  if_current now c true ungreeted = noted_current c.control.log [] c ungreeted
+  if_current now c false ungreeted = connected_current now c ungreeted
+
+  pub accepted_current : (now : Moment) (c new : Connection S) → new ≡ connected_if now c → (c.handshake.peer ≡ None → streamed c.core.space.log ≡ []) → IsLogCurrent new
+  accepted_current now c new is ungreeted = subst (λ (z : Connection S). IsLogCurrent z) (sym is) (if_current now c c.is_connected ungreeted)
+
+  if_complete : (now : Moment) (c : Connection S) (b : Bool) → c.is_connected ≡ b → (if b then noted [] c else connected now c).is_connected ≡ true
+  if_complete now c true e = e
+  if_complete now c false e = refl
+
+  pub accepted_complete : (now : Moment) (c new : Connection S) → new ≡ connected_if now c → new.is_connected ≡ true
+  accepted_complete now c new is = ap (λ (z : Connection S). z.is_connected) is ∙ if_complete now c c.is_connected refl
+
+  if_stands : (accepts : AcceptsTags S) (sealed : MakesTagsOf S) (hello : List ℕ) (now : Moment) (c new : Connection S) (t : List Act) (b : Bool) → new ≡ (if b then noted [] c else connected now c) → c.is_connected ≡ b
+      → IsMadeLocally c.core new.core [] → HasPacketOf (length c.core.local_id) (handed_in t) (other c.handshake.side) Data → Stands accepts sealed hello c t → Stands accepts sealed hello new t
+  if_stands accepts sealed hello now c new t true is e made has p =
+      subst (λ (z : Handshake). Converses accepts sealed hello z new.core new.is_connected t) (sym (ap (λ (z : Connection S). z.handshake) is))
+      (subst (λ (z : Bool). Converses accepts sealed hello c.handshake new.core z t) (sym (ap (λ (z : Connection S). z.is_connected) is)) (stays accepts sealed hello c.handshake c.core new.core c.is_connected t made p))
+  if_stands accepts sealed hello now c new t false is e made has p =
+      connected_stands accepts sealed hello c new t (ap (λ (z : Connection S). z.handshake) is) (ap (λ (z : Connection S). z.is_connected) is) made has p
+
+  pub accepted_stands : (accepts : AcceptsTags S) (sealed : MakesTagsOf S) (hello : List ℕ) (now : Moment) (c new : Connection S) (t : List Act) → new ≡ connected_if now c → IsMadeLocally c.core new.core []
+      → HasPacketOf (length c.core.local_id) (handed_in t) (other c.handshake.side) Data → Stands accepts sealed hello c t → Stands accepts sealed hello new t
+  accepted_stands accepts sealed hello now c new t is made has p = if_stands accepts sealed hello now c new t c.is_connected is refl made has p
+
+  pub unmoved_goes : (old new : Connection S) → new ≡ old → GoesOn old new
+  unmoved_goes old new is = ([], same_goes old new (flags_by old new old is (self_flags old)) (ap (λ (z : Connection S). z.control.log) is))

@@ -389,7 +389,7 @@ module _ {S : Type 0} where
 
   -- ---- the log
 
-  log_stays : (log : Option (List ConnectionItem)) (core : Inner S) → Stays core (streams_taken log core)
+  pub log_stays : (log : Option (List ConnectionItem)) (core : Inner S) → Stays core (streams_taken log core)
   log_stays None core = unchanged core
   log_stays (Some items) core = kept core (λ down. down)
 

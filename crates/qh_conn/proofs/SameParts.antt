@@ -6,9 +6,9 @@ use Rattle.qh_base.specs.declared.connection_error.ConnectionError.{ConnectionEr
 use Rattle.qh_base.specs.declared.memory.Memory.{Memory as OutOfMemory}
 use Rattle.qh_base.specs.declared.path.Transmit.{Transmit}
 use Rattle.qh_base.specs.declared.time.Moment.{Moment}
-use Rattle.qh_conn.proofs.Noted.{IsCompleted, completed}
-use Rattle.qh_conn.proofs.Same.{ControlStays, KeepsOwn, Stays, both_same, both_stay, control_by, control_kept, control_same, counted_stays, drains_stays, endpoint_stays, failed_stays, faulted_stays, frames_stay, heard_stays, moment_stays, noted_same, polled_stays, same_as, same_by, same_control, same_core, same_dropped, same_flags, same_of_control, same_rest, same_then, silent_stays, taken_stays, timed_stays, unchanged}
-use Rattle.qh_conn.specs.Incoming.{IsClosingHeard, IsFed, IsShutConnected, heard_at}
+use Rattle.qh_conn.proofs.Same.{ControlStays, KeepsOwn, Stays, both_same, both_stay, control_by, control_kept, control_rest, control_same, counted_stays, drains_stays, endpoint_stays, failed_stays, faulted_stays, frames_stay, heard_stays, log_stays, moment_stays, noted_same, polled_stays, same_as, same_by, same_control, same_core, same_dropped, same_flags, same_of_control, same_rest, same_then, silent_stays, taken_stays, timed_stays, unchanged}
+use Rattle.qh_conn.specs.Greeting.{connected, ids_asked}
+use Rattle.qh_conn.specs.Incoming.{IsClosingHeard, IsFed, IsShutConnected, connected_if, heard_at}
 use Rattle.qh_conn.specs.Items.{noted, streams_logged, streams_started}
 use Rattle.qh_conn.specs.Same.{IsSameConnection, IsSameControl, dropped}
 use Rattle.qh_conn.specs.Telling.{IsEndpointTold, IsHandshakeTimed, IsTold}
@@ -124,6 +124,11 @@ begun_control b before old new none p own = record {
   settled = λ greeted. absurd (both_ways false refl (sym none ∙ greeted));
 }
 
+-- further ids are asked for, or aren't
+asked_stays : (now : Moment) (b : Bool) (s : ControlState) {log : Option (List ConnectionItem)} → ControlStays s (record (if b then ids_asked now s else s) { log = log })
+asked_stays now true s = control_rest s
+asked_stays now false s = control_rest s
+
 module _ {S : Type 0} where
   -- ---- what the end of the 1-RTT packets answers
 
@@ -186,9 +191,20 @@ module _ {S : Type 0} where
     came_same : (c : Connection S) (n : ℕ) (core : Inner S) → Stays c.core core → IsSameConnection key c (record c { handshake = record c.handshake { bytes_received = n }; core = core })
     came_same c n core stays = same_by key c (record c { handshake = record c.handshake { bytes_received = n }; core = core }) refl (came_goes c.handshake n) stays (control_kept c.control refl) (λ is. is)
 
-    pub completed_same : (c : Connection S) (h : Handshake) → IsCompleted c.handshake h → IsSameConnection key c (completed c h)
-    completed_same c h is =
-        same_by key c (completed c h) refl (subst (λ (z : Handshake). GoesOn c.handshake z) (sym is) (discarded_goes c.handshake)) (unchanged c.core) (control_kept c.control refl) (λ _. refl)
+    pub connected_same : (now : Moment) (c : Connection S) → IsSameConnection key c (connected now c)
+    connected_same now c =
+        same_by key c (connected now c) refl (discarded_goes c.handshake) (log_stays c.control.log c.core) (asked_stays now (is_open c.core.state) c.control) (λ _. refl)
+
+    pub connect_same : {X E : Type 0} (r : Result X E) (now : Moment) (old new : Connection S) → OnOk r (new ≡ connected now old) → OnErr r (new ≡ old) → IsSameConnection key old new
+    connect_same (Ok x) now old new ok err = same_then key old (connected now old) new ok (connected_same now old)
+    connect_same (Err e) now old new ok err = same_as key old new err
+
+    accepted_if : (now : Moment) (c : Connection S) (b : Bool) → IsSameConnection key c (if b then noted [] c else connected now c)
+    accepted_if now c true = noted_same key c.control.log [] c
+    accepted_if now c false = connected_same now c
+
+    pub accepted_same : (now : Moment) (c new : Connection S) → new ≡ connected_if now c → IsSameConnection key c new
+    accepted_same now c new is = same_then key c (connected_if now c) new is (accepted_if now c c.is_connected)
 
     shut_same : (accepts : AcceptsTag) (rest : List ℕ) (old new : Connection S) → IsShutConnected accepts rest old new → IsSameConnection key old new
     shut_same accepts rest old new (IsShutConnected.brought _ is) =
@@ -242,10 +258,6 @@ module _ {S : Type 0} where
         let core = with_space c.core (streams_logged c.control.log c.core.space) in
         let mid : Connection S = record c { core = core } in
         both_same key c mid new (space_same c mid _ refl) (same_then key mid (streams_started c) new is (same_control key mid (streams_started c).control (control_kept c.control refl)))
-
-    pub note_same : {E : Type 0} (r : Result Unit E) (more : List ConnectionItem) (old new : Connection S) → OnOk r (new ≡ noted more old) → OnErr r (new ≡ old) → IsSameConnection key old new
-    note_same (Ok x) more old new ok err = same_then key old (noted more old) new ok (noted_same key old.control.log more old)
-    note_same (Err e) more old new ok err = same_as key old new err
 
     -- ---- frames of its own come
 

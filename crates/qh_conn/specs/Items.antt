@@ -52,6 +52,10 @@ module _ {S : Type 0} where
   abbrev pub noted : List ConnectionItem → Connection S → Connection S
   noted more c = noted_in c.control.log more c
 
+  -- a log that was lent out is given back
+  abbrev pub given_back : Option (List ConnectionItem) → Connection S → Connection S
+  given_back log c = record c { control = record c.control { log = log } }
+
   -- All that wasn't taken yet, in the order in which it came: what is in the connection's log, what came to the streams since, and that the
   -- connection is lost. None if the log is off.
   abbrev pub untaken : Connection S → Option (List ConnectionItem)

@@ -6,4 +6,5 @@ pub mod Outgoing
 pub mod Parameters
 pub mod Same
 pub mod Telling
+pub mod Unread
 pub mod Whole

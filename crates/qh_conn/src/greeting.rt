@@ -1,16 +1,20 @@
 ghost use Rattle.std.specs.Prelude.{◌≡◌, ◌⊎◌, ◌++◌, ◌∷◌, ℕ, Bool, true, false, List, [], None, Some, is_some, OnOk, OnErr, if◌then◌else◌};
+ghost use Rattle.qh_base.specs.declared.time.Moment.{Moment as AMoment};
 ghost use Rattle.qh_conn.specs.Greeting.{IsBegunBy, IsGreetedNow, connected, ids_asked, with_core, early_concurrent, or_set, with_concurrent, with_count, with_early};
 ghost use Rattle.qh_conn.specs.Hearing.{FailsTo, HasRead, HearsIt, HearsStill};
-ghost use Rattle.qh_conn.specs.Items.{IsLogCurrent, LogGoesOn};
+ghost use Rattle.qh_conn.specs.Items.{IsLogCurrent, LogGoesOn, given_back};
 ghost use Rattle.qh_conn.specs.Same.{IsSameConnection};
+ghost use Rattle.qh_conn.specs.Unread.{IsCompletionCut, IsGreetingCut};
 ghost use Rattle.qh_conn.specs.Whole.{IsSound, IsWhole, StandsStill};
 ghost use Rattle.qh_conn.specs.declared.connection.Connection.{Connection as AConnection};
-ghost use Rattle.qh_control.specs.Control.{IsSendable};
+ghost use Rattle.qh_control.specs.Control.{IsSendable, asked_events};
+ghost use Rattle.qh_control.specs.Items.{HasRoom, kept_in};
 ghost use Rattle.qh_control.specs.declared.items.ConnectionItem.{ConnectionItem as AnItem};
 ghost use Rattle.qh_converse.specs.Converses.{Hears};
 ghost use Rattle.qh_core.specs.Inner.{is_open, with_streams};
 ghost use Rattle.qh_core.specs.Made.{AcceptsTags, IsMadeLocally, MakesTagsOf};
 ghost use Rattle.qh_handshake.specs.declared.handshake.Handshake.{Handshake as AHandshake};
+ghost use Rattle.qh_hello.specs.declared.transport_parameters.TransportParameters.{TransportParameters as TheParameters};
 ghost use Rattle.qh_spec.specs.Transcript.{Act, HandedIn};
 ghost use Rattle.qh_spec.specs.declared.sides.Side.TheVariants.{Client};
 
@@ -19,6 +23,7 @@ use crate::connection::EarlyLimits;
 use crate::laws::still;
 use crate::{Connection, ConnectionItem};
 use qh_base::{Dir, Memory, Moment, Side, VarInt};
+use qh_control::LogEntry;
 use qh_core::made;
 use qh_hello::TransportParameters;
 use qh_packet::Session;
@@ -37,6 +42,7 @@ impl<S: Session> Connection<S> {
         ensures hears { (accepts : AcceptsTags S) (sealed : MakesTagsOf S) (hello d : List ℕ) (before : AHandshake) (t : List Act) → HasRead accepts sealed hello before self.old t d → before.peer ≡ None
             → OnOk result (HearsIt accepts sealed hello self.new t d) × OnErr result (FailsTo accepts sealed hello self.new (t ++ HandedIn d ∷ [])) }
         ensures err { OnErr result (self.new ≡ record self.old { core = self.new.core; control = self.new.control; is_data_due = self.new.is_data_due }) }
+        ensures cut { OnErr result ((peer : TheParameters) × (self.old.handshake.peer ≡ Some peer) × IsGreetingCut now peer self.old self.new) }
         ensures current { OnOk result (IsLogCurrent self.new) }
         ensures log { (more : List AnItem) × LogGoesOn more self.old self.new }
         ensures same { (before : AConnection S) → before.handshake.peer ≡ None → IsSameConnection S.key before self.old → IsSameConnection S.key before self.new }
@@ -67,6 +73,7 @@ impl<S: Session> Connection<S> {
             → FailsTo accepts sealed hello self.new (t ++ HandedIn d ∷ [])) }
         ensures sound { IsSound self.new }
         ensures err { OnErr result (self.new ≡ record self.old { core = self.new.core; control = self.new.control }) }
+        ensures cut { OnErr result ((now : AMoment) → IsGreetingCut now peer self.old self.new) }
         ensures current { OnOk result (IsLogCurrent self.new) }
         ensures log { (more : List AnItem) × LogGoesOn more self.old self.new }
         ensures same { (before : AConnection S) → before.handshake.peer ≡ None → IsSameConnection S.key before self.old → IsSameConnection S.key before self.new }
@@ -87,22 +94,47 @@ impl<S: Session> Connection<S> {
     }
 
     /// The handshake is complete, which is logged: further ids are asked for, if the connection isn't over already. For want of memory nothing
-    /// changes but that the ids may have been asked for: it isn't complete then, nor told so, by the log or by an event.
+    /// changes: it isn't complete then, nor told so, by the log or by an event.
     pub(crate) fn connect(&mut self, now: Moment) -> Result<(), Memory>
         requires sound { IsSound self.old }
         requires greeted { is_some self.old.handshake.peer ≡ true }
         requires first { self.old.is_connected ≡ false }
         ensures ok { OnOk result (self.new ≡ connected now self.old) }
-        ensures err { OnErr result (self.new ≡ record self.old { control = record self.old.control { endpoint_events = self.new.control.endpoint_events } }) }
+        ensures err { OnErr result (self.new ≡ self.old) }
         ensures wanting { OnErr result ((is_open self.old.core.state ≡ true) ⊎ (is_some self.old.control.log ≡ true)) }
+        ensures cut { OnErr result (IsCompletionCut now self.old self.new) }
         ensures state { self.new.core.state ≡ self.old.core.state }
         ensures made { IsMadeLocally self.old.core self.new.core [] }
         ensures sound { IsSound self.new }
         ensures log { (more : List AnItem) × LogGoesOn more self.old self.new }
         ensures same { IsSameConnection S.key self.old self.new }
     {
-        self.ask_ids(now)?;
-        self.note(Some(ConnectionItem::Connected))?;
+        let entries = self.control.log.lend()?;
+        self.connect_in(now, entries)
+    }
+
+    /// The same, of a log that was lent out and is given back. Memory is wanting only to ask for ids.
+    pub(crate) fn connect_in(
+        &mut self,
+        now: Moment,
+        entries: Option<Vec<LogEntry>>,
+    ) -> Result<(), Memory>
+        requires sound { IsSound self.old }
+        requires greeted { is_some self.old.handshake.peer ≡ true }
+        requires first { self.old.is_connected ≡ false }
+        requires room { HasRoom entries 2 }
+        ensures ok { OnOk result (self.new ≡ connected now (given_back (kept_in entries) self.old)) }
+        ensures err { OnErr result (self.new ≡ given_back (kept_in entries) self.old) }
+        ensures wanting { OnErr result ((is_open self.old.core.state ≡ true) × (asked_events now self.old.control ≡ [] → ⊥)) }
+        ensures state { self.new.core.state ≡ self.old.core.state }
+        ensures made { IsMadeLocally self.old.core self.new.core [] }
+        ensures sound { IsSound self.new }
+    {
+        let Ok(()) = self.ask_ids(now) else {
+            self.control.log.give_back(entries);
+            return Err(Memory);
+        };
+        self.note_in(entries, Some(ConnectionItem::Connected));
         self.handshake.discard_space();
         self.is_connected = true;
         self.is_connected_due = true;
@@ -116,6 +148,7 @@ impl<S> Connection<S> {
         ensures ok { OnOk result (self.new ≡ record self.old { control = (if is_open self.old.core.state then ids_asked now self.old.control else self.old.control) }) }
         ensures err { OnErr result (self.new ≡ self.old) }
         ensures wanting { OnErr result (is_open self.old.core.state ≡ true) }
+        ensures wanted { OnErr result (asked_events now self.old.control ≡ [] → ⊥) }
     {
         if self.core.is_closed() {
             return Ok(());

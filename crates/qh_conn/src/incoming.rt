@@ -1,34 +1,37 @@
-ghost use Rattle.std.specs.Prelude.{◌≡◌, ◌⊎◌, ◌∷◌, ◌++◌, [], ℕ, List, Option, true, false, None, Some, is_some, length, IsOk, OnOk, OnErr, IfOk, IfErr};
+ghost use Rattle.std.specs.Prelude.{◌≡◌, ◌⊎◌, ◌∷◌, ◌++◌, [], ℕ, List, Option, true, false, None, Some, is_some, length, IsOk, OnOk, OnErr, IfOk, IfErr, IfSome};
 ghost use Rattle.qh_base.specs.declared.connection_error.ConnectionError.TheVariants.{Memory as OutOfMemory, Reset};
 ghost use Rattle.qh_conn.specs.Hearing.{FailsTo, HasRead, HearsIt, StandsOrFails};
-ghost use Rattle.qh_conn.specs.Incoming.{AreFramesDone, BeginsWithFrames, BringsData, EndsBy, HasHeard, IsClosingHeard, IsDatagramHandled, IsEventHandled, IsFed, IsKnownOf, IsMet, IsOpenHandled, IsOver, IsRestTaken, IsRestarted, IsShutConnected, acts_of, connected_if, is_reset_by, takes_memory};
-ghost use Rattle.qh_conn.specs.Items.{EndsLogBy, IsLogCurrent, IsLogEnded, LogGoesOn};
+ghost use Rattle.qh_conn.specs.Incoming.{AreControlsTaken, AreFramesDone, BeginsWithFrames, BringsData, EndsBy, HasHeard, IsClosingHeard, IsDatagramHandled, IsEventHandled, IsFed, IsKnownOf, IsMet, IsOpenHandled, IsOver, IsRestTaken, IsRestarted, IsShutConnected, acts_of, connected_if, counted_at, is_reset_by, takes_memory};
+ghost use Rattle.qh_conn.specs.Items.{EndsLogBy, IsLogCurrent, IsLogEnded, LogGoesOn, given_back};
 ghost use Rattle.qh_conn.specs.Same.{IsSameConnection, IsSameControl, dropped};
+ghost use Rattle.qh_conn.specs.Unread.{HasFailed, IsEventUnread, IsGreetingCut, IsOverBy, IsOverOf, IsRestUnread, IsUnread};
 ghost use Rattle.qh_conn.specs.Whole.{CarriesOnBy, IsSafe, IsSound, IsWhole, Stands, StandsStill};
 ghost use Rattle.qh_conn.specs.declared.connection.Connection.{Connection as AConnection};
-ghost use Rattle.qh_control.specs.Control.{IsControlTaken, IsSendable, control_refusal, keeps};
+ghost use Rattle.qh_control.specs.Control.{IsControlTaken, IsSendable, asked_events, control_refusal, keeps};
+ghost use Rattle.qh_control.specs.Items.{HasRoom, kept_in};
+ghost use Rattle.qh_control.specs.declared.event.EndpointEvent.{EndpointEvent as AnEndpointEvent};
 ghost use Rattle.qh_control.specs.declared.items.ConnectionItem.{ConnectionItem as AnItem};
 ghost use Rattle.qh_core.specs.Inner.{IsFailedBy, IsSameEnd, is_open};
 ghost use Rattle.qh_core.specs.Event.{is_drained};
 ghost use Rattle.qh_core.specs.Made.{AcceptsTags, IsMadeLocally, MakesTagsOf};
-ghost use Rattle.qh_core.specs.Receiving.{IsDrainingFrom};
+ghost use Rattle.qh_core.specs.Receiving.{BringsPacket, IsDatagramTaken as IsCoreTaken, IsDrainingFrom, counted_in};
+ghost use Rattle.qh_core.specs.declared.inner.Inner.{Inner as AnInner};
 ghost use Rattle.qh_frame.specs.declared.frame.Frame.{Frame as AFrame};
 ghost use Rattle.qh_handshake.specs.Handshake.{dropping};
 ghost use Rattle.qh_handshake.specs.Incoming.{IsBehind, Learns};
 ghost use Rattle.qh_handshake.specs.Lost.{IsLost};
 ghost use Rattle.qh_handshake.specs.declared.handshake.Handshake.{Handshake as AHandshake};
+ghost use Rattle.qh_hello.specs.declared.transport_parameters.TransportParameters.{TransportParameters as TheParameters};
 ghost use Rattle.qh_packet.specs.Session.{NamesTags};
-ghost use Rattle.qh_spec.specs.Greeted.{HasPacketOf};
-ghost use Rattle.qh_spec.specs.Link.{other};
 ghost use Rattle.qh_spec.specs.Parted.{EndsWith};
-ghost use Rattle.qh_spec.specs.Transcript.{Act, HandedIn, handed_in};
-ghost use Rattle.qh_spec.specs.declared.sides.Space.TheVariants.{Data};
+ghost use Rattle.qh_spec.specs.Transcript.{Act, HandedIn};
 ghost use Rattle.qh_streams.specs.Streams.{IsRefusedBy};
 ghost use Rattle.qh_streams.specs.declared.fault.StreamFault.TheVariants.{Memory as Wanting};
 
 use crate::connection::count;
 use crate::{Connection, ConnectionEvent};
 use qh_base::{ConnectionError, Memory, Moment};
+use qh_control::LogEntry;
 use qh_core::Accepted;
 use qh_frame::{Frame, get_frame};
 use qh_handshake::goes_on;
@@ -42,11 +45,14 @@ impl<S: Session> Connection<S> {
     /// Takes what is handed in from outside. Of a datagram the Initial packets with which it begins go to the handshake, and what is behind
     /// them, of an end that was greeted, to the end of the 1-RTT packets. Want of memory ends the connection: the error that it keeps is
     /// Memory then, and what waited to be read is dropped. The items of the log that weren't taken stay in it. What a datagram brought until then
-    /// is behind them, but for what it brought to the streams.
+    /// is behind them, but for what it brought to the streams. It is the same connection still, and what waited for the endpoint stays. Memory is
+    /// answered only for a datagram of which what was read so far has no fault, or for one of the ids that the endpoint issued.
     pub fn handle_event(&mut self, event: ConnectionEvent) -> Result<(), Memory>
         requires { IsWhole self.old }
         ensures ok { OnOk result (IsEventHandled (record { name = S.name; knows = S.knows; key = S.key; sealed = S.sealed; accepts = S.accepts }) event self.old self.new) }
         ensures err { OnErr result (IsOver self.new) }
+        ensures over { OnErr result (IsOverBy event self.old self.new) }
+        ensures unread { OnErr result ((mid : AConnection S) × IsEventUnread (record { name = S.name; knows = S.knows; key = S.key; sealed = S.sealed; accepts = S.accepts }) event self.old mid × HasFailed mid self.new) }
         ensures log { OnErr result (EndsLogBy event self.old self.new) }
         ensures wanting { OnErr result (is_open self.old.core.state ≡ true) }
         ensures calm { takes_memory event ≡ false → IsOk result }
@@ -82,6 +88,8 @@ impl<S: Session> Connection<S> {
         requires { IsWhole self.old }
         ensures ok { OnOk result (IsDatagramHandled (record { name = S.name; knows = S.knows; key = S.key; sealed = S.sealed; accepts = S.accepts }) now datagram.now self.old self.new) }
         ensures err { OnErr result (IsOver self.new) }
+        ensures over { OnErr result ((told : List AnEndpointEvent) × IsOverOf told (counted_at (length datagram.now) self.old) self.new) }
+        ensures unread { OnErr result ((mid : AConnection S) × IsUnread (record { name = S.name; knows = S.knows; key = S.key; sealed = S.sealed; accepts = S.accepts }) now datagram.now (counted_at (length datagram.now) self.old) mid × HasFailed mid self.new) }
         ensures log { OnErr result ((more : List AnItem) × IsLogEnded more self.old self.new) }
         ensures wanting { OnErr result (is_open self.old.core.state ≡ true) }
         ensures carries { NamesTags (S.accepts self.old.core.session) → CarriesOnBy S.accepts S.sealed self.old self.new (HandedIn datagram.now ∷ []) }
@@ -104,6 +112,7 @@ impl<S: Session> Connection<S> {
         ensures value { result ≡ taken }
         ensures ok { OnOk taken (self.new ≡ self.old) }
         ensures err { OnErr taken (IsOver self.new) }
+        ensures failed { OnErr taken (HasFailed self.old self.new) }
         ensures log { OnErr taken ((before : AConnection S) (more : List AnItem) → IsLogCurrent before → LogGoesOn more before self.old → IsLogEnded more before self.new) }
         ensures fails { OnErr taken ((accepts : AcceptsTags S) (sealed : MakesTagsOf S) (hello : List ℕ) (t : List Act) → FailsTo accepts sealed hello self.old t → Stands accepts sealed hello self.new t) }
         ensures stands { StandsStill self.old self.new }
@@ -126,6 +135,7 @@ impl<S: Session> Connection<S> {
         ensures whole { OnOk result (IsWhole self.new) }
         ensures same { OnOk result (IsSameConnection S.key self.old self.new) }
         ensures lost { OnErr result (IsSameConnection S.key self.old (dropped self.new)) }
+        ensures unread { OnErr result (IsUnread (record { name = S.name; knows = S.knows; key = S.key; sealed = S.sealed; accepts = S.accepts }) now datagram.now self.old self.new) }
         ensures log { OnErr result ((more : List AnItem) × LogGoesOn more self.old self.new) }
     {
         let known = self.known();
@@ -153,6 +163,7 @@ impl<S: Session> Connection<S> {
         requires current { IsLogCurrent self.old }
         requires whole { was_greeted ≡ true → IsWhole self.old }
         ensures ok { OnOk result (IsMet now was_greeted self.old self.new) }
+        ensures cut { OnErr result ((was_greeted ≡ false) × ((peer : TheParameters) × (self.old.handshake.peer ≡ Some peer) × IsGreetingCut now peer self.old self.new)) }
         ensures hears { (accepts : AcceptsTags S) (sealed : MakesTagsOf S) (hello d : List ℕ) (before : AHandshake) (t : List Act) → HasRead accepts sealed hello before self.old t d → was_greeted ≡ is_some before.peer
             → OnOk result (HearsIt accepts sealed hello self.new t d) × OnErr result (FailsTo accepts sealed hello self.new (t ++ HandedIn d ∷ [])) }
         ensures sound { IsSound self.new }
@@ -195,16 +206,16 @@ impl<S: Session> Connection<S> {
         requires ends { EndsWith rest.now datagram.now }
         ensures carries { NamesTags (S.accepts self.old.core.session) → (hello : List ℕ) (t : List Act) → HearsIt S.accepts S.sealed hello self.old t datagram.now → StandsOrFails S.accepts S.sealed result hello self.new (t ++ HandedIn datagram.now ∷ []) }
         ensures ok { OnOk result (IsRestTaken (S.accepts self.old.core.session) now datagram.now rest.now self.old self.new) }
+        ensures unread { OnErr result (IsRestUnread (S.accepts self.old.core.session) now rest.now self.old self.new) }
         ensures log { OnErr result ((more : List AnItem) × LogGoesOn more self.old self.new) }
         ensures safe { IsSafe self.new }
         ensures whole { OnOk result (IsWhole self.new) }
         ensures same { IsSameConnection S.key self.old self.new }
     {
-        let Some(accepted) = self.core.handle_datagram(now, rest)? else {
+        let Some(accepted) = self.accept_packet(now, rest)? else {
             self.hear_reset(now, datagram);
             return Ok(());
         };
-        self.be_connected(now)?;
         self.take_frames(now, &accepted)?;
         if self.core.is_closed() {
             return Ok(());
@@ -213,26 +224,57 @@ impl<S: Session> Connection<S> {
         self.control.queue.on_lost(&self.core)
     }
 
-    // A server is connected by the first 1-RTT packet that it accepts. What came to the streams is moved into the log.
-    fn be_connected(&mut self, now: Moment) -> Result<(), Memory>
-        requires sound { IsSound self.old }
+    // Takes a packet, at an end that was greeted: a server is connected by the first one that it accepts, and what came to the streams is moved into
+    // the log. Memory for the log is taken before the packet is read, so that none is wanting for it once a frame was found at fault.
+    fn accept_packet<'a>(
+        &mut self,
+        now: Moment,
+        rest: &'a [u8],
+    ) -> Result<Option<Accepted<'a>>, Memory>
+        requires whole { IsWhole self.old }
+        requires open { is_open self.old.core.state ≡ true }
         requires greeted { is_some self.old.handshake.peer ≡ true }
-        ensures ok { OnOk result (self.new ≡ connected_if now self.old) }
-        ensures connected { OnOk result (self.new.is_connected ≡ true) }
-        ensures current { OnOk result (IsLogCurrent self.new) }
+        ensures none { IfOk result (λ o. o ≡ None → IsCoreTaken (S.accepts self.old.core.session) now rest.now (counted_in (length rest.now) self.old.core) self.new.core × (self.new.core.space ≡ self.old.core.space) × (self.new ≡ record self.old { core = self.new.core }) × IsWhole self.new) }
+        ensures some { IfOk result (λ o. IfSome o (λ a. (core : AnInner S) × ((b : BringsPacket (S.accepts self.old.core.session) now rest.now a.frames.now (counted_in (length rest.now) self.old.core) core) × (a.taken ≡ length b.taken.taken)) × (self.new ≡ connected_if now (record self.old { core = core })))) }
+        ensures settled { IfOk result (λ o. IfSome o (λ a. (self.new.is_connected ≡ true) × IsLogCurrent self.new × (is_drained self.new.core.state ≡ false))) }
+        ensures unread { OnErr result (IsRestUnread (S.accepts self.old.core.session) now rest.now self.old self.new) }
+        ensures carries { NamesTags (S.accepts self.old.core.session) → (hello d : List ℕ) (t : List Act) → EndsWith rest.now d → HearsIt S.accepts S.sealed hello self.old t d → Stands S.accepts S.sealed hello self.new (t ++ HandedIn d ∷ []) }
         ensures log { (more : List AnItem) × LogGoesOn more self.old self.new }
-        ensures free { self.old.control.log ≡ None → self.old.is_connected ≡ true → IsOk result }
-        ensures made { IsMadeLocally self.old.core self.new.core [] }
-        ensures state { self.new.core.state ≡ self.old.core.state }
-        ensures carries { (accepts : AcceptsTags S) (sealed : MakesTagsOf S) (hello : List ℕ) (t : List Act) → HasPacketOf (length self.old.core.local_id) (handed_in t) (other self.old.handshake.side) Data
-            → Stands accepts sealed hello self.old t → Stands accepts sealed hello self.new t }
         ensures sound { IsSound self.new }
         ensures same { IsSameConnection S.key self.old self.new }
     {
+        let entries = self.control.log.lend()?;
+        let Ok(taken) = self.core.handle_datagram(now, rest) else {
+            self.control.log.give_back(entries);
+            return Err(Memory);
+        };
+        let Some(accepted) = taken else {
+            self.control.log.give_back(entries);
+            return Ok(None);
+        };
+        self.be_connected(now, entries)?;
+        Ok(Some(accepted))
+    }
+
+    // A server is connected by the first 1-RTT packet that it accepts. What came to the streams is moved into the log, which was lent out and is given
+    // back. Memory is wanting only to ask for ids.
+    fn be_connected(&mut self, now: Moment, entries: Option<Vec<LogEntry>>) -> Result<(), Memory>
+        requires sound { IsSound self.old }
+        requires greeted { is_some self.old.handshake.peer ≡ true }
+        requires room { HasRoom entries 2 }
+        ensures ok { OnOk result (self.new ≡ connected_if now (given_back (kept_in entries) self.old)) }
+        ensures err { OnErr result (self.new ≡ given_back (kept_in entries) self.old) }
+        ensures wanting { OnErr result ((self.old.is_connected ≡ false) × (is_open self.old.core.state ≡ true) × (asked_events now self.old.control ≡ [] → ⊥)) }
+        ensures connected { OnOk result (self.new.is_connected ≡ true) }
+        ensures state { self.new.core.state ≡ self.old.core.state }
+        ensures made { IsMadeLocally self.old.core self.new.core [] }
+        ensures sound { IsSound self.new }
+    {
         if self.is_connected {
-            return self.note(None);
+            self.note_in(entries, None);
+            return Ok(());
         }
-        self.connect(now)
+        self.connect_in(now, entries)
     }
 
     // The frames of a packet that the end of the 1-RTT packets passes over, up to one that is refused. Memory is wanting only for an end
@@ -249,6 +291,7 @@ impl<S: Session> Connection<S> {
         ensures log { (more : List AnItem) × LogGoesOn more self.old self.new }
         ensures wanting { OnErr result (is_open self.new.core.state ≡ true) }
         ensures done { OnOk result ((taken : List AFrame) → BeginsWithFrames accepted.now.frames.now taken → accepted.now.taken ≡ length taken → (read : List AFrame) × BeginsWithFrames accepted.now.frames.now read × (length read ≡ length taken) × AreFramesDone now read self.old self.new) }
+        ensures cut { OnErr result ((taken : List AFrame) → BeginsWithFrames accepted.now.frames.now taken → accepted.now.taken ≡ length taken → (read : List AFrame) × BeginsWithFrames accepted.now.frames.now read × (length read ≡ length taken) × AreControlsTaken now read self.old.control self.new.control (Some Wanting)) }
         ensures same { IsSameConnection S.key self.old self.new }
     {
         let mut rest = accepted.frames;
@@ -451,6 +494,7 @@ impl<S> Connection<S> {
         ensures over { IsOver self.new }
         ensures handshake { self.new.handshake ≡ dropping self.old.handshake }
         ensures core { IsFailedBy self.old.core self.new.core }
+        ensures failed { HasFailed self.old self.new }
         ensures log { (before : AConnection S) (more : List AnItem) → IsLogCurrent before → LogGoesOn more before self.old → IsLogEnded more before self.new }
         ensures rest { self.new ≡ record self.old { handshake = self.new.handshake; core = self.new.core; control = self.new.control } }
         ensures fails { (accepts : AcceptsTags S) (sealed : MakesTagsOf S) (hello : List ℕ) (t : List Act) → FailsTo accepts sealed hello self.old t → Stands accepts sealed hello self.new t }

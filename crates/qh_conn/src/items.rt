@@ -101,6 +101,7 @@ impl<S> Connection<S> {
         ensures ok { OnOk result (self.new ≡ noted (only item) self.old) }
         ensures err { OnErr result (self.new ≡ self.old) }
         ensures free { self.old.control.log ≡ None → IsOk result }
+        ensures wanting { OnErr result (is_some self.old.control.log ≡ true) }
         ensures state { self.new.core.state ≡ self.old.core.state }
         ensures made { IsMadeLocally self.old.core self.new.core [] }
         ensures stands { StandsStill self.old self.new }
@@ -149,6 +150,7 @@ impl<S> Connection<S> {
         ensures ok { OnOk result (self.new ≡ streams_started self.old) }
         ensures err { OnErr result (self.new ≡ self.old) }
         ensures free { self.old.control.log ≡ None → IsOk result }
+        ensures wanting { OnErr result (is_some self.old.control.log ≡ true) }
         ensures hears { HearsStill self.old.core self.new.core }
         ensures stands { StandsStill self.old self.new }
         ensures sound { IsSound self.old → IsSound self.new }

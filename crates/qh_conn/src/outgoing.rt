@@ -4,10 +4,12 @@ ghost use Rattle.qh_conn.specs.Incoming.{IsOver};
 ghost use Rattle.qh_conn.specs.Items.{IsLogEnded, LogGoesOn};
 ghost use Rattle.qh_conn.specs.Outgoing.{IsControlHeld, IsDataTransmitted, IsInitialClose, IsSilent, IsStill, IsTransmitted, TakesTurns, handed_on, made_acts};
 ghost use Rattle.qh_conn.specs.Same.{IsSameConnection};
+ghost use Rattle.qh_conn.specs.Unread.{EndsUnsent, HasFailed, IsDataUnsent, IsOverOf, IsUnsent};
 ghost use Rattle.qh_conn.specs.Whole.{CarriesOnBy, IsSafe, IsWhole};
+ghost use Rattle.qh_conn.specs.declared.connection.Connection.{Connection as AConnection};
 ghost use Rattle.qh_core.specs.Inner.{IsFailedBy, is_open};
 ghost use Rattle.qh_core.specs.Sending.{BearsNoControl, IsDatagramMade as IsCoreMade, IsSilent as IsCoreSilent, is_close_due};
-ghost use Rattle.qh_handshake.specs.Outgoing.{IsCloseKept, IsSilent as IsSilentHandshake};
+ghost use Rattle.qh_handshake.specs.Outgoing.{IsCloseKept, IsCloseUnsent, IsSilent as IsSilentHandshake, IsUnsent as IsInitialUnsent};
 ghost use Rattle.qh_packet.specs.Session.{MakesTags, NamesTags};
 
 use crate::connection::count;
@@ -21,7 +23,9 @@ use qh_packet::Session;
 impl<S: Session> Connection<S> {
     /// Appends the next datagram to the buffer, and says where it goes. None exactly if nothing is to be sent: nothing is queued, or the
     /// window, the peer's limits, the limit before the client's address is validated, or the end of the packet numbers forbids it, or the
-    /// connection was closed and has said so. Want of memory leaves the buffer as it was and ends the connection.
+    /// connection was closed and has said so. Want of memory leaves the buffer as it was and ends the connection: it is the same connection
+    /// still, and what waited for the endpoint stays. One that was over before the handshake was complete stays as it was, with its error, and
+    /// its close stays due: at most a packet number is used up.
     pub fn poll_transmit(
         &mut self,
         now: Moment,
@@ -30,13 +34,20 @@ impl<S: Session> Connection<S> {
         requires { IsWhole self.old }
         ensures some { IfOk result (λ o. IfSome o (λ t. IsTransmitted (S.sealed self.old.core.session) now self.old self.new buf.old.items buf.new.items t)) }
         ensures none { IfOk result (λ o. o ≡ None → (buf.new.items ≡ buf.old.items) × IsSilent self.old × IsStill self.old self.new) }
-        ensures err { OnErr result ((buf.new.items ≡ buf.old.items) × IsOver self.new) }
-        ensures log { OnErr result (IsLogEnded [] self.old self.new) }
+        ensures err { OnErr result ((buf.new.items ≡ buf.old.items) × (EndsUnsent self.old → IsOver self.new)) }
+        ensures closing { OnErr result (is_open self.old.core.state ≡ false → self.old.is_connected ≡ false → IsCloseUnsent self.old.handshake self.new.handshake × (self.new ≡ record self.old { handshake = self.new.handshake })) }
+        ensures over { OnErr result (IsOverOf [] self.old self.new) }
+        ensures unsent { OnErr result ((mid : AConnection S) × IsUnsent now self.old mid × (EndsUnsent self.old → HasFailed mid self.new)) }
+        ensures log { OnErr result (EndsUnsent self.old → IsLogEnded [] self.old self.new) }
         ensures carries { NamesTags (S.accepts self.old.core.session) → MakesTags (S.sealed self.old.core.session) → CarriesOnBy S.accepts S.sealed self.old self.new (made_acts buf.old.items buf.new.items result) }
         ensures whole { IsWhole self.new }
         ensures same { IsSameConnection S.key self.old self.new }
     {
+        let is_closing = self.is_closing();
         let Ok(made) = self.transmit(now, buf) else {
+            if is_closing {
+                return Err(Memory);
+            }
             self.fail();
             return Err(Memory);
         };
@@ -52,6 +63,8 @@ impl<S: Session> Connection<S> {
         ensures some { IfOk result (λ o. IfSome o (λ t. IsTransmitted (S.sealed self.old.core.session) now self.old (handed_on t.size self.new) buf.old.items buf.new.items t)) }
         ensures none { IfOk result (λ o. o ≡ None → (buf.new.items ≡ buf.old.items) × IsSilent self.old × IsStill self.old self.new) }
         ensures err { OnErr result (buf.new.items ≡ buf.old.items) }
+        ensures unsent { OnErr result (IsUnsent now self.old self.new) }
+        ensures closing { OnErr result (is_open self.old.core.state ≡ false → self.old.is_connected ≡ false → IsWhole self.new) }
         ensures log { OnErr result (LogGoesOn [] self.old self.new) }
         ensures carries { NamesTags (S.accepts self.old.core.session) → MakesTags (S.sealed self.old.core.session) → CarriesOnBy S.accepts S.sealed self.old self.new (made_acts buf.old.items buf.new.items result) }
         ensures safe { IsSafe self.new }
@@ -79,6 +92,7 @@ impl<S: Session> Connection<S> {
         ensures some { IfOk result (λ o. IfSome o (λ t. (now : AMoment) → IsTransmitted (S.sealed self.old.core.session) now self.old (handed_on t.size self.new) buf.old.items buf.new.items t)) }
         ensures none { IfOk result (λ o. o ≡ None → (buf.new.items ≡ buf.old.items) × (self.new ≡ self.old) × ((is_close_due self.old.core.state ≡ false) ⊎ IsCloseKept self.old.handshake)) }
         ensures err { OnErr result (buf.new.items ≡ buf.old.items) }
+        ensures unsent { OnErr result (IsCloseUnsent self.old.handshake self.new.handshake × (self.new ≡ record self.old { handshake = self.new.handshake })) }
         ensures log { OnErr result (LogGoesOn [] self.old self.new) }
         ensures carries { NamesTags (S.accepts self.old.core.session) → MakesTags (S.sealed self.old.core.session) → CarriesOnBy S.accepts S.sealed self.old self.new (made_acts buf.old.items buf.new.items result) }
         ensures whole { IsWhole self.new }
@@ -110,6 +124,7 @@ impl<S: Session> Connection<S> {
         ensures some { IfOk result (λ o. IfSome o (λ t. IsTransmitted (S.sealed self.old.core.session) now self.old (handed_on t.size self.new) buf.old.items buf.new.items t)) }
         ensures none { IfOk result (λ o. o ≡ None → (buf.new.items ≡ buf.old.items) × (self.new ≡ self.old) × IsSilentHandshake self.old.handshake) }
         ensures err { OnErr result (buf.new.items ≡ buf.old.items) }
+        ensures unsent { OnErr result (IsInitialUnsent now self.old.handshake self.new.handshake × (self.new ≡ record self.old { handshake = self.new.handshake })) }
         ensures log { OnErr result (LogGoesOn [] self.old self.new) }
         ensures carries { NamesTags (S.accepts self.old.core.session) → MakesTags (S.sealed self.old.core.session) → CarriesOnBy S.accepts S.sealed self.old self.new (made_acts buf.old.items buf.new.items result) }
         ensures whole { IsWhole self.new }
@@ -137,6 +152,7 @@ impl<S: Session> Connection<S> {
         ensures none { IfOk result (λ o. o ≡ None → (buf.new.items ≡ buf.old.items) × IsCoreSilent self.old.core × IsControlHeld self.old × IsStill self.old self.new) }
         ensures turns { IfOk result (λ o. IfSome o (λ t. TakesTurns self.old self.new)) }
         ensures err { OnErr result (buf.new.items ≡ buf.old.items) }
+        ensures unsent { OnErr result (IsDataUnsent self.old self.new) }
         ensures log { OnErr result (LogGoesOn [] self.old self.new) }
         ensures carries { NamesTags (S.accepts self.old.core.session) → MakesTags (S.sealed self.old.core.session) → CarriesOnBy S.accepts S.sealed self.old self.new (made_acts buf.old.items buf.new.items result) }
         ensures safe { IsSafe self.new }
@@ -165,6 +181,7 @@ impl<S: Session> Connection<S> {
         ensures none { IfOk result (λ o. o ≡ None → (buf.new.items ≡ buf.old.items) × IsCoreSilent self.old.core × IsControlHeld self.old × IsStill self.old self.new) }
         ensures others { IfOk result (λ o. IfSome o (λ t. (self.new.is_control_next ≡ true) ⊎ IsCoreSilent self.old.core)) }
         ensures err { OnErr result (buf.new.items ≡ buf.old.items) }
+        ensures unsent { OnErr result (IsDataUnsent self.old self.new) }
         ensures log { OnErr result (LogGoesOn [] self.old self.new) }
         ensures carries { NamesTags (S.accepts self.old.core.session) → MakesTags (S.sealed self.old.core.session) → CarriesOnBy S.accepts S.sealed self.old self.new (made_acts buf.old.items buf.new.items result) }
         ensures safe { IsSafe self.new }
@@ -185,6 +202,7 @@ impl<S: Session> Connection<S> {
         ensures some { IfOk result (λ o. IfSome o (λ t. IsCoreMade (S.sealed self.old.core.session) now self.old.core self.new.core buf.old.items buf.new.items t × BearsNoControl (S.sealed self.old.core.session) now self.old.core self.new.core buf.old.items buf.new.items)) }
         ensures none { IfOk result (λ o. o ≡ None → (buf.new.items ≡ buf.old.items) × (self.new ≡ self.old) × IsCoreSilent self.old.core) }
         ensures err { OnErr result (buf.new.items ≡ buf.old.items) }
+        ensures unsent { OnErr result (IsDataUnsent self.old self.new) }
         ensures log { OnErr result (LogGoesOn [] self.old self.new) }
         ensures rest { self.new ≡ record self.old { core = self.new.core } }
         ensures carries { NamesTags (S.accepts self.old.core.session) → MakesTags (S.sealed self.old.core.session) → CarriesOnBy S.accepts S.sealed self.old self.new (made_acts buf.old.items buf.new.items result) }
@@ -209,6 +227,7 @@ impl<S: Session> Connection<S> {
         ensures none { IfOk result (λ o. o ≡ None → (buf.new.items ≡ buf.old.items) × IsControlHeld self.old × IsStill self.old self.new) }
         ensures next { IfOk result (λ o. IfSome o (λ t. self.new.is_control_next ≡ false)) }
         ensures err { OnErr result (buf.new.items ≡ buf.old.items) }
+        ensures unsent { OnErr result (IsDataUnsent self.old self.new) }
         ensures log { OnErr result (LogGoesOn [] self.old self.new) }
         ensures carries { NamesTags (S.accepts self.old.core.session) → MakesTags (S.sealed self.old.core.session) → CarriesOnBy S.accepts S.sealed self.old self.new (made_acts buf.old.items buf.new.items result) }
         ensures safe { IsSafe self.new }
@@ -235,6 +254,7 @@ impl<S: Session> Connection<S> {
         ensures none { IfOk result (λ o. o ≡ None → (buf.new.items ≡ buf.old.items) × IsControlHeld self.old × (self.new ≡ self.old)) }
         ensures next { IfOk result (λ o. IfSome o (λ t. self.new.is_control_next ≡ false)) }
         ensures err { OnErr result (buf.new.items ≡ buf.old.items) }
+        ensures unsent { OnErr result (IsDataUnsent self.old self.new) }
         ensures log { OnErr result (LogGoesOn [] self.old self.new) }
         ensures carries { NamesTags (S.accepts self.old.core.session) → MakesTags (S.sealed self.old.core.session) → CarriesOnBy S.accepts S.sealed self.old self.new (made_acts buf.old.items buf.new.items result) }
         ensures safe { IsSafe self.new }
@@ -276,6 +296,7 @@ impl<S: Session> Connection<S> {
         ensures none { IfOk result (λ o. o ≡ None → (buf.new.items ≡ buf.old.items) × IsControlHeld self.old × IsStill self.old self.new) }
         ensures next { IfOk result (λ o. IfSome o (λ t. self.new.is_control_next ≡ false)) }
         ensures err { OnErr result (buf.new.items ≡ buf.old.items) }
+        ensures unsent { OnErr result (IsDataUnsent self.old self.new) }
         ensures log { OnErr result (LogGoesOn [] self.old self.new) }
         ensures carries { NamesTags (S.accepts self.old.core.session) → MakesTags (S.sealed self.old.core.session) → CarriesOnBy S.accepts S.sealed self.old self.new (made_acts buf.old.items buf.new.items result) }
         ensures safe { IsSafe self.new }
@@ -296,6 +317,14 @@ impl<S: Session> Connection<S> {
 }
 
 impl<S> Connection<S> {
+    // Whether it was over before the handshake was complete.
+    fn is_closing(&self) -> bool
+        ensures yes { result ≡ true → (is_open self.now.core.state ≡ false) × (self.now.is_connected ≡ false) }
+        ensures no { result ≡ false → EndsUnsent self.now }
+    {
+        self.core.is_closed() && !self.is_connected
+    }
+
     // A datagram of so many bytes goes to the peer.
     fn transmit_of(&self, size: usize) -> Transmit
         ensures { result ≡ record { destination = self.now.core.addresses.remote; size = size; src_ip = self.now.core.addresses.local_ip } }

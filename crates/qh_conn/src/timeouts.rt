@@ -4,7 +4,9 @@ ghost use Rattle.qh_conn.specs.Incoming.{IsOver};
 ghost use Rattle.qh_conn.specs.Items.{IsLogEnded, LogGoesOn};
 ghost use Rattle.qh_conn.specs.Same.{IsSameConnection};
 ghost use Rattle.qh_conn.specs.Telling.{IsDueAt, IsFirstDue, IsHandshakeTimed, IsTimedOut, IsTold, event_of};
+ghost use Rattle.qh_conn.specs.Unread.{HasFailed, IsOverOf, IsTimeCut};
 ghost use Rattle.qh_conn.specs.Whole.{IsWhole, StandsStill};
+ghost use Rattle.qh_conn.specs.declared.connection.Connection.{Connection as AConnection};
 ghost use Rattle.qh_core.specs.Event.{IsPolledEvent};
 ghost use Rattle.qh_core.specs.Inner.{is_open};
 ghost use Rattle.qh_core.specs.Timers.{IsIdleDue, IsTimedOut as IsCoreTimedOut};
@@ -17,11 +19,14 @@ use qh_packet::Session;
 
 impl<S: Session> Connection<S> {
     /// Does what is due by now: the idle time ends the connection with TimedOut; else packets that are out for too long are lost, and if a
-    /// probe is due something is queued for it; a connection that was closed is drained. Want of memory ends the connection.
+    /// probe is due something is queued for it; a connection that was closed is drained. Want of memory, only for frames that were lost by that,
+    /// ends the connection. It is the same connection still, and what waited for the endpoint stays.
     pub fn handle_timeout(&mut self, now: Moment) -> Result<(), Memory>
         requires { IsWhole self.old }
         ensures ok { OnOk result (IsTimedOut now.0 self.old self.new) }
         ensures err { OnErr result (IsOver self.new) }
+        ensures over { OnErr result (IsOverOf [] self.old self.new) }
+        ensures unread { OnErr result ((mid : AConnection S) × IsTimeCut now.0 self.old mid × HasFailed mid self.new) }
         ensures log { OnErr result (IsLogEnded [] self.old self.new) }
         ensures wanting { OnErr result ((is_open self.old.core.state ≡ true) × (IsIdleDue now.0 self.old.core → ⊥)) }
         ensures stands { StandsStill self.old self.new }

@@ -1,4 +1,4 @@
-use Rattle.std.proofs.Common.{◌≤◌, List, subst, length}
+use Rattle.std.proofs.Common.{◌≤◌, List, subst, length, inl}
 use Rattle.std.proofs.lemmas.Result.{err_from_is_err_and}
 use Rattle.qh_conn.specs.Whole.{CarriesOnBy}
 use Rattle.qh_packet.proofs.Sessions.{plain_makes, plain_names}
@@ -20,7 +20,7 @@ returns-in_err-transmit-clause-made c =
     (failed_made old c.poll_transmit.new.self e.same e.whole (e.carries (plain_names old.core.session short) (plain_makes old.core.session short)))
 
 pub returns-in_err-transmit-clause-lost : goal.returns-in_err-transmit-clause-lost
-returns-in_err-transmit-clause-lost c = rw (err_from_is_err_and c.from_residual.result c.from_residual.ensures.1).1 c.in_err-transmit.ensures.err.1.error
+returns-in_err-transmit-clause-lost c = rw (err_from_is_err_and c.from_residual.result c.from_residual.ensures.1).1 (c.in_err-transmit.ensures.err.1 (inl c.requires.open)).error
 
 pub returns-clause-made : goal.returns-clause-made
 returns-clause-made c =

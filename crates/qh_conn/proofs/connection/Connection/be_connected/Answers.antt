@@ -1,34 +1,16 @@
-use Rattle.std.proofs.Common.{◌≡◌, [], refl, sym, subst}
+use Rattle.std.proofs.lemmas.Result.{on_err_weaker}
 use Rattle.qh_conn.proofs.InSound.{on_ok}
-use Rattle.qh_conn.proofs.LogKept.{noted_current}
-use Rattle.qh_conn.proofs.Noted.{connect_stands, connected_current, note_goes}
-use Rattle.qh_conn.proofs.OnStreams.{some_or_none}
-use Rattle.qh_conn.proofs.SameParts.{note_same}
-use Rattle.qh_conn.specs.Items.{IsLogCurrent}
-use Rattle.qh_conn.specs.declared.connection.Connection.{Connection}
-use Rattle.qh_control.specs.Items.{streamed}
+use Rattle.qh_conn.proofs.Noted.{connected_else, noted_if}
+use Rattle.qh_conn.specs.Items.{given_back}
+use Rattle.qh_control.specs.Items.{kept_in}
 use Rattle.qh_conn.proofs.connection.Connection.be_connected.Goals as goal
 
-pub returns-clause-carries : goal.returns-clause-carries
-returns-clause-carries g c = λ accepts sealed hello t has p.
-    let e = c.connect.ensures in
-    connect_stands c.connect.result accepts sealed hello c.args.now c.args.self.now c.connect.new.self t e.ok e.err e.made has p
+pub returns-then-self-clause-ok : goal.returns-then-self-clause-ok
+returns-then-self-clause-ok g c = noted_if c.args.now (given_back (kept_in c.args.entries) c.args.self.now) c.note_in.new.self c.args.self.now.is_connected c.if-self.true c.note_in.ensures.value
 
-pub returns-then-self-clause-carries : goal.returns-then-self-clause-carries
-returns-then-self-clause-carries g c = λ accepts sealed hello t has p. c.note.ensures.stands accepts sealed hello t p
+pub returns-clause-ok : goal.returns-clause-ok
+returns-clause-ok g c =
+    on_ok _ _ (λ is. connected_else c.args.now (given_back (kept_in c.args.entries) c.args.self.now) c.connect_in.new.self c.args.self.now.is_connected c.if-self.false is) c.connect_in.result c.connect_in.ensures.ok
 
-pub returns-then-self-clause-current : goal.returns-then-self-clause-current
-returns-then-self-clause-current g c =
-    let self = c.args.self.now in
-    on_ok _ _ (λ is. subst (λ (z : Connection _). IsLogCurrent z) (sym is) (noted_current self.control.log [] self (λ none. some_or_none (streamed self.core.space.log ≡ []) self.handshake.peer c.requires.greeted none))) c.note.result c.note.ensures.ok
-
-pub returns-clause-current : goal.returns-clause-current
-returns-clause-current g c =
-    let self = c.args.self.now in
-    on_ok _ _ (λ is. subst (λ (z : Connection _). IsLogCurrent z) (sym is) (connected_current c.args.now self (λ none. some_or_none (streamed self.core.space.log ≡ []) self.handshake.peer c.requires.greeted none))) c.connect.result c.connect.ensures.ok
-
-pub returns-then-self-clause-log : goal.returns-then-self-clause-log
-returns-then-self-clause-log g c = note_goes c.note.result [] c.args.self.now c.note.new.self refl c.note.ensures.ok c.note.ensures.err
-
-pub returns-then-self-clause-same : goal.returns-then-self-clause-same
-returns-then-self-clause-same g c = note_same g.S.Session.key c.note.result [] c.args.self.now c.note.new.self c.note.ensures.ok c.note.ensures.err
+pub returns-clause-wanting : goal.returns-clause-wanting
+returns-clause-wanting g c = on_err_weaker c.connect_in.result (λ w. (c.if-self.false, w.0, w.1)) c.connect_in.ensures.wanting

@@ -21,6 +21,10 @@ use Rattle.qh_spec.specs.Transcript.{HandedIn}
 use Rattle.qh_spec.specs.declared.sides.Side.{Side}
 use Rattle.qh_conn.proofs.SameParts.{begun_same, space_same, started_same}
 use Rattle.qh_conn.proofs.Same.{both_same, control_by, control_rest, greeted_own, own_by, same_control, same_flags, same_then}
+use Rattle.std.proofs.Common.{refl}
+use Rattle.qh_conn.proofs.LogKept.{logged_on}
+use Rattle.qh_conn.specs.Greeting.{no_early}
+use Rattle.qh_conn.specs.Unread.{IsGreetingCut}
 use Rattle.qh_conn.proofs.connection.Connection.begin.Goals as goal
 
 pub returns-clause-core : goal.returns-clause-core
@@ -168,3 +172,22 @@ returns-clause-same g c = λ before none p.
     both_same g.S.Session.key before set _
     (both_same g.S.Session.key before on set (both_same g.S.Session.key before mid on began (started_same g.S.Session.key mid on c.in_ok-log_streams.ensures.ok)) (space_same g.S.Session.key on set _ c.set_early.ensures.value))
     (same_flags g.S.Session.key set true set.is_connected_due set.is_control_next set.is_lost_logged)
+
+pub returns-in_err-greet-clause-cut : goal.returns-in_err-greet-clause-cut
+returns-in_err-greet-clause-cut g c =
+    let self = c.args.self.now in
+    any_err _ c.from_residual.result (λ now. IsGreetingCut.untold c.in_err-greet.ensures.wanting (ap (λ (z : ControlState). record self { control = z }) c.in_err-greet.ensures.err))
+
+pub returns-in_err-log_streams-clause-cut : goal.returns-in_err-log_streams-clause-cut
+returns-in_err-log_streams-clause-cut g c =
+    let self = c.args.self.now in
+    let core = c.greet-2.new.self in
+    let e = c.greet-2.ensures in
+    let more = item.MaxDatagramSize (datagram_of c.args.peer.max_datagram_frame_size) ∷ [] in
+    let is : core ≡ begun_as self.core c.args.peer self.handshake core.space = search rules in
+    let control : c.greet.new.self ≡ record (control_greeted self.control self.handshake.remote_id c.args.peer) { log = logged self.control.log more } = search rules in
+    let on = sym (logged_on self.control.log more) ∙ (ap (λ (z : ControlState). is_some z.log) (sym control) ∙ c.in_err-log_streams.ensures.wanting) in
+    any_err _ c.from_residual-in_err-log_streams.result (λ now.
+    subst (λ (z : Connection _). IsGreetingCut now c.args.peer self z) (sym c.in_err-log_streams.ensures.err)
+    (IsGreetingCut.unlogged on (begun_by c.args.peer self.handshake no_early None [] self.core core core e.space e.ping is refl)
+    (ap (λ (z : ControlState). record self { core = core; control = z }) control)))

@@ -1,69 +1,54 @@
-use Rattle.std.proofs.Common.{◌∷◌, [], is_some, sym, ap, subst, ◌∙◌}
+use Rattle.std.proofs.Common.{Option, List, ap, ◌∙◌}
+use Rattle.std.proofs.lemmas.Result.{on_err_weaker}
 use Rattle.qh_conn.proofs.InHears.{self_made}
-use Rattle.qh_conn.proofs.Noted.{any_err, completed_sound, connect_goes, connected_by, events_sound, only_events, same_events, unconnected}
-use Rattle.qh_conn.proofs.SameParts.{completed_same, note_same}
-use Rattle.qh_conn.proofs.Same.{both_same, control_rest, same_as, same_control, same_then}
-use Rattle.qh_conn.specs.Items.{noted}
-use Rattle.qh_conn.specs.declared.connection.Connection.{Connection}
-use Rattle.qh_control.specs.declared.items.ConnectionItem.TheVariants as item
-use Rattle.qh_core.specs.Made.{IsMadeLocally}
-use Rattle.qh_core.specs.declared.inner.Inner.{Inner}
+use Rattle.qh_conn.proofs.InSound.{on_ok}
+use Rattle.qh_conn.proofs.Noted.{any_err, connect_logs, sound_log, unmoved_goes}
+use Rattle.qh_conn.proofs.Over.{err_both, lent_on}
+use Rattle.qh_conn.proofs.Same.{same_as}
+use Rattle.qh_conn.proofs.SameParts.{connect_same}
+use Rattle.qh_conn.specs.Greeting.{connected}
+use Rattle.qh_conn.specs.Items.{given_back}
+use Rattle.qh_conn.specs.Unread.{IsCompletionCut}
+use Rattle.qh_control.specs.declared.items.ConnectionItem.{ConnectionItem}
 use Rattle.qh_conn.proofs.connection.Connection.connect.Goals as goal
+
+pub connect_in-requires-clause-sound : goal.connect_in-requires-clause-sound
+connect_in-requires-clause-sound g c = sound_log c.args.self.now c.lend.new.self c.requires.sound
 
 pub returns-clause-ok : goal.returns-clause-ok
 returns-clause-ok g c =
-    connected_by c.args.now c.args.self.now c.note.new.self c.discard_space.new.self
-    (c.in_ok-note.ensures.ok ∙ ap (λ (z : Connection _). noted (item.Connected ∷ []) z) c.in_ok-ask_ids.ensures.ok) c.discard_space.ensures.gone
+    on_ok _ _ (λ is. is ∙ ap (λ (z : Option (List ConnectionItem)). connected c.args.now (given_back z c.args.self.now)) c.in_ok-entries.ensures.ok) c.connect_in.result c.connect_in.ensures.ok
 
-pub returns-in_err-ask_ids-clause-made : goal.returns-in_err-ask_ids-clause-made
-returns-in_err-ask_ids-clause-made g c =
-    let core = c.args.self.now.core in
-    subst (λ (z : Inner _). IsMadeLocally core z []) (sym (ap (λ (z : Connection _). z.core) c.in_err-ask_ids.ensures.err)) (self_made core)
+pub returns-clause-err : goal.returns-clause-err
+returns-clause-err g c =
+    on_err_weaker c.connect_in.result (λ is. is ∙ ap (λ (z : Option (List ConnectionItem)). given_back z c.args.self.now) c.in_ok-entries.ensures.ok) c.connect_in.ensures.err
 
-pub returns-in_err-ask_ids-clause-err : goal.returns-in_err-ask_ids-clause-err
-returns-in_err-ask_ids-clause-err g c = any_err _ c.from_residual.result (same_events c.args.self.now c.ask_ids.new.self c.in_err-ask_ids.ensures.err)
+pub returns-in_err-entries-clause-err : goal.returns-in_err-entries-clause-err
+returns-in_err-entries-clause-err g c = any_err _ c.from_residual.result (ap (λ (z : Option (List ConnectionItem)). given_back z c.args.self.now) c.in_err-entries.ensures.err)
 
-pub returns-in_err-note-clause-err : goal.returns-in_err-note-clause-err
-returns-in_err-note-clause-err g c =
-    any_err _ c.from_residual-in_err-note.result (only_events c.args.now c.args.self.now c.note.new.self (c.in_err-note.ensures.err ∙ c.in_ok-ask_ids.ensures.ok))
+pub returns-in_err-entries-clause-cut : goal.returns-in_err-entries-clause-cut
+returns-in_err-entries-clause-cut g c =
+    any_err _ c.from_residual.result
+    (IsCompletionCut.unlogged (lent_on c.args.self.now.control.log c.lend.result _ c.in_err-entries.was c.lend.ensures.free) (ap (λ (z : Option (List ConnectionItem)). given_back z c.args.self.now) c.in_err-entries.ensures.err))
 
-pub returns-in_err-ask_ids-clause-log : goal.returns-in_err-ask_ids-clause-log
-returns-in_err-ask_ids-clause-log g c = unconnected c.args.self.now c.ask_ids.new.self (same_events c.args.self.now c.ask_ids.new.self c.in_err-ask_ids.ensures.err)
+pub returns-clause-cut : goal.returns-clause-cut
+returns-clause-cut g c = err_both c.connect_in.result (λ w is. IsCompletionCut.unasked w.0 w.1 is) c.connect_in.ensures.wanting (returns-clause-err g c)
 
-pub returns-in_err-note-clause-log : goal.returns-in_err-note-clause-log
-returns-in_err-note-clause-log g c =
-    unconnected c.args.self.now c.note.new.self (only_events c.args.now c.args.self.now c.note.new.self (c.in_err-note.ensures.err ∙ c.in_ok-ask_ids.ensures.ok))
+pub returns-in_err-entries-clause-made : goal.returns-in_err-entries-clause-made
+returns-in_err-entries-clause-made g c = self_made c.args.self.now.core
+
+pub returns-in_err-entries-clause-sound : goal.returns-in_err-entries-clause-sound
+returns-in_err-entries-clause-sound g c = sound_log c.args.self.now c.lend.new.self c.requires.sound
+
+pub returns-in_err-entries-clause-log : goal.returns-in_err-entries-clause-log
+returns-in_err-entries-clause-log g c =
+    unmoved_goes c.args.self.now _ (ap (λ (z : Option (List ConnectionItem)). given_back z c.args.self.now) c.in_err-entries.ensures.err)
 
 pub returns-clause-log : goal.returns-clause-log
-returns-clause-log g c = connect_goes c.args.now c.args.self.now _ c.requires.first (returns-clause-ok g c)
+returns-clause-log g c = connect_logs c.connect_in.result c.args.now c.args.self.now c.connect_in.new.self c.requires.first (returns-clause-ok g c) (returns-clause-err g c)
 
-pub returns-in_err-note-clause-sound : goal.returns-in_err-note-clause-sound
-returns-in_err-note-clause-sound g c =
-    let self = c.args.self.now in
-    c.note.ensures.sound (events_sound self c.ask_ids.new.self (only_events c.args.now self c.ask_ids.new.self c.in_ok-ask_ids.ensures.ok) c.requires.sound)
-
-pub returns-clause-sound : goal.returns-clause-sound
-returns-clause-sound g c =
-    let self = c.args.self.now in
-    let n = c.note.new.self in
-    let sound = c.note.ensures.sound (events_sound self c.ask_ids.new.self (only_events c.args.now self c.ask_ids.new.self c.in_ok-ask_ids.ensures.ok) c.requires.sound) in
-    let greeted = ap (λ (z : Connection _). is_some z.handshake.peer) (c.in_ok-note.ensures.ok ∙ ap (λ (z : Connection _). noted (item.Connected ∷ []) z) c.in_ok-ask_ids.ensures.ok) ∙ c.requires.greeted in
-    completed_sound n c.discard_space.new.self c.discard_space.ensures.gone c.discard_space.ensures.whole greeted sound
-
-pub returns-in_err-ask_ids-clause-same : goal.returns-in_err-ask_ids-clause-same
-returns-in_err-ask_ids-clause-same g c = same_as g.S.Session.key c.args.self.now c.ask_ids.new.self c.in_err-ask_ids.ensures.err
-
-pub returns-in_err-note-clause-same : goal.returns-in_err-note-clause-same
-returns-in_err-note-clause-same g c =
-    let self = c.args.self.now in
-    same_then g.S.Session.key self _ c.note.new.self (only_events c.args.now self c.note.new.self (c.in_err-note.ensures.err ∙ c.in_ok-ask_ids.ensures.ok)) (same_control g.S.Session.key self _ (control_rest self.control))
+pub returns-in_err-entries-clause-same : goal.returns-in_err-entries-clause-same
+returns-in_err-entries-clause-same g c = same_as g.S.Session.key c.args.self.now _ (ap (λ (z : Option (List ConnectionItem)). given_back z c.args.self.now) c.in_err-entries.ensures.err)
 
 pub returns-clause-same : goal.returns-clause-same
-returns-clause-same g c =
-    let self = c.args.self.now in
-    let ask = c.ask_ids.new.self in
-    let n = c.note.new.self in
-    let asks = same_then g.S.Session.key self _ ask (only_events c.args.now self ask c.in_ok-ask_ids.ensures.ok) (same_control g.S.Session.key self _ (control_rest self.control)) in
-    both_same g.S.Session.key self n _
-    (both_same g.S.Session.key self ask n asks (note_same g.S.Session.key c.note.result (item.Connected ∷ []) ask n c.note.ensures.ok c.note.ensures.err))
-    (completed_same g.S.Session.key n c.discard_space.new.self c.discard_space.ensures.gone)
+returns-clause-same g c = connect_same g.S.Session.key c.connect_in.result c.args.now c.args.self.now c.connect_in.new.self (returns-clause-ok g c) (returns-clause-err g c)

@@ -63,3 +63,16 @@ pub returns-clause-same : goal.returns-clause-same
 returns-clause-same g c = λ key.
     over_same key c.args.self.now c.drop_space.new.self c.take_items.new.self c.clear_datagrams.new.self c.drop_space.ensures.gone (returns-clause-core g c)
     (control_by c.args.self.now.control c.clear_datagrams.new.self _ c.clear_datagrams.ensures (control_rest c.args.self.now.control))
+
+pub returns-clause-failed : goal.returns-clause-failed
+returns-clause-failed g c =
+    let old = c.args.self.now in
+    let new = c.take_items.new.self in
+    let is = c.take_items.ensures.rest in
+    let counts = c.fail.ensures.counts in
+    record {
+      core = returns-clause-core g c;
+      counts = (ap (λ (z : Inner _). z.space.packets_lost) is ∙ counts.0, ap (λ (z : Inner _). z.space.probes_sent) is ∙ counts.1);
+      rest_is = ap (λ (z : Handshake). record old { handshake = z; core = new; control = c.clear_datagrams.new.self }) c.drop_space.ensures.gone
+          ∙ ap (λ (z : ControlState). record old { handshake = dropping old.handshake; core = new; control = z }) c.clear_datagrams.ensures;
+    }

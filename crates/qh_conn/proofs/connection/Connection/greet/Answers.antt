@@ -17,6 +17,8 @@ use Rattle.qh_conn.proofs.Noted.{connected_current}
 use Rattle.qh_conn.proofs.Same.{both_same}
 use Rattle.qh_conn.specs.Hearing.{FailsTo}
 use Rattle.qh_conn.specs.Items.{IsLogCurrent}
+use Rattle.qh_conn.proofs.Noted.{any_err}
+use Rattle.qh_conn.specs.Unread.{IsCompletionCut, IsGreetingCut}
 use Rattle.qh_conn.proofs.connection.Connection.greet.Goals as goal
 
 module _ {S : Type 0} where
@@ -113,3 +115,14 @@ pub returns-in_ok-connect-in-Client-clause-current : goal.returns-in_ok-connect-
 returns-in_ok-connect-in-Client-clause-current g c =
     let begun = c.begin.new.self in
     subst (λ (z : Connection _). IsLogCurrent z) (sym c.in_ok-connect-in-Client.ensures.ok) (connected_current c.args.now begun (λ none. c.in_ok-begin.ensures.current (inr none)))
+
+pub returns-in_err-begin-clause-cut : goal.returns-in_err-begin-clause-cut
+returns-in_err-begin-clause-cut g c = any_err _ c.from_residual.result (c.in-Some.peer, c.in-Some.is, c.in_err-begin.ensures.cut c.args.now)
+
+pub returns-in_err-connect-in-Client-clause-cut : goal.returns-in_err-connect-in-Client-clause-cut
+returns-in_err-connect-in-Client-clause-cut g c =
+    let begun = c.begin.new.self in
+    let e = c.in_ok-begin.ensures in
+    let client = ap is_client (side_of c.args.self.now begun c.in-Some.peer e.rest ∙ c.in-Client.is) in
+    any_err _ c.from_residual-in_err-connect-in-Client.result
+    (c.in-Some.peer, c.in-Some.is, IsGreetingCut.incomplete begun.core client e.core (subst (λ (z : Connection _). IsCompletionCut c.args.now z c.connect.new.self) e.rest c.in_err-connect-in-Client.ensures.cut))

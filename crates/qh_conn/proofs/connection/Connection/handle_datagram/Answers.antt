@@ -7,6 +7,7 @@ use Rattle.qh_conn.proofs.LogKept.{counted_goes, ended_by}
 use Rattle.qh_conn.proofs.SameParts.{closing_same, settled_same}
 use Rattle.qh_conn.proofs.Same.{both_same, same_counted}
 use Rattle.qh_conn.specs.declared.connection.Connection.{Connection}
+use Rattle.qh_conn.proofs.Over.{over_by, unread_by}
 use Rattle.qh_conn.proofs.connection.Connection.handle_datagram.Goals as goal
 
 pub returns-then-is_closed-clause-ok : goal.returns-then-is_closed-clause-ok
@@ -46,3 +47,12 @@ returns-clause-log g c =
     let taken = c.take-taken in
     ended_by taken.result c.settled.result self taken.new.self c.settled.new.self c.settled.ensures.value c.requires.current
     (on_err_weaker taken.result (λ goes. (goes.0, counted_goes goes.0 self c.count.new.stats taken.new.self goes.1)) taken.ensures.log) c.settled.ensures.log
+
+pub returns-clause-unread : goal.returns-clause-unread
+returns-clause-unread g c =
+    unread_by _ c.args.now c.args.datagram.now c.args.self.now c.take-taken.new.self c.settled.new.self c.count.new.stats c.take-taken.result c.settled.result c.count.ensures c.settled.ensures.value
+    c.take-taken.ensures.unread c.settled.ensures.failed
+
+pub returns-clause-over : goal.returns-clause-over
+returns-clause-over g c =
+    over_by _ g.S.Session.key c.args.now c.args.datagram.now c.args.self.now c.settled.new.self c.settled.result (returns-clause-same g c) (returns-clause-log g c) (returns-clause-unread g c)

@@ -12,6 +12,8 @@ use Rattle.qh_core.specs.Timers.{IsTimedOut as IsCoreTimedOut}
 use Rattle.qh_recovery.specs.SentPackets.{packet_at}
 use Rattle.qh_conn.proofs.SameParts.{timed_same}
 use Rattle.qh_conn.proofs.Same.{both_same, control_kept, same_control, same_dropped}
+use Rattle.qh_conn.proofs.Over.{timed_over}
+use Rattle.qh_conn.specs.Unread.{HasFailed}
 use Rattle.qh_conn.proofs.connection.Connection.handle_timeout.Goals as goal
 
 pick_shut : (A B : Type 0) (b : Bool) → b ≡ false → B → MatchBool b A B
@@ -82,3 +84,17 @@ returns-in_default-clause-log g c =
     let lost : Connection _ = record mid { control = record mid.control { queue = c.on_lost.new.self } } in
     let queued = same_goes mid lost (record { connected = refl; due = refl; data_due = λ due. due; lost_logged = refl; told = record { lost = refl; drained = refl } }) refl in
     c.fail.ensures.log self [] c.requires.current (goes_both [] [] self mid lost c.time_ends.ensures.log queued)
+
+pub returns-in_default-clause-unread : goal.returns-in_default-clause-unread
+returns-in_default-clause-unread g c =
+    let e = c.time_ends.ensures in
+    let mid = c.time_ends.new.self in (
+      mid,
+      record { handshake = e.handshake; core = e.core; up = open_of (is_open mid.core.state) c.is_closed.result c.is_closed.ensures c.if-is_closed.false; rest_is = e.rest },
+      subst (λ (z : PlainQueue). HasFailed (record mid { control = record mid.control { queue = z } }) c.fail.new.self) c.in_default.ensures.err c.fail.ensures.failed,
+    )
+
+pub returns-in_default-clause-over : goal.returns-in_default-clause-over
+returns-in_default-clause-over g c =
+    let unread = returns-in_default-clause-unread g c in
+    timed_over g.S.Session.key c.args.now.0 c.args.self.now unread.0 c.fail.new.self unread.1 unread.2 (returns-in_default-clause-same g c) (returns-in_default-clause-log g c)

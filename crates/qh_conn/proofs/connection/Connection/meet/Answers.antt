@@ -2,6 +2,7 @@ use Rattle.std.proofs.Common.{sym, ◌∙◌}
 use Rattle.qh_conn.proofs.InClosed.{none_when}
 use Rattle.qh_conn.proofs.InFed.{read_known}
 use Rattle.qh_conn.proofs.LogKept.{stands_still}
+use Rattle.std.proofs.lemmas.Result.{on_err_weaker}
 use Rattle.qh_conn.proofs.connection.Connection.meet.Goals as goal
 
 pub returns-then-was_greeted-clause-hears : goal.returns-then-was_greeted-clause-hears
@@ -18,3 +19,6 @@ returns-clause-same g c = λ before was p. c.greet.ensures.same before (none_whe
 
 pub returns-then-was_greeted-clause-log : goal.returns-then-was_greeted-clause-log
 returns-then-was_greeted-clause-log g c = stands_still c.args.self.now
+
+pub returns-clause-cut : goal.returns-clause-cut
+returns-clause-cut g c = on_err_weaker c.greet.result (λ cut. (c.if-was_greeted.false, cut)) c.greet.ensures.cut

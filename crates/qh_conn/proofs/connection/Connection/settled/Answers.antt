@@ -6,3 +6,6 @@ returns-then-is_err-clause-same g c = any_err _ c.args.taken (c.fail.ensures.sam
 
 pub returns-then-is_err-clause-log : goal.returns-then-is_err-clause-log
 returns-then-is_err-clause-log g c = any_err _ c.args.taken c.fail.ensures.log
+
+pub returns-then-is_err-clause-failed : goal.returns-then-is_err-clause-failed
+returns-then-is_err-clause-failed g c = any_err _ c.args.taken c.fail.ensures.failed

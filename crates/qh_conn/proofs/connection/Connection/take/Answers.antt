@@ -14,6 +14,9 @@ use Rattle.qh_conn.proofs.SameParts.{ended_same, lost_same, met_same}
 use Rattle.qh_conn.proofs.Same.{both_same, local_stays, same_dropped, same_rest}
 use Rattle.qh_conn.proofs.Noted.{any_err}
 use Rattle.qh_conn.proofs.connection.Connection.take.Goals as goal
+use Rattle.std.proofs.Common.{Bool}
+use Rattle.qh_conn.specs.Incoming.{IsMet}
+use Rattle.qh_conn.specs.Unread.{IsUnread}
 use Rattle.qh_conn.proofs.connection.Connection.take.Goals.{else-is_greeted-via-then-is_greeted+else-not-is_empty, else-is_greeted-via-else-is_greeted}
 
 pub returns-in-Err : goal.returns-in-Err
@@ -32,6 +35,7 @@ returns-in-Err g c =
       same = both_same g.S.Session.key c.args.self.now c.feed.new.self c.end_by.new.self (ended_same _ c.args.now c.args.datagram.now c.args.self.now c.feed.new.self c.in-Err.error Memory c.in-Err.ensures.err named)
           (same_rest g.S.Session.key c.feed.new.self c.end_by.new.self c.end_by.ensures.rest (local_stays c.feed.new.self.core c.end_by.new.self.core [] c.end_by.ensures.made.0));
       lost = tt;
+      unread = tt;
       log = tt;
     }
 
@@ -156,3 +160,21 @@ pub returns-else-is_greeted-clause-same : goal.returns-else-is_greeted-clause-sa
 returns-else-is_greeted-clause-same g c =
     met_same _ c.args.now c.args.datagram.now c.in-Ok.rest.now c.args.self.now c.feed.new.self c.restart.new.self c.meet.new.self c.known-known.result.is_greeted c.in-Ok.ensures.ok c.restart.ensures.rest
     c.known-known.ensures.is_greeted c.meet.ensures.same
+
+pub returns-in-Err-Memory-clause-unread : goal.returns-in-Err-Memory-clause-unread
+returns-in-Err-Memory-clause-unread g c =
+    let l = c.in-Err-Memory.ensures.lost c.in-Err-Memory.field-0-is in
+    IsUnread.initials l.0 l.1 l.2 c.feed.ensures.rest
+
+pub returns-in_err-meet-clause-unread : goal.returns-in_err-meet-clause-unread
+returns-in_err-meet-clause-unread g c =
+    let cut = c.in_err-meet.ensures.cut in
+    any_err _ c.from_residual.result
+    (IsUnread.greeting c.feed.new.self c.restart.new.self c.in-Ok.rest.now cut.1.0 c.in-Ok.ensures.ok (c.restart.ensures.restarted c.args.self.now.handshake c.known-known.ensures) (sym c.known-known.ensures.is_greeted ∙ cut.0) cut.1.1 cut.1.2)
+
+pub returns-in_err-take_data-clause-unread : goal.returns-in_err-take_data-clause-unread
+returns-in_err-take_data-clause-unread g c =
+    let greeted : is_some c.meet.new.self.handshake.peer ≡ true = search rules in
+    any_err _ c.from_residual-in_err-take_data.result
+    (IsUnread.behind c.feed.new.self c.restart.new.self c.meet.new.self c.in-Ok.rest.now c.in-Ok.ensures.ok (c.restart.ensures.restarted c.args.self.now.handshake c.known-known.ensures)
+    (subst (λ (z : Bool). IsMet c.args.now z c.restart.new.self c.meet.new.self) c.known-known.ensures.is_greeted c.in_ok-meet.ensures.ok) greeted (some_bytes c.in-Ok.rest.now c.if-not-is_empty.ensures) c.in_err-take_data.ensures.unread)

@@ -130,3 +130,9 @@ returns-in-Err-Transport-clause-log g c =
 pub returns-in-Err-Transport-clause-space : goal.returns-in-Err-Transport-clause-space
 returns-in-Err-Transport-clause-space g c =
     ap (λ (z : Inner _). z.space) c.close_by_fault.ensures.faulted.closed.rest_is ∙ (ap (λ (z : Connection _). z.core.space) c.take_control.ensures.rest ∙ ap (λ (z : Connection _). z.core.space) c.loop-left.invariant.1)
+
+pub returns-in-Err-Memory-2-clause-cut : goal.returns-in-Err-Memory-2-clause-cut
+returns-in-Err-Memory-2-clause-cut g c = λ taken are count.
+    let m = c.in-Err-Memory in
+    cut_read c.args.now c.args.accepted.now.frames.now c.loop-left.rest.now c.in-Ok.behind.now c.in-Ok.frame c.loop-left.left (c.loop-left.left - 1) c.args.accepted.now.taken _ c.loop-left.self.control c.take_control.new.self.control
+    c.in-Ok.ensures.found (omega (arith, c.loop-left-test.true)) (unrefused_by m.field-0 _ m.field-0-is m.ensures.fault) (m.ensures.wanting m.field-0-is) m.ensures.left c.loop-left.invariant.2 taken are count

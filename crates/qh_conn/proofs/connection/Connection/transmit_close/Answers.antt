@@ -26,6 +26,7 @@ use Rattle.qh_conn.proofs.SameParts.{initial_same}
 use Rattle.qh_conn.proofs.Same.{same_handshake, same_self, told_stays}
 use Rattle.qh_handshake.proofs.GoingOn.{close_goes, close_unsent_goes, same_goes}
 use Rattle.qh_handshake.specs.GoesOn.{GoesOn}
+use Rattle.qh_conn.proofs.Noted.{any_err}
 use Rattle.qh_conn.proofs.connection.Connection.transmit_close.Goals as goal
 
 -- the end is closed still
@@ -114,3 +115,6 @@ returns-clause-same g c =
     initial_same g.S.Session.key old c.transmit_close.new.self c.close_told.new.self
     (close_goes (g.S.Session.sealed old.core.session) c.initial_close-close.result c.args.buf.now.items c.transmit_close.new.buf.items old.handshake c.transmit_close.new.self c.in-Some-sent.size made)
     (told_stays old.core c.close_told.new.self c.close_told.ensures.value)
+
+pub returns-in_err-sent-clause-unsent : goal.returns-in_err-sent-clause-unsent
+returns-in_err-sent-clause-unsent g c = any_err _ c.from_residual.result (c.in_err-sent.ensures.unsent, refl)

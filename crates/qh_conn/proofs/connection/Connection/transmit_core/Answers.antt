@@ -13,6 +13,7 @@ use Rattle.qh_core.specs.declared.inner.Inner.{Inner}
 use Rattle.qh_spec.specs.declared.sides.Space.TheVariants.{Data}
 use Rattle.qh_conn.proofs.SameParts.{transmit_stays}
 use Rattle.qh_conn.proofs.Same.{same_core}
+use Rattle.std.proofs.Common.{inr}
 use Rattle.qh_conn.proofs.connection.Connection.transmit_core.Goals as goal
 
 none_of : {P Q : Type 0} (result : Result (Option Transmit) OutOfMemory) → IfOk result (λ o. o ≡ None → P) → (P → Q) → IfOk result (λ o. o ≡ None → Q)
@@ -67,3 +68,7 @@ returns-clause-same g c =
     let e = c.poll_transmit.ensures in
     same_core g.S.Session.key old c.poll_transmit.new.self
     (transmit_stays _ c.args.now c.args.buf.now.items c.poll_transmit.new.buf.items _ _ c.poll_transmit.result old.core c.poll_transmit.new.self e.some e.none e.err)
+
+pub returns-clause-unsent : goal.returns-clause-unsent
+returns-clause-unsent g c =
+    on_err_weaker c.poll_transmit.result (λ h. record { core = inr h.1; queue = record { waiting = refl; sent = refl }; rest_is = refl }) c.poll_transmit.ensures.err

@@ -3,6 +3,8 @@ use Rattle.qh_conn.proofs.OutStill.{both_still, carries_after, control_held, dat
 use Rattle.qh_conn.specs.declared.connection.Connection.{Connection}
 use Rattle.qh_core.specs.Sending.{IsSilent as IsCoreSilent}
 use Rattle.qh_conn.proofs.Same.{both_same}
+use Rattle.std.proofs.lemmas.Result.{on_err_weaker}
+use Rattle.qh_conn.proofs.Over.{unsent_after}
 use Rattle.qh_conn.proofs.connection.Connection.transmit_data.Goals as goal
 
 pub returns-clause-some : goal.returns-clause-some
@@ -32,3 +34,8 @@ returns-clause-turns g c =
 
 pub returns-clause-same : goal.returns-clause-same
 returns-clause-same g c = both_same g.S.Session.key c.args.self.now c.transmit_control.new.self c.transmit_in_turn-2.new.self c.transmit_control.ensures.same c.transmit_in_turn-2.ensures.same
+
+pub returns-clause-unsent : goal.returns-clause-unsent
+returns-clause-unsent g c =
+    let n = c.in_ok-transmit.ensures.none c.in_default.is in
+    on_err_weaker c.transmit_in_turn-2.result (λ u. unsent_after c.args.self.now c.transmit_control.new.self c.transmit_in_turn-2.new.self n.2 u) c.transmit_in_turn-2.ensures.unsent

@@ -19,6 +19,8 @@ use Rattle.qh_spec.specs.declared.sides.Space.TheVariants.{Data}
 use Rattle.qh_conn.proofs.SameParts.{control_stays, out_same}
 use Rattle.qh_conn.proofs.Same.{both_same, control_by, control_kept, noted_same, same_control, same_flags, same_self, same_then}
 use Rattle.qh_conn.specs.declared.connection.Connection.{Connection}
+use Rattle.std.proofs.Common.{inl, inr}
+use Rattle.qh_conn.proofs.Noted.{any_err}
 use Rattle.qh_conn.proofs.connection.Connection.transmit_datagrams.Goals as goal
 
 pub transmit_control-requires : goal.transmit_control-requires
@@ -150,3 +152,18 @@ returns-clause-same g c =
     (control_by old.control out _ (c.datagrams_sent.ensures.some sent.some) (control_kept old.control refl)) in
     both_same g.S.Session.key old n _ (both_same g.S.Session.key old mid n sends (same_then g.S.Session.key mid _ n c.note_in.ensures.value (noted_same g.S.Session.key _ _ mid)))
     (same_flags g.S.Session.key n n.is_data_due n.is_connected_due false n.is_lost_logged)
+
+pub returns-in_err-entries-clause-unsent : goal.returns-in_err-entries-clause-unsent
+returns-in_err-entries-clause-unsent g c =
+    let old = c.args.self.now in
+    any_err _ c.from_residual-in_err-entries.result
+    (record { core = inl refl; queue = record { waiting = refl; sent = refl }; rest_is = ap (λ (z : Option (List ConnectionItem)). record old { control = record old.control { log = z } }) c.in_err-entries.ensures.err })
+
+pub returns-in_default-clause-unsent : goal.returns-in_default-clause-unsent
+returns-in_default-clause-unsent g c =
+    let old = c.args.self.now in
+    record {
+      core = inr c.in_default.ensures.err.1;
+      queue = record { waiting = refl; sent = refl };
+      rest_is = ap (λ (z : Option (List ConnectionItem)). record old { core = c.transmit_control.new.self; control = record old.control { log = z } }) (c.give_back.ensures ∙ c.in_ok-entries.ensures.ok);
+    }

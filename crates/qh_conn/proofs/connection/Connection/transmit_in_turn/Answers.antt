@@ -1,6 +1,8 @@
 use Rattle.std.proofs.Common.{◌∙◌, true}
 use Rattle.qh_conn.proofs.OutStill.{both_still, carries_after, control_held, data_after, none_of, stays_still}
 use Rattle.qh_conn.proofs.Same.{both_same, same_flags}
+use Rattle.std.proofs.lemmas.Result.{on_err_weaker}
+use Rattle.qh_conn.proofs.Over.{unsent_after}
 use Rattle.qh_conn.proofs.connection.Connection.transmit_in_turn.Goals as goal
 
 pub returns-clause-some : goal.returns-clause-some
@@ -29,3 +31,8 @@ returns-in-Some-clause-same g c =
 
 pub returns-clause-same : goal.returns-clause-same
 returns-clause-same g c = both_same g.S.Session.key c.args.self.now c.transmit_core.new.self c.transmit_control.new.self c.transmit_core.ensures.same c.transmit_control.ensures.same
+
+pub returns-clause-unsent : goal.returns-clause-unsent
+returns-clause-unsent g c =
+    let n = c.in_ok-transmit.ensures.none c.in_default.is in
+    on_err_weaker c.transmit_control.result (λ u. unsent_after c.args.self.now c.transmit_core.new.self c.transmit_control.new.self (stays_still c.args.self.now c.transmit_core.new.self n.1) u) c.transmit_control.ensures.unsent

@@ -25,6 +25,7 @@ use Rattle.qh_conn.proofs.SameParts.{initial_same}
 use Rattle.qh_conn.proofs.Same.{moment_stays, same_handshake, same_then}
 use Rattle.qh_handshake.proofs.GoingOn.{made_goes, same_goes, unsent_goes}
 use Rattle.qh_handshake.specs.GoesOn.{GoesOn}
+use Rattle.qh_conn.proofs.Noted.{any_err}
 use Rattle.qh_conn.proofs.connection.Connection.transmit_initial.Goals as goal
 use Rattle.qh_conn.proofs.connection.Connection.transmit_initial.Goals.{then-sent, else-sent}
 
@@ -122,3 +123,6 @@ returns-clause-same g c =
     same_then g.S.Session.key old next c.if-sent.self (noted_is g c)
     (initial_same g.S.Session.key old h next.core
     (made_goes (g.S.Session.sealed old.core.session) c.args.now c.args.buf.now.items c.poll_transmit.new.buf.items old.handshake h c.in-Some.sent.size some.0) (moment_stays old.core next.core next.core.idle refl))
+
+pub returns-in_err-sent-clause-unsent : goal.returns-in_err-sent-clause-unsent
+returns-in_err-sent-clause-unsent g c = any_err _ c.from_residual.result (c.in_err-sent.ensures.unsent, refl)

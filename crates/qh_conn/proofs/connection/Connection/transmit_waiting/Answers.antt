@@ -9,6 +9,9 @@ use Rattle.qh_core.specs.declared.inner.Inner.{Inner}
 use Rattle.qh_spec.specs.declared.sides.Space.TheVariants.{Data}
 use Rattle.qh_conn.proofs.SameParts.{control_stays, out_same}
 use Rattle.qh_conn.proofs.Same.{control_kept, same_control}
+use Rattle.std.proofs.Common.{inl, inr}
+use Rattle.qh_conn.proofs.Noted.{any_err}
+use Rattle.qh_control.specs.Queue.{PlainQueue}
 use Rattle.qh_conn.proofs.connection.Connection.transmit_waiting.Goals as goal
 
 pub returns-in_err-sent-clause-carries : goal.returns-in_err-sent-clause-carries
@@ -110,3 +113,14 @@ returns-clause-same g c =
     let e = c.transmit_control.ensures in
     out_same g.S.Session.key old c.transmit_control.new.self (record old.control { queue = c.on_sent.new.self }) false
     (control_stays _ c.args.now c.args.buf.now.items c.transmit_control.new.buf.items c.waiting-frames.result.now _ _ _ c.transmit_control.result old.core c.transmit_control.new.self e.some e.none e.err) (control_kept old.control refl)
+
+pub returns-in_err-reserve-clause-unsent : goal.returns-in_err-reserve-clause-unsent
+returns-in_err-reserve-clause-unsent g c =
+    let is = c.reserve.ensures.rest in
+    any_err _ c.from_residual.result (record { core = inl refl; queue = record { waiting = ap (λ (z : PlainQueue). z.waiting) is; sent = ap (λ (z : PlainQueue). z.sent) is }; rest_is = refl })
+
+pub returns-in_err-sent-clause-unsent : goal.returns-in_err-sent-clause-unsent
+returns-in_err-sent-clause-unsent g c =
+    let is = c.in_ok-reserve.ensures.rest in
+    any_err _ c.from_residual-in_err-sent.result
+    (record { core = inr c.in_err-sent.ensures.err.1; queue = record { waiting = ap (λ (z : PlainQueue). z.waiting) is; sent = ap (λ (z : PlainQueue). z.sent) is }; rest_is = refl })
