@@ -14,8 +14,8 @@ use Rattle.qh_spec.specs.Words.{Command, IsCommand, Exchange, Make, Workers, Tok
 use Rattle.qh_exchange.specs.declared.ending.Ending.{Ending}
 use Rattle.qh_exchange.specs.declared.ending.Outcome.{Outcome}
 use Rattle.qh_exchange.specs.declared.ending.Outcome.TheVariants.{Done, Failed}
-use Rattle.qh_exchange.specs.declared.error.ExchangeError.{ExchangeError}
-use Rattle.qh_exchange.specs.declared.error.ExchangeError.TheVariants.{Invalid, Link, TimedOut, OutOfRounds, Protocol, Memory}
+use Rattle.qh_pair.specs.declared.error.ExchangeError.{ExchangeError}
+use Rattle.qh_pair.specs.declared.error.ExchangeError.TheVariants.{Invalid, Link, TimedOut, OutOfRounds, Protocol, Memory}
 use Rattle.qh_exchange.specs.Endings.{EndsLooked, all_looked, wanting_tokens}
 use Rattle.qh_exchange.specs.Ending.{error_status, line_of, status_of, text_of}
 use Rattle.qh_exchange.specs.Program.{HasRun, ScriptEnds, answered, failed, unlisted, unreported, neither, TextEnds, refused, unbuilt, ran, wanting, TokensEnd, looked, Ends, usage, unbuilt_words, read_fault, unread, read, tokens, AreLookedAt, IsAnswered}

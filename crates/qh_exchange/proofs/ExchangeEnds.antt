@@ -15,20 +15,21 @@ use Rattle.qh_spec.specs.declared.sides.Side.TheVariants.{Client, Server}
 use Rattle.qh_spec.specs.Message.{PlainMessage}
 use Rattle.qh_spec.specs.Record.{PlainEntry}
 use Rattle.qh_spec.proofs.HeadlineLaws.{served_nothing}
-use Rattle.qh_exchange.specs.declared.ends.Ids.{Ids}
-use Rattle.qh_exchange.specs.declared.error.ExchangeError.{ExchangeError}
-use Rattle.qh_exchange.specs.declared.error.ExchangeError.TheVariants as error
-use Rattle.qh_exchange.specs.Clock.{HasPassed, HasTimedOut}
-use Rattle.qh_exchange.specs.Exchange.{EndsAs, IfInvalid, IfLink, IfOutOfRounds, IfProtocol, IfTimedOut}
-use Rattle.qh_exchange.specs.Full.{AreFullTurns}
-use Rattle.qh_exchange.specs.Hellos.{AreGreetedAsSet, AreGreetedFirst, AreSaidAsSet, HaveIdsOfLength, LeaveIdleTime}
-use Rattle.qh_exchange.specs.Pair.{PairState, Running, WentOn, GoesOn, Means, KeepWithin}
-use Rattle.qh_exchange.specs.Rounds.{IsAsked, IsRoundsError, IsRunOut, RoundsMade}
-use Rattle.qh_exchange.specs.Settings.{whole_idle}
-use Rattle.qh_exchange.specs.Turn.{IsProtocolLoss, RanOut, WasIdle, WasLost, WasMade, WasTimedOut}
+use Rattle.qh_pair.specs.declared.ends.Ids.{Ids}
+use Rattle.qh_pair.specs.declared.error.ExchangeError.{ExchangeError}
+use Rattle.qh_pair.specs.declared.error.ExchangeError.TheVariants as error
+use Rattle.qh_pair.specs.Clock.{HasPassed, HasTimedOut}
+use Rattle.qh_pair.specs.Errors.{EndsAs, IfInvalid, IfLink, IfOutOfRounds, IfProtocol, IfTimedOut}
+use Rattle.qh_pair.specs.Full.{AreFullTurns}
+use Rattle.qh_pair.specs.Hellos.{AreGreetedAsSet, AreGreetedFirst, AreSaidAsSet, HaveIdsOfLength, LeaveIdleTime}
+use Rattle.qh_pair.specs.Pair.{PairState, Running, WentOn, GoesOn, Means, KeepWithin}
+use Rattle.qh_pair.specs.Asked.{IsAsked}
+use Rattle.qh_exchange.specs.Rounds.{IsRoundsError, IsRunOut, RoundsMade}
+use Rattle.qh_pair.specs.Settings.{whole_idle}
+use Rattle.qh_pair.specs.Turn.{IsProtocolLoss, RanOut, WasIdle, WasLost, WasMade, WasTimedOut}
 use Rattle.qh_exchange.proofs.AskedLists.{no_such}
-use Rattle.qh_exchange.proofs.Faults.{fault_again}
-use Rattle.qh_exchange.proofs.Hellos.{none_greets}
+use Rattle.qh_pair.proofs.Faults.{fault_again}
+use Rattle.qh_pair.proofs.Hellos.{none_greets}
 use Rattle.qh_exchange.proofs.Rounds.{idle_of}
 
 -- where a pair stands that went on from where nothing had happened

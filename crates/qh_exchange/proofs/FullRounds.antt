@@ -4,9 +4,9 @@ use Rattle.std.proofs.lemmas.List.{append_cancel_left}
 use Rattle.qh_spec.specs.declared.link.Event.{Event}
 use Rattle.qh_spec.specs.Message.{PlainMessage}
 use Rattle.qh_spec.specs.Record.{PlainEntry}
-use Rattle.qh_exchange.specs.Full.{AreFullTurns, EndsInFullTurn, IsFullTurn}
-use Rattle.qh_exchange.specs.Pair.{PairState, Running, WentOn, GoesOn}
-use Rattle.qh_exchange.specs.Turn.{Adds}
+use Rattle.qh_pair.specs.Full.{AreFullTurns, EndsInFullTurn, IsFullTurn}
+use Rattle.qh_pair.specs.Pair.{PairState, Running, WentOn, GoesOn}
+use Rattle.qh_pair.specs.Turn.{Adds}
 
 -- one full turn more
 full_more : (requests : List PlainMessage) (n : ℕ) (before es turn : List Event) (entries : List PlainEntry) (q : PairState) → AreFullTurns requests n before es → q.client.requests ≡ requests

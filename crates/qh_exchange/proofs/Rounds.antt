@@ -9,16 +9,16 @@ use Rattle.qh_spec.specs.Message.{PlainMessage}
 use Rattle.qh_spec.specs.Record.{PlainEntry}
 use Rattle.qh_spec.specs.Turns.{IsWholeTurn, AreWholeTurns}
 use Rattle.qh_spec.proofs.Members.{in_split}
-use Rattle.qh_exchange.specs.declared.error.ExchangeError.{ExchangeError}
-use Rattle.qh_exchange.specs.declared.error.ExchangeError.TheVariants as error
-use Rattle.qh_exchange.specs.Clock.{ClocksOn, HasTimedOut, IsClocked, RunsByTheClock}
-use Rattle.qh_exchange.specs.Exchange.{IfOutOfRounds, IfProtocol, IfTimedOut}
-use Rattle.qh_exchange.specs.Full.{EndsInFullTurn, IsFullTurn}
-use Rattle.qh_exchange.specs.Pair.{PairState, Running, WentOn, GoesOn}
+use Rattle.qh_pair.specs.declared.error.ExchangeError.{ExchangeError}
+use Rattle.qh_pair.specs.declared.error.ExchangeError.TheVariants as error
+use Rattle.qh_pair.specs.Clock.{ClocksOn, HasTimedOut, IsClocked, RunsByTheClock}
+use Rattle.qh_pair.specs.Errors.{IfOutOfRounds, IfProtocol, IfTimedOut}
+use Rattle.qh_pair.specs.Full.{EndsInFullTurn, IsFullTurn}
+use Rattle.qh_pair.specs.Pair.{PairState, Running, WentOn, GoesOn}
 use Rattle.qh_exchange.specs.Rounds.{IsRoundsError, IsRunOut, RoundsMade}
-use Rattle.qh_exchange.specs.Turn.{Adds, IsProtocolLoss, IsTurnError, WasTimedOut}
+use Rattle.qh_pair.specs.Turn.{Adds, IsProtocolLoss, IsTurnError, WasTimedOut}
 use Rattle.qh_exchange.proofs.FullRounds.{AddsFullTurns, adds_full, ends_full}
-use Rattle.qh_exchange.proofs.Turns.{protocol_again}
+use Rattle.qh_pair.proofs.Turns.{protocol_again}
 
 -- a pair that did nothing, and one that went on twice
 pub goes_refl : (p : PairState) (t : Option (List Event)) (r : List PlainEntry) → GoesOn p t r p t r

@@ -7,14 +7,15 @@ use Rattle.qh_conn.specs.declared.config.ConnConfig.{ConnConfig}
 use Rattle.qh_spec.specs.declared.link.Event.{Event}
 use Rattle.qh_spec.specs.Honest.{IsHonest}
 use Rattle.qh_spec.specs.Record.{PlainEntry}
-use Rattle.qh_exchange.specs.declared.ends.Ids.{Ids}
-use Rattle.qh_exchange.specs.declared.error.ExchangeError.{ExchangeError}
-use Rattle.qh_exchange.specs.declared.error.ExchangeError.TheVariants as error
-use Rattle.qh_exchange.specs.Exchange.{EndsAs, IsListError}
-use Rattle.qh_exchange.specs.Pair.{GoesOn, IsFair, PairState, Running, WentOn}
+use Rattle.qh_pair.specs.declared.ends.Ids.{Ids}
+use Rattle.qh_pair.specs.declared.error.ExchangeError.{ExchangeError}
+use Rattle.qh_pair.specs.declared.error.ExchangeError.TheVariants as error
+use Rattle.qh_pair.specs.Errors.{EndsAs}
+use Rattle.qh_exchange.specs.Exchange.{IsListError}
+use Rattle.qh_pair.specs.Pair.{GoesOn, IsFair, PairState, Running, WentOn}
 use Rattle.qh_exchange.specs.Rounds.{AreFair}
-use Rattle.qh_exchange.specs.Sound.{EndsFairly}
-use Rattle.qh_exchange.proofs.Fairness.{fair_again}
+use Rattle.qh_pair.specs.Sound.{EndsFairly}
+use Rattle.qh_pair.proofs.Fairness.{fair_again}
 use Rattle.qh_exchange.proofs.ExchangeEnds.{ends_by}
 use Rattle.qh_exchange.proofs.Rounds.{AreMade}
 

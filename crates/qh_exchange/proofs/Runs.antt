@@ -23,21 +23,22 @@ use Rattle.qh_spec.specs.Service.{echo}
 use Rattle.qh_spec.specs.Validity.{IsFaultIndex, IsValidList}
 use Rattle.qh_script.specs.Report.{HaveMaps, report_by}
 use Rattle.qh_spec.proofs.Schedules.{unforged_is_honest}
-use Rattle.qh_exchange.specs.declared.error.ExchangeError.{ExchangeError}
-use Rattle.qh_exchange.specs.declared.error.ExchangeError.TheVariants.{Invalid, Link, TimedOut, OutOfRounds, Protocol, Memory}
+use Rattle.qh_pair.specs.declared.error.ExchangeError.{ExchangeError}
+use Rattle.qh_pair.specs.declared.error.ExchangeError.TheVariants.{Invalid, Link, TimedOut, OutOfRounds, Protocol, Memory}
 use Rattle.qh_exchange.specs.declared.ending.Ending.{Ending}
 use Rattle.qh_exchange.specs.declared.ending.Outcome.TheVariants.{Failed, Unlisted}
 use Rattle.qh_exchange.specs.Ending.{status_of, text_of}
 use Rattle.qh_exchange.specs.Endings.{EndsAnswered, EndsFailed, IsRunAs, listed, left_out, reported, wanting}
-use Rattle.qh_exchange.specs.Exchange.{IfInvalid, IfLink, IfOutOfRounds, IfProtocol, IfTimedOut, IsInvalidAnswer}
-use Rattle.qh_exchange.specs.Pair.{KeepWithin}
+use Rattle.qh_pair.specs.Errors.{IfInvalid, IfLink, IfOutOfRounds, IfProtocol, IfTimedOut}
+use Rattle.qh_exchange.specs.Exchange.{IsInvalidAnswer}
+use Rattle.qh_pair.specs.Pair.{KeepWithin}
 use Rattle.qh_exchange.specs.Program.{AreEchoes, HasRun, ScriptEnds, answered, failed, unlisted, unreported, neither}
-use Rattle.qh_exchange.specs.Hellos.{AreGreetedAsSet, AreGreetedFirst, AreSaidAsSet, HaveIdsOfLength, LeaveIdleTime}
-use Rattle.qh_exchange.specs.Settings.{conn_config, whole_idle}
-use Rattle.qh_exchange.specs.Sound.{EndsFairly}
-use Rattle.qh_exchange.specs.Turn.{AddsFault, EndsInFault, HasWaitedFor, RanOut, WasIdle, WasLost, has_link_failed}
-use Rattle.qh_exchange.proofs.Fairness.{fair_again}
-use Rattle.qh_exchange.proofs.Faults.{fault_again, fault_last, fault_whole}
+use Rattle.qh_pair.specs.Hellos.{AreGreetedAsSet, AreGreetedFirst, AreSaidAsSet, HaveIdsOfLength, LeaveIdleTime}
+use Rattle.qh_pair.specs.Settings.{conn_config, whole_idle}
+use Rattle.qh_pair.specs.Sound.{EndsFairly}
+use Rattle.qh_pair.specs.Turn.{AddsFault, EndsInFault, HasWaitedFor, RanOut, WasIdle, WasLost, has_link_failed}
+use Rattle.qh_pair.proofs.Fairness.{fair_again}
+use Rattle.qh_pair.proofs.Faults.{fault_again, fault_last, fault_whole}
 use Rattle.qh_exchange.proofs.Endings.{ends_by, ends_done}
 use Rattle.qh_exchange.proofs.Reported.{reported as told_of}
 

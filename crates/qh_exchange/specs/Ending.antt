@@ -4,8 +4,8 @@ use Rattle.qh_spec.specs.Report.{newline}
 use Rattle.qh_exchange.specs.declared.ending.Ending.{Ending}
 use Rattle.qh_exchange.specs.declared.ending.Outcome.{Outcome}
 use Rattle.qh_exchange.specs.declared.ending.Outcome.TheVariants.{Done, Unknown, Refused, Failed, Unlisted, ReadFault, Unbuilt}
-use Rattle.qh_exchange.specs.declared.error.ExchangeError.{ExchangeError}
-use Rattle.qh_exchange.specs.declared.error.ExchangeError.TheVariants.{Invalid, Link, TimedOut, OutOfRounds, Protocol, Memory}
+use Rattle.qh_pair.specs.declared.error.ExchangeError.{ExchangeError}
+use Rattle.qh_pair.specs.declared.error.ExchangeError.TheVariants.{Invalid, Link, TimedOut, OutOfRounds, Protocol, Memory}
 
 -- ---- the status of an error of an exchange, and its line
 

@@ -12,8 +12,8 @@ use Rattle.qh_spec.specs.TokenScript.{token_report}
 use Rattle.qh_script.specs.Report.{HaveMaps, report_by}
 use Rattle.qh_exchange.specs.declared.ending.Ending.{Ending}
 use Rattle.qh_exchange.specs.declared.ending.Outcome.TheVariants.{Done, Failed, Unlisted}
-use Rattle.qh_exchange.specs.declared.error.ExchangeError.{ExchangeError}
-use Rattle.qh_exchange.specs.declared.error.ExchangeError.TheVariants.{Memory}
+use Rattle.qh_pair.specs.declared.error.ExchangeError.{ExchangeError}
+use Rattle.qh_pair.specs.declared.error.ExchangeError.TheVariants.{Memory}
 
 -- the error, behind the entries of the record or the line that says that they aren't listed
 pub data EndsFailed (served : List PlainEntry) (e : ExchangeError) (ending : Ending) : Type 0 where

@@ -18,16 +18,17 @@ use Rattle.qh_spec.specs.Words.{Command, Exchange, Tokens, IsCommand, AreUnknown
 use Rattle.qh_link.specs.ScriptLink.{PlainLink}
 use Rattle.qh_plain.specs.Undecided.{IsUndecidedList}
 use Rattle.qh_script.specs.Report.{report_by}
-use Rattle.qh_exchange.specs.declared.error.ExchangeError.{ExchangeError}
-use Rattle.qh_exchange.specs.declared.error.ExchangeError.TheVariants.{Memory}
+use Rattle.qh_pair.specs.declared.error.ExchangeError.{ExchangeError}
+use Rattle.qh_pair.specs.declared.error.ExchangeError.TheVariants.{Memory}
 use Rattle.qh_exchange.specs.Ending.{error_line, error_status, read_fault_line, refused_line, unbuilt_line, unlisted_line, usage_line}
-use Rattle.qh_exchange.specs.Exchange.{IfInvalid, IfLink, IfOutOfRounds, IfProtocol, IfTimedOut, IsInvalidAnswer}
-use Rattle.qh_exchange.specs.Pair.{KeepWithin}
+use Rattle.qh_pair.specs.Errors.{IfInvalid, IfLink, IfOutOfRounds, IfProtocol, IfTimedOut}
+use Rattle.qh_exchange.specs.Exchange.{IsInvalidAnswer}
+use Rattle.qh_pair.specs.Pair.{KeepWithin}
 use Rattle.qh_exchange.specs.Reading.{HasRead, IsRead, IsInput, IsAppended, IsWritten}
-use Rattle.qh_exchange.specs.Hellos.{AreGreetedAsSet, AreGreetedFirst, AreSaidAsSet, HaveIdsOfLength, LeaveIdleTime}
-use Rattle.qh_exchange.specs.Settings.{conn_config, whole_idle}
-use Rattle.qh_exchange.specs.Sound.{EndsFairly}
-use Rattle.qh_exchange.specs.Turn.{EndsInFault, HasWaitedFor, RanOut, WasIdle, WasLost, has_link_failed}
+use Rattle.qh_pair.specs.Hellos.{AreGreetedAsSet, AreGreetedFirst, AreSaidAsSet, HaveIdsOfLength, LeaveIdleTime}
+use Rattle.qh_pair.specs.Settings.{conn_config, whole_idle}
+use Rattle.qh_pair.specs.Sound.{EndsFairly}
+use Rattle.qh_pair.specs.Turn.{EndsInFault, HasWaitedFor, RanOut, WasIdle, WasLost, has_link_failed}
 use Rattle.qh_exchange.specs.Unbuilt.{IsUnbuiltAt}
 
 -- ---- what is done

@@ -1,32 +1,17 @@
 -- What the rounds of an exchange leave of its pair.
-use Rattle.std.specs.Prelude.{◌≡◌, ◌≢◌, ◌<◌, ℕ, suc, false, List, [], ◌++◌, Option, Some, Result, IfErr, IfOk, length}
-use Rattle.qh_conn.specs.declared.config.ConnConfig.{ConnConfig}
+use Rattle.std.specs.Prelude.{◌≡◌, ◌<◌, ℕ, suc, List, ◌++◌, Option, Some, Result, IfErr, IfOk, length}
 use Rattle.qh_roles.specs.Client.{held}
-use Rattle.qh_service.specs.declared.service.Limits.{Limits}
 use Rattle.qh_spec.specs.declared.link.Event.{Event}
 use Rattle.qh_spec.specs.Honest.{IsHonest}
-use Rattle.qh_spec.specs.Message.{PlainMessage}
 use Rattle.qh_spec.specs.Record.{PlainEntry}
 use Rattle.qh_spec.specs.Turns.{AreWholeTurns}
-use Rattle.qh_exchange.specs.Clock.{IsClocked}
-use Rattle.qh_exchange.specs.Exchange.{IfOutOfRounds, IfProtocol, IfTimedOut}
-use Rattle.qh_exchange.specs.Full.{AreFullTurns, EndsInFullTurn}
-use Rattle.qh_exchange.specs.Pair.{PairState, Running, GoesOn, id_length}
-use Rattle.qh_exchange.specs.Sound.{EndsFairly}
-use Rattle.qh_exchange.specs.Turn.{Adds, IsProtocolLoss, WasTimedOut}
-use Rattle.qh_exchange.specs.declared.error.ExchangeError.{ExchangeError}
-use Rattle.qh_exchange.specs.declared.error.ExchangeError.TheVariants.{Invalid}
-
--- a pair before its first turn, with requests of which none is answered
-pub record IsAsked (id_length : ℕ) (config : ConnConfig) (limits : Limits) (requests : List PlainMessage) (p : PairState) : Type 0 where
-  pub running : Running p [] []
-  pub clocked : IsClocked p []
-  pub ids : length p.ids.client ≡ id_length
-  pub config_is : p.config ≡ config
-  pub limits_are : p.server.limits ≡ limits
-  pub asked : p.client.requests ≡ requests
-  pub lacks : held p.client.answers ≢ length p.client.requests
-  pub going : p.is_over ≡ false
+use Rattle.qh_pair.specs.Errors.{IfOutOfRounds, IfProtocol, IfTimedOut}
+use Rattle.qh_pair.specs.Full.{AreFullTurns, EndsInFullTurn}
+use Rattle.qh_pair.specs.Pair.{PairState, Running, GoesOn, id_length}
+use Rattle.qh_pair.specs.Sound.{EndsFairly}
+use Rattle.qh_pair.specs.Turn.{Adds, IsProtocolLoss, WasTimedOut}
+use Rattle.qh_pair.specs.declared.error.ExchangeError.{ExchangeError}
+use Rattle.qh_pair.specs.declared.error.ExchangeError.TheVariants.{Invalid}
 
 -- exactly so many rounds were made, each a whole turn where the events are told, and a full one, and an answer is missing
 pub record IsRunOut (rounds : ℕ) (old p : PairState) (told_before told_after : Option (List Event)) (moments_before moments_after : List ℕ) (served_before : List PlainEntry) : Type 0 where

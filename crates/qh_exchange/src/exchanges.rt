@@ -6,21 +6,20 @@ ghost use Rattle.qh_spec.specs.Fault.{CountsFaults};
 ghost use Rattle.qh_spec.specs.Headline.{ServedOnce, AnsweredOnce};
 ghost use Rattle.qh_spec.specs.Honest.{IsHonest};
 ghost use Rattle.qh_spec.specs.Validity.{IsFaultIndex, IsValidList};
-ghost use Rattle.qh_exchange.specs.Exchange.{EndsAs, IfInvalid, IfLink, IfMemory, IfOutOfRounds, IfProtocol, IfTimedOut, IsInvalidAnswer, IsListError};
-ghost use Rattle.qh_exchange.specs.Clock.{IsClocked};
-ghost use Rattle.qh_exchange.specs.Pair.{KeepWithin};
-ghost use Rattle.qh_exchange.specs.Rounds.{AreFair, IsAsked, RoundsMade};
+ghost use Rattle.qh_pair.specs.Errors.{IfInvalid, IfLink, IfMemory, IfOutOfRounds, IfProtocol, IfTimedOut};
+ghost use Rattle.qh_exchange.specs.Exchange.{IsInvalidAnswer, IsListError};
+ghost use Rattle.qh_pair.specs.Clock.{IsClocked};
+ghost use Rattle.qh_pair.specs.Pair.{KeepWithin};
+ghost use Rattle.qh_pair.specs.Asked.{IsAsked};
+ghost use Rattle.qh_exchange.specs.Rounds.{AreFair, RoundsMade};
 ghost use Rattle.qh_roles.specs.Client.{held};
-ghost use Rattle.qh_exchange.specs.Hellos.{AreGreetedAsSet, AreGreetedFirst, AreSaidAsSet, HaveIdsOfLength, LeaveIdleTime};
-ghost use Rattle.qh_exchange.specs.Settings.{conn_config, limits_of, whole_idle};
-ghost use Rattle.qh_exchange.specs.Sound.{EndsFairly};
-ghost use Rattle.qh_exchange.specs.Turn.{AddsFault, HasWaitedFor, RanOut, WasIdle, WasLost, has_link_failed};
+ghost use Rattle.qh_pair.specs.Hellos.{AreGreetedAsSet, AreGreetedFirst, AreSaidAsSet, HaveIdsOfLength, LeaveIdleTime};
+ghost use Rattle.qh_pair.specs.Settings.{conn_config, limits_of, whole_idle};
+ghost use Rattle.qh_pair.specs.Sound.{EndsFairly};
+ghost use Rattle.qh_pair.specs.Turn.{AddsFault, HasWaitedFor, RanOut, WasIdle, WasLost, has_link_failed};
 ghost use Rattle.qh_roles.specs.Server.{GrewByAnswers};
 
 use crate::{Config, ExchangeError, Link, Message, Pair, Service, pairs, valid};
-use qh_base::Memory;
-use qh_message::writable;
-use qh_roles::Client;
 use std::alloc::Global;
 
 /// Exchanges requests for answers between a client and a server over a link, in at most so many rounds: `answers[i]`
@@ -96,7 +95,7 @@ pub fn exchange<V: Service, L: Link>(
     let mut pair = valid_pair(alloc, config, requests)?;
     pairs();
     let made = make_rounds(&mut pair, service, link, rounds);
-    answers_of(pair, made)
+    pair.end(made)
 }
 
 // A pair before its first turn, with copies of these requests, where they are valid.
@@ -111,29 +110,7 @@ fn valid_pair(alloc: Global, config: &Config, requests: &[Message]) -> Result<Pa
     ensures errors { IfErr result IsListError }
 {
     valid(config, requests)?;
-    Ok(asked_pair(alloc, config, requests)?)
-}
-
-// The same of requests that are valid.
-fn asked_pair(alloc: Global, config: &Config, requests: &[Message]) -> Result<Pair, Memory>
-    requires config { Fits config.now }
-    requires some { requests.now ≢ [] }
-    requires valid { IsValidList config.now.max_requests config.now.max_field_section_size config.now.max_request_body requests.now }
-    ensures { IfOk result (IsAsked config.now.local_id_len (conn_config config.now) (limits_of config.now) requests.now) }
-{
-    writable();
-    let mut client = Client::new(alloc);
-    client.ask(alloc, requests)?;
-    Ok(Pair::of_client(alloc, config, client))
-}
-
-// The answers that a pair holds once its rounds are made, or the error that ended them.
-fn answers_of(pair: Pair, made: Result<(), ExchangeError>) -> Result<Vec<Message>, ExchangeError>
-    ensures ends { EndsAs made result }
-    ensures answers { IfOk result (λ answers. held pair.client.answers ≡ length pair.client.requests → map Some answers.items ≡ pair.client.answers) }
-{
-    made?;
-    Ok(pair.into_answers()?)
+    Ok(Pair::asking(alloc, config, requests)?)
 }
 
 // Makes rounds until an answer is held for each request. `OutOfRounds` comes after exactly so many.

@@ -1,7 +1,8 @@
 ghost use Rattle.std.specs.Prelude.{◌≡◌, None, IfErr, IfOk, IfSome, OnErr};
 ghost use Rattle.qh_plain.specs.Undecided.{IsUndecidedList};
 ghost use Rattle.qh_spec.specs.Validity.{IsFaultIndex, IsValidList};
-ghost use Rattle.qh_exchange.specs.Exchange.{IfInvalid, IfMemory, IsListError};
+ghost use Rattle.qh_pair.specs.Errors.{IfInvalid, IfMemory};
+ghost use Rattle.qh_exchange.specs.Exchange.{IsListError};
 
 use crate::{Config, ExchangeError, Message};
 use qh_base::Memory;

@@ -3,15 +3,15 @@ use Rattle.std.proofs.lemmas.Result.{err_from_is_err_and}
 use Rattle.qh_spec.specs.Headline.{AnsweredOnce}
 use Rattle.qh_spec.specs.Message.{PlainMessage}
 use Rattle.qh_spec.proofs.HeadlineLaws.{served_nothing}
-use Rattle.qh_exchange.proofs.Turns.{grew_same, never_failed}
+use Rattle.qh_pair.proofs.Turns.{grew_same, never_failed}
 use Rattle.qh_exchange.proofs.RoundsFair.{fair_by, list_fairly}
 use Rattle.qh_exchange.proofs.AskedLists.{invalid_still, is_invalid, is_nothing, is_something, list_no_link, list_not_idle, list_not_lost, list_not_out, nothing_valid}
 use Rattle.qh_spec.specs.Fault.{CountsFaults}
-use Rattle.qh_exchange.specs.Settings.{conn_config}
-use Rattle.qh_exchange.specs.Turn.{has_link_failed}
+use Rattle.qh_pair.specs.Settings.{conn_config}
+use Rattle.qh_pair.specs.Turn.{has_link_failed}
 use Rattle.qh_exchange.proofs.ExchangeEnds.{answered_by, count_by, ends_by, fault_by, held_by, idle_by, invalid_by, lost_by, nothing_asked, out_by, served_once, tells, within_all, within_none, greeted_none, set_none, said_none, greeted_all, said_all, set_all, stays_pair, idle_all}
-use Rattle.qh_exchange.proofs.Faults.{no_fault}
-use Rattle.qh_exchange.proofs.TimedOut.{waited_for}
+use Rattle.qh_pair.proofs.Faults.{no_fault}
+use Rattle.qh_pair.proofs.TimedOut.{waited_for}
 use Rattle.qh_exchange.proofs.exchanges.exchange.Goals as goal
 
 -- ---- an empty list
@@ -127,17 +127,17 @@ pub returns-clause-empty : goal.returns-clause-empty
 returns-clause-empty g c = λ none. absurd (is_something _ c.if-is_empty.ensures none)
 
 pub returns-clause-invalid : goal.returns-clause-invalid
-returns-clause-invalid g c = invalid_by c.make_rounds-made.result c.answers_of.result _ c.answers_of.ensures.ends c.make_rounds-made.ensures.made.errors
+returns-clause-invalid g c = invalid_by c.make_rounds-made.result c.end.result _ c.end.ensures.ends c.make_rounds-made.ensures.made.errors
 
 pub returns-clause-cause : goal.returns-clause-cause
 returns-clause-cause g c =
-    ends_by c.make_rounds-made.result c.answers_of.result (λ z. CountsFaults (g.L.Link.faults c.args.link.now) (g.L.Link.faults c.make_rounds-made.new.link) (has_link_failed z)) c.answers_of.ensures.ends
+    ends_by c.make_rounds-made.result c.end.result (λ z. CountsFaults (g.L.Link.faults c.args.link.now) (g.L.Link.faults c.make_rounds-made.new.link) (has_link_failed z)) c.end.ensures.ends
     (λ e is. subst (λ z. CountsFaults (g.L.Link.faults c.args.link.now) (g.L.Link.faults c.make_rounds-made.new.link) (has_link_failed z)) is c.make_rounds-made.ensures.cause)
     (λ u is. subst (λ z. CountsFaults (g.L.Link.faults c.args.link.now) (g.L.Link.faults c.make_rounds-made.new.link) (has_link_failed z)) is c.make_rounds-made.ensures.cause)
     (λ x u is ok. subst (λ z. CountsFaults (g.L.Link.faults c.args.link.now) (g.L.Link.faults c.make_rounds-made.new.link) (has_link_failed z)) is c.make_rounds-made.ensures.cause)
 
 pub returns-clause-fault : goal.returns-clause-fault
-returns-clause-fault g c = fault_by c.make_rounds-made.result c.answers_of.result _ c.answers_of.ensures.ends c.make_rounds-made.ensures.fault
+returns-clause-fault g c = fault_by c.make_rounds-made.result c.end.result _ c.end.ensures.ends c.make_rounds-made.ensures.fault
 
 pub returns-clause-greeted_first : goal.returns-clause-greeted_first
 returns-clause-greeted_first g c = greeted_all c.pairs.ensures.honest _ _ _ _ _ _ _ c.in_ok-pair.ensures.asked.running c.in_ok-pair.ensures.asked.ids c.make_rounds-made.ensures.made.goes
@@ -150,38 +150,38 @@ returns-clause-sent_as_set g c = said_all c.pairs.ensures.said _ _ _ _ _ _ _ _ c
 
 pub returns-clause-waited : goal.returns-clause-waited
 returns-clause-waited g c =
-    idle_by c.make_rounds-made.result c.answers_of.result _ _ c.answers_of.ensures.ends
+    idle_by c.make_rounds-made.result c.end.result _ _ c.end.ensures.ends
     (waited_for _ _ _ _ (c.make_rounds-made.ensures.made.config_is ∙ c.in_ok-pair.ensures.asked.config_is)) c.make_rounds-made.ensures.made.timed_out
 
 pub returns-clause-timed_out : goal.returns-clause-timed_out
 returns-clause-timed_out g c =
-    λ before more te ue set. idle_by c.make_rounds-made.result c.answers_of.result _ _ c.answers_of.ensures.ends
+    λ before more te ue set. idle_by c.make_rounds-made.result c.end.result _ _ c.end.ensures.ends
     (idle_all c.pairs.ensures.timed_out _ _ _ _ _ _ _ _ _ _ c.in_ok-pair.ensures.asked.running c.in_ok-pair.ensures.asked.ids c.in_ok-pair.ensures.asked.config_is c.make_rounds-made.ensures.made.goes before more te ue set)
     c.make_rounds-made.ensures.made.timed_out
 
 pub returns-clause-fair : goal.returns-clause-fair
 returns-clause-fair g c =
-    fair_by c.make_rounds-made.result c.answers_of.result _ _ _ _ _ _ c.answers_of.ensures.ends c.in_ok-pair.ensures.asked.running c.in_ok-pair.ensures.asked.ids c.in_ok-pair.ensures.asked.config_is
+    fair_by c.make_rounds-made.result c.end.result _ _ _ _ _ _ c.end.ensures.ends c.in_ok-pair.ensures.asked.running c.in_ok-pair.ensures.asked.ids c.in_ok-pair.ensures.asked.config_is
     c.make_rounds-made.ensures.fair
 
 pub returns-clause-lost : goal.returns-clause-lost
 returns-clause-lost g c =
-    lost_by c.make_rounds-made.result c.answers_of.result _ _ _ _ _ _ _ _ _ c.answers_of.ensures.ends c.in_ok-pair.ensures.asked.running
+    lost_by c.make_rounds-made.result c.end.result _ _ _ _ _ _ _ _ _ c.end.ensures.ends c.in_ok-pair.ensures.asked.running
     (stays_pair c.in_ok-pair.ensures.asked c.make_rounds-made.ensures.made) c.make_rounds-made.ensures.made.goes c.make_rounds-made.ensures.made.lost
 
 pub returns-clause-out_of_rounds : goal.returns-clause-out_of_rounds
 returns-clause-out_of_rounds g c =
-    out_by c.make_rounds-made.result c.answers_of.result _ _ _ _ _ _ _ _ _ _ _ _ c.answers_of.ensures.ends (is_something _ c.if-is_empty.ensures) c.in_ok-pair.ensures.asked.running
+    out_by c.make_rounds-made.result c.end.result _ _ _ _ _ _ _ _ _ _ _ _ c.end.ensures.ends (is_something _ c.if-is_empty.ensures) c.in_ok-pair.ensures.asked.running
     (stays_pair c.in_ok-pair.ensures.asked c.make_rounds-made.ensures.made) c.make_rounds-made.ensures.made
 
 -- ---- the answers
 
 pub returns-clause-answered_once : goal.returns-clause-answered_once
 returns-clause-answered_once g c =
-    answered_by (λ v. v.items) c.make_rounds-made.result c.answers_of.result c.pairs.ensures.honest _ _ _ _ _ _ _ _ c.answers_of.ensures.ends c.in_ok-pair.ensures.asked.running c.in_ok-pair.ensures.asked.asked
-    c.in_ok-pair.ensures.asked.ids c.make_rounds-made.ensures.made.goes c.make_rounds-made.ensures.made.requests c.make_rounds-made.ensures.made.all c.answers_of.ensures.answers
+    answered_by (λ v. v.items) c.make_rounds-made.result c.end.result c.pairs.ensures.honest _ _ _ _ _ _ _ _ c.end.ensures.ends c.in_ok-pair.ensures.asked.running c.in_ok-pair.ensures.asked.asked
+    c.in_ok-pair.ensures.asked.ids c.make_rounds-made.ensures.made.goes c.make_rounds-made.ensures.made.requests c.make_rounds-made.ensures.made.all c.end.ensures.answers
 
 pub returns-clause-count : goal.returns-clause-count
 returns-clause-count g c =
-    count_by (λ v. v.items) c.make_rounds-made.result c.answers_of.result c.in_ok-pair.pair c.make_rounds-made.new.pair _ c.answers_of.ensures.ends c.in_ok-pair.ensures.asked.asked c.make_rounds-made.ensures.made.requests
-    c.make_rounds-made.ensures.made.all c.answers_of.ensures.answers
+    count_by (λ v. v.items) c.make_rounds-made.result c.end.result c.in_ok-pair.pair c.make_rounds-made.new.pair _ c.end.ensures.ends c.in_ok-pair.ensures.asked.asked c.make_rounds-made.ensures.made.requests
+    c.make_rounds-made.ensures.made.all c.end.ensures.answers

@@ -1,8 +1,8 @@
 use Rattle.std.proofs.Common.{◌≡◌, ◌∙◌, refl, Bool, true, false, arith}
 use Rattle.std.proofs.lemmas.Result.{err_from_is_err_and}
-use Rattle.qh_exchange.proofs.EndCounts.{counts_more as counts_after}
-use Rattle.qh_exchange.proofs.Faults.{fault_after, fault_again}
-use Rattle.qh_exchange.proofs.Turns.{never_failed, grew_none}
+use Rattle.qh_pair.proofs.EndCounts.{counts_more as counts_after}
+use Rattle.qh_pair.proofs.Faults.{fault_after, fault_again}
+use Rattle.qh_pair.proofs.Turns.{never_failed, grew_none}
 use Rattle.qh_exchange.proofs.RoundsFair.{rounds_fair}
 use Rattle.qh_exchange.proofs.Rounds.{grew_within, none_made, one_more, rounds_lost, rounds_done, rounds_out}
 use Rattle.qh_exchange.proofs.exchanges.make_rounds.Goals as goal

@@ -1,5 +1,0 @@
-use Rattle.qh_exchange.specs.EndCalls.{IsPolledOut}
-use Rattle.qh_exchange.proofs.ends.drop_events.Given as goal
-
-abbrev pub invariant-loop-event : goal.invariant-loop-event
-invariant-loop-event l = IsPolledOut l.fn.end l.end

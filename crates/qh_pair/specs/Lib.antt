@@ -1,0 +1,15 @@
+pub mod Asked
+pub mod Clock
+pub mod EndCalls
+pub mod Ends
+pub mod Error
+pub mod Errors
+pub mod Full
+pub mod Hellos
+pub mod Pair
+pub mod Settings
+pub mod Sound
+pub mod Steps
+pub mod Timed
+pub mod Turn
+pub mod Within
