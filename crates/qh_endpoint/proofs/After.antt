@@ -98,11 +98,11 @@ module _ {K G R T S : Type 0} (len : G → ℕ) (validates : G → List ℕ → 
   unknown_answered (Err e) mid new stranger id written size is size_is reset = tt
 
   pub unknown_unanswered : (result : Result (Option DatagramEvent) Memory) (mid new : PlainEndpoint K G R T) (stranger : Stranger) (id written : List ℕ) (size : ℕ) → stranger ≡ Unknown id → length datagram ≡ size
-      → OnErr result (IsResetEarly {S = S} len validates given drawn limits stands key sealed now addresses datagram mid → ⊥) → OnErr result (21 < size) → OnErr result (HasDrawn (drawn mid.words) (drawn new.words)) → OnErr result (new ≡ record mid { words = new.words }) → OnErr result (written ≡ [])
+      → OnErr result (IsResetEarly {S = S} len validates given drawn limits stands key sealed now addresses datagram mid → ⊥) → OnErr result (21 < size) → OnErr result (HasDrawn (size - 16) (drawn mid.words) (drawn new.words)) → OnErr result (new ≡ record mid { words = new.words }) → OnErr result (written ≡ [])
       → OnErr result (Follows (Unhandled new written) mid mid stranger)
   unknown_unanswered (Ok event) mid new stranger id written size is size_is late above words rest none = tt
   unknown_unanswered (Err e) mid new stranger id written size is size_is late above words rest none =
-      λ log h header route judged. resetting h mid id header route (rw is at judged) late (subst (λ (n : ℕ). 21 < n) (sym size_is) above) words rest none
+      λ log h header route judged. resetting h mid id header route (rw is at judged) late (subst (λ (n : ℕ). 21 < n) (sym size_is) above) (subst (λ (n : ℕ). HasDrawn (n - 16) (drawn mid.words) (drawn new.words)) (sym size_is) words) rest none
 
   pub closing_unanswered : {A : Type 0} (result : Result A Memory) (mid new : PlainEndpoint K G R T) (stranger : Stranger) (d s written : List ℕ) (code : TransportErrorCode) → stranger ≡ Refused d s code → IsUnclosed given mid new written
       → OnErr result (Follows (Unhandled new written) mid mid stranger)

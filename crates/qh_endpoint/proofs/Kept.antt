@@ -1,5 +1,5 @@
 -- Attempts that wait, with what is kept for them.
-use Rattle.std.proofs.Common.{◌≡◌, ◌↔◌, ◌⊎◌, ℕ, ◌+◌, ◌≤◌, ◌++◌, ◌∷◌, Bool, true, false, List, [], length, Option, Some, None, Result, Ok, Err, OnOk, OnErr, IfOk, IfErr, IsTrue, inl, inr, refl, ap, subst, ◌∙◌}
+use Rattle.std.proofs.Common.{◌≡◌, ◌↔◌, ℕ, ◌+◌, ◌≤◌, ◌++◌, ◌∷◌, Bool, true, false, List, [], length, Option, Some, None, Result, Ok, Err, OnOk, OnErr, IfOk, IfErr, IsTrue, refl, ap, subst, ◌∙◌}
 use Rattle.std.specs.Prelude.{IsSomeAnd, is_some, is_err, not}
 use Rattle.std.specs.declared.net.socket_addr.SocketAddr.{SocketAddr}
 use Rattle.qh_attempts.specs.Attempts.{HasInstead, HasRoom, IsPending, PlainAttempt, PlainBuffers, attempt_at, attempt_count, total_bytes}
@@ -49,11 +49,6 @@ waits_as b k a is p = subst (λ (o : Option (PlainAttempt Waiting)). IsSomeAnd o
 pub ok_so : {A E : Type 0} (r : Result A E) (P Q : Type 0) → (P → Q) → OnOk r P → OnOk r Q
 ok_so (Ok a) P Q f h = f h
 ok_so (Err x) P Q f h = h
-
--- what follows of either answer
-pub either : {A E : Type 0} (r : Result A E) (P Q R : Type 0) → OnOk r P → OnErr r Q → OnErr r R → P ⊎ (Q × R)
-either (Ok a) P Q R p q s = inl p
-either (Err x) P Q R p q s = inr (q, s)
 
 pub if_ok : {A E : Type 0} (r : Result A E) (P Q : A → Type 0) → ((a : A) → P a → Q a) → IfOk r P → IfOk r Q
 if_ok (Ok a) P Q f h = f a h

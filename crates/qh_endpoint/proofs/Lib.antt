@@ -4,6 +4,8 @@ mod Answers
 mod Connects
 mod Judged
 mod Kept
+mod Leading
 mod Reaching
 mod Retries
 mod Staying
+mod Tokens

@@ -6,13 +6,15 @@ use Rattle.qh_base.specs.declared.connection_error.ConnectionError.TheVariants.{
 use Rattle.qh_base.specs.declared.time.Moment.{Moment}
 use Rattle.qh_base.specs.declared.time.Span.{Span}
 use Rattle.qh_base.specs.declared.transport_error.TransportError.{TransportError as Fault}
-use Rattle.qh_conn.specs.Incoming.{IsDatagramHandled, IsOver}
+use Rattle.qh_conn.specs.Incoming.{IsDatagramHandled, IsOver, counted_at}
 use Rattle.qh_conn.specs.Same.{IsSameConnection}
+use Rattle.qh_conn.specs.Unread.{HasFailed, IsOverOf, IsUnread}
 use Rattle.qh_conn.specs.Whole.{CarriesOnBy, Stands}
 use Rattle.qh_conn.specs.declared.config.ConnConfig.{ConnConfig}
 use Rattle.qh_conn.specs.declared.connection.Connection.{Connection}
 use Rattle.qh_connections.specs.Connections.{AreExhausted, IsConnectionAdded, IsConnectionRemoved, IsKept, PlainConnections}
 use Rattle.qh_connections.specs.Ids.{AreNoneFresh, IsFreshId}
+use Rattle.qh_control.specs.declared.event.EndpointEvent.{EndpointEvent}
 use Rattle.qh_core.specs.Inner.{is_open}
 use Rattle.qh_core.specs.Made.{AcceptsTags, MakesTagsOf}
 use Rattle.qh_endpoint.specs.Closed.{IsClosed, IsClosedFrom, IsUnclosed, bare, refused, reply_to}
@@ -62,16 +64,44 @@ pub record IsOpened (accepts : AcceptsTag) (datagram : List ℕ) : Type 0 where
   pub begins : BeginsWithInitial datagram first destination source token body rest
   pub opened : IsInitialOpened accepts Client 0 first body number frames
 
--- its tag is refused, or it isn't one with the fixed bit, which an endpoint that greases that bit lets wait
-pub data IsRefusedTag (accepts : AcceptsTag) (datagram : List ℕ) : Type 0 where
-  unopened : (first : ℕ) (destination source token body rest : List ℕ) → BeginsWithInitial datagram first destination source token body rest
-      → ((number : ℕ) (frames : List ℕ) → IsInitialOpened accepts Client 0 first body number frames → ⊥) → IsRefusedTag accepts datagram
-  formless : ((front rest body : List ℕ) (first : ℕ) → datagram ≡ front ++ rest → IsInitialForm front first body → ⊥) → IsRefusedTag accepts datagram
+-- The datagram begins with an Initial packet of version 1 (section 17.2.2). One without the fixed bit doesn't, which an endpoint that greases that bit
+-- lets wait.
+abbrev pub HasForm : (datagram : List ℕ) → Type 0
+HasForm datagram = (first : ℕ) × (destination : List ℕ) × (source : List ℕ) × (token : List ℕ) × (body : List ℕ) × (rest : List ℕ) × BeginsWithInitial datagram first destination source token body rest
+
+abbrev pub HasNoForm : (datagram : List ℕ) → Type 0
+HasNoForm datagram = (front rest body : List ℕ) (first : ℕ) → datagram ≡ front ++ rest → IsInitialForm front first body → ⊥
+
+-- its tag, or what stands before it, is refused
+pub record IsRefusedTag (accepts : AcceptsTag) (datagram : List ℕ) : Type 0 where
+  pub first : ℕ
+  pub destination : List ℕ
+  pub source : List ℕ
+  pub token : List ℕ
+  pub body : List ℕ
+  pub rest : List ℕ
+  pub begins : BeginsWithInitial datagram first destination source token body rest
+  pub unopened : (number : ℕ) (frames : List ℕ) → IsInitialOpened accepts Client 0 first body number frames → ⊥
 
 module _ {S : Type 0} (v : SessionView S) where
-  -- a datagram is handed to the connection, which takes it, or ends for want of memory (`handle_datagram` of qh_conn)
+  -- a server's session of the id to which the first packet of an attempt goes, which knows no name yet
+  pub record IsFirstSession (w : Waiting) (session : S) : Type 0 where
+    pub key_is : v.key session ≡ w.first.destination
+    pub name_is : v.name session ≡ []
+    pub knows_is : v.knows session ≡ false
+
+  -- an open connection ends for want of memory by a datagram, of which what was read by then has no fault (`handle_datagram` of qh_conn)
+  pub record IsCutOff (now : Moment) (datagram : List ℕ) (old new : Connection S) : Type 0 where
+    pub was_open : is_open old.core.state ≡ true
+    pub over : IsOver new
+    pub same_end : (told : List EndpointEvent) × IsOverOf told (counted_at (length datagram) old) new
+    pub mid : Connection S
+    pub unread : IsUnread v now datagram (counted_at (length datagram) old) mid
+    pub failed : HasFailed mid new
+
+  -- a datagram is handed to the connection, which takes it, or ends for want of memory
   pub record IsHanded (now : Moment) (datagram : List ℕ) (old new : Connection S) : Type 0 where
-    pub taken : IsDatagramHandled v now datagram old new ⊎ ((is_open old.core.state ≡ true) × IsOver new)
+    pub taken : IsDatagramHandled v now datagram old new ⊎ IsCutOff now datagram old new
     pub carries : NamesTags (v.accepts old.core.session) → CarriesOnBy v.accepts v.sealed old new (HandedIn datagram ∷ [])
     pub same : IsSameConnection v.key old new
 
@@ -81,20 +111,17 @@ module _ {S : Type 0} (v : SessionView S) where
     more : (d : KeptDatagram) (ds : List KeptDatagram) (old mid new : Connection S) → IsHanded d.now d.payload old mid → AreHanded ds mid new → AreHanded (d ∷ ds) old new
 
   -- A server's connection for this attempt, with this id of its own, before the first datagram. It begins with what the attempt's token says.
-  pub record IsReady (server : ServerConfig) (w : Waiting) (local_id : List ℕ) (connection : Connection S) : Type 0 where
-    pub session : S
-    pub key_is : v.key session ≡ w.first.destination
-    pub name_is : v.name session ≡ []
-    pub knows_is : v.knows session ≡ false
+  pub record IsReady (server : ServerConfig) (w : Waiting) (local_id : List ℕ) (session : S) (connection : Connection S) : Type 0 where
+    pub session_is : IsFirstSession w session
     pub fresh : Connection S
     pub begins : IsFirstConnection v.name (conn_of server w.first) Server session w.first.destination local_id w.first.source w.addresses w.received_at fresh
     pub stands : (hello : List ℕ) × IsFresh hello connection.handshake × ((accepts : AcceptsTags S) (sealed : MakesTagsOf S) → Stands accepts sealed hello connection [])
     pub ready_is : connection ≡ record fresh { handshake = with_origin fresh.handshake w.first.token.orig_dst_cid w.first.token.retry_src_cid w.first.token.validated }
 
   -- and behind it
-  pub record IsBegun (server : ServerConfig) (w : Waiting) (local_id : List ℕ) (connection : Connection S) : Type 0 where
+  pub record IsBegun (server : ServerConfig) (w : Waiting) (local_id : List ℕ) (session : S) (connection : Connection S) : Type 0 where
     pub before : Connection S
-    pub ready : IsReady server w local_id before
+    pub ready : IsReady server w local_id session before
     pub handed : IsHanded w.received_at w.datagram before connection
 
 -- The connection was added and removed again.
@@ -120,16 +147,15 @@ module _ {K G R T S : Type 0} (cid_len : G → ℕ) (validates : G → List ℕ 
     pub fresh : IsStale server w now → ⊥
     pub some_left : AreExhausted (cid_len old.connections.ids) (issued_count old.connections.routes) → ⊥
 
-  -- and the first packet is taken, with a session of the id to which it goes
-  pub record IsWelcome (old : PlainEndpoint K G R T) : Type 0 where
+  -- and the first packet is taken, with such a session
+  pub record IsWelcome (old : PlainEndpoint K G R T) (session : S) : Type 0 where
     pub timely : IsTimely old
-    pub session : S
-    pub key_is : v.key session ≡ w.first.destination
+    pub session_is : IsFirstSession v w session
     pub opened : IsOpened (v.accepts session) w.datagram
 
   -- and the connection has an id that isn't issued, one of the endpoint's own
-  pub record IsAdmitted (old new : PlainEndpoint K G R T) (local_id : List ℕ) : Type 0 where
-    pub welcome : IsWelcome old
+  pub record IsAdmitted (old new : PlainEndpoint K G R T) (local_id : List ℕ) (session : S) : Type 0 where
+    pub welcome : IsWelcome old session
     pub id : IsFreshId old.connections.routes (given old.connections.ids) (given new.connections.ids) local_id
     pub size : length local_id ≡ cid_len old.connections.ids
     pub own : validates new.connections.ids local_id
@@ -139,39 +165,45 @@ module _ {K G R T S : Type 0} (cid_len : G → ℕ) (validates : G → List ℕ 
   pub record IsAccepted (datagrams : List KeptDatagram) (old new : PlainEndpoint K G R T) (handle : ConnectionHandle) (connection : Connection S) : Type 0 where
     pub local_id : List ℕ
     pub mid : PlainEndpoint K G R T
-    pub admitted : IsAdmitted old mid local_id
+    -- the one by which the first packet is taken is that of the connection
+    pub session : S
+    pub admitted : IsAdmitted old mid local_id session
     pub added : IsConnectionAdded mid.connections new.connections handle Server w.first.destination local_id w.addresses
     pub first : Connection S
-    pub begun : IsBegun v server w local_id first
+    pub begun : IsBegun v server w local_id session first
     pub lives : first.core.error ≡ None
     pub handed : AreHanded v datagrams first connection
     pub rest : new ≡ record mid { connections = new.connections }
     pub ids : new.connections.ids ≡ mid.connections.ids
 
-  -- The attempt isn't accepted, for the first reason that holds, in this order, and no connection is kept.
+  -- The attempt isn't accepted, and no connection is kept. Its causes but for want of memory are tested in this order, each where those before it don't
+  -- hold: it is stale, ids are exhausted, its first packet is refused, no id is fresh, the first datagram closes the connection. Want of memory may come
+  -- at each step, where what is tested before that step doesn't hold.
   pub data IsNotAccepted (old new : PlainEndpoint K G R T) (written : List ℕ) : AcceptError → Type 0 where
     stale : IsStale server w now → new ≡ old → written ≡ [] → IsNotAccepted old new written (record { cause = TimedOut; response = None })
     exhausted : (IsStale server w now → ⊥) → AreExhausted (cid_len old.connections.ids) (issued_count old.connections.routes) → IsClosed cid_len validates given v.key v.sealed w.first.destination w.first.source refused old new written
         → IsNotAccepted old new written (record { cause = CidsExhausted; response = Some (reply_to w.addresses (length written)) })
-    untaken : (session : S) → IsTimely old → v.key session ≡ w.first.destination → IsRefusedTag (v.accepts session) w.datagram → new ≡ record old { kit = new.kit } → written ≡ []
+    formless : IsTimely old → HasNoForm w.datagram → new ≡ old → written ≡ []
+        → IsNotAccepted old new written (record { cause = TransportError (bare (record { 0 = codes.protocol_violation })); response = None })
+    untaken : (session : S) → IsTimely old → IsFirstSession v w session → IsRefusedTag (v.accepts session) w.datagram → new ≡ record old { kit = new.kit } → written ≡ []
         → IsNotAccepted old new written (record { cause = TransportError (bare (record { 0 = codes.protocol_violation })); response = None })
     -- no further id is drawn for the answer
-    none_fresh : (mid : PlainEndpoint K G R T) → IsWelcome old → AreNoneFresh old.connections.routes (given old.connections.ids) (given mid.connections.ids)
+    none_fresh : (mid : PlainEndpoint K G R T) (session : S) → IsWelcome old session → AreNoneFresh old.connections.routes (given old.connections.ids) (given mid.connections.ids)
         → mid ≡ record old { kit = mid.kit; connections = record old.connections { ids = mid.connections.ids } } → IsClosedFrom cid_len validates given v.key v.sealed w.first.destination w.first.destination w.first.source refused mid new written
         → IsNotAccepted old new written (record { cause = CidsExhausted; response = Some (reply_to w.addresses (length written)) })
     -- the first datagram closes the connection, which is forgotten
-    failed : (local_id : List ℕ) (mid gone : PlainEndpoint K G R T) (connection : Connection S) (e : AcceptError) → IsAdmitted old mid local_id → IsBegun v server w local_id connection
+    failed : (local_id : List ℕ) (session : S) (mid gone : PlainEndpoint K G R T) (connection : Connection S) (e : AcceptError) → IsAdmitted old mid local_id session → IsBegun v server w local_id session connection
         → IsFleeting w local_id mid.connections gone.connections → gone.connections.ids ≡ mid.connections.ids → gone ≡ record mid { connections = gone.connections }
         → IsLost cid_len validates given v w connection gone new written e → IsNotAccepted old new written e
     -- memory is wanting to answer that ids are exhausted
     unclosed : (IsStale server w now → ⊥) → AreExhausted (cid_len old.connections.ids) (issued_count old.connections.routes) → IsUnclosed given old new written
         → IsNotAccepted old new written (record { cause = Memory; response = None })
     -- for a session
-    no_session : IsTimely old → new ≡ record old { kit = new.kit } → written ≡ [] → IsNotAccepted old new written (record { cause = Memory; response = None })
+    no_session : IsTimely old → HasForm w.datagram → new ≡ record old { kit = new.kit } → written ≡ [] → IsNotAccepted old new written (record { cause = Memory; response = None })
     -- to answer that no id is fresh
-    unanswered : (mid : PlainEndpoint K G R T) → IsWelcome old → AreNoneFresh old.connections.routes (given old.connections.ids) (given mid.connections.ids)
+    unanswered : (mid : PlainEndpoint K G R T) (session : S) → IsWelcome old session → AreNoneFresh old.connections.routes (given old.connections.ids) (given mid.connections.ids)
         → mid ≡ record old { kit = mid.kit; connections = record old.connections { ids = mid.connections.ids } } → new ≡ record mid { kit = new.kit } → written ≡ []
         → IsNotAccepted old new written (record { cause = Memory; response = None })
     -- for the connection, for which an id was drawn
-    unbegun : (local_id : List ℕ) (mid : PlainEndpoint K G R T) → IsAdmitted old mid local_id → IsKept mid.connections new.connections → new.connections.ids ≡ mid.connections.ids
+    unbegun : (local_id : List ℕ) (session : S) (mid : PlainEndpoint K G R T) → IsAdmitted old mid local_id session → IsKept mid.connections new.connections → new.connections.ids ≡ mid.connections.ids
         → new ≡ record mid { connections = new.connections } → written ≡ [] → IsNotAccepted old new written (record { cause = Memory; response = None })

@@ -1,5 +1,5 @@
 -- What a datagram does that comes to an endpoint (RFC 9000, sections 5.2, 6.1, 7, 8.1, 10.3 and 14.1).
-use Rattle.std.specs.Prelude.{◌≡◌, ◌≢◌, ◌⊎◌, ℕ, ◌+◌, ◌<◌, ◌≤◌, List, [], ◌∷◌, ◌++◌, length, Option, Some, None}
+use Rattle.std.specs.Prelude.{◌≡◌, ◌≢◌, ◌⊎◌, ℕ, ◌+◌, ◌-◌, ◌<◌, ◌≤◌, List, [], ◌∷◌, ◌++◌, length, Option, Some, None}
 use Rattle.std.specs.declared.net.socket_addr.SocketAddr.{SocketAddr}
 use Rattle.qh_attempts.specs.Attempts.{HasInstead, HasRoom, IsName, PlainAttempt, attempt_at, attempt_count, total_bytes}
 use Rattle.qh_base.specs.declared.path.FourTuple.{FourTuple}
@@ -126,7 +126,7 @@ module _ {K G R T S : Type 0} (cid_len : G → ℕ) (validates : G → List ℕ 
         → IsUnjudged (cid_len old.connections.ids) (validates old.connections.ids) limits stands now addresses.remote (length datagram) old new h → written ≡ [] → IsUnhandled old new written
     resetting : (h : Header) (mid : PlainEndpoint K G R T) (id : List ℕ) → IsHeader (cid_len old.connections.ids) (numbers old.config) old.config.grease_quic_bit datagram h → IsRoutedTo old h None
         → IsJudged (cid_len old.connections.ids) (validates old.connections.ids) limits stands now addresses.remote (length datagram) old mid h (Unknown id) → (IsResetEarly mid → ⊥) → 21 < length datagram
-        → HasDrawn (drawn mid.words) (drawn new.words) → new ≡ record mid { words = new.words } → written ≡ [] → IsUnhandled old new written
+        → HasDrawn (length datagram - 16) (drawn mid.words) (drawn new.words) → new ≡ record mid { words = new.words } → written ≡ [] → IsUnhandled old new written
     closing : (h : Header) (mid : PlainEndpoint K G R T) (destination source : List ℕ) (code : TransportErrorCode) → IsHeader (cid_len old.connections.ids) (numbers old.config) old.config.grease_quic_bit datagram h → IsRoutedTo old h None
         → IsJudged (cid_len old.connections.ids) (validates old.connections.ids) limits stands now addresses.remote (length datagram) old mid h (Refused destination source code)
         → IsUnclosed given mid new written → IsUnhandled old new written

@@ -5,5 +5,6 @@ pub mod Endpoint
 pub mod Handled
 pub mod Ids
 pub mod Leaving
+pub mod Led
 pub mod Retrying
 pub mod Stranger

@@ -1,18 +1,19 @@
-ghost use Rattle.std.specs.Prelude.{◌≡◌, ◌↔◌, ◌+◌, ◌≤◌, [], length, IfErr, IfOk, IsTrue, None, OnErr, Some, false, true};
+ghost use Rattle.std.specs.Prelude.{◌≡◌, ◌↔◌, ◌+◌, ◌≤◌, ℕ, List, [], length, IfErr, IfOk, IsTrue, None, OnErr, Some, false, true};
 ghost use Rattle.qh_attempts.specs.Attempts.{IsPending, PlainAttempt};
 ghost use Rattle.qh_base.specs.declared.connection_error.ConnectionError.TheVariants as error;
 ghost use Rattle.qh_conn.specs.Whole.{IsWhole};
 ghost use Rattle.qh_conn.specs.declared.connection.Connection.{Connection as AConnection};
 ghost use Rattle.qh_connections.specs.Connections.{IsConnectionAdded, IsConnectionRemoved, IsKept, meta_at};
 ghost use Rattle.qh_connections.specs.Ids.{IsIssued, IsSameSource};
-ghost use Rattle.qh_endpoint.specs.Accepting.{AreHanded, IsAccepted, IsAdmitted, IsHanded, IsLost, IsNotAccepted, IsOpened, IsReady, IsRefusedTag, IsStale, conn_of, settings_of};
+ghost use Rattle.qh_endpoint.specs.Accepting.{AreHanded, IsAccepted, IsAdmitted, IsHanded, IsLost, IsNotAccepted, IsReady, IsStale, conn_of, settings_of};
 ghost use Rattle.qh_endpoint.specs.Closed.{bare, refused as refusal};
 ghost use Rattle.qh_endpoint.specs.Endpoint.{PlainEndpoint};
 ghost use Rattle.qh_endpoint.specs.Leaving.{HasLeft};
 ghost use Rattle.qh_endpoint.specs.declared.incoming.Waiting.{Waiting as AWaiting};
+ghost use Rattle.qh_packet.specs.Packet.{IsInitialOpened};
 ghost use Rattle.qh_routes.specs.ConnectionMeta.{PlainMeta};
 ghost use Rattle.qh_spec.specs.Codes as codes;
-ghost use Rattle.qh_spec.specs.declared.sides.Side.TheVariants.{Server as AServer};
+ghost use Rattle.qh_spec.specs.declared.sides.Side.TheVariants.{Client as AClient, Server as AServer};
 
 use crate::closing::error_of;
 use crate::incoming::{FirstPacket, Waiting};
@@ -95,7 +96,7 @@ impl<K: Kit> Endpoint<K> {
         buf: &mut Vec<u8>,
     ) -> Result<(K::S, ConnectionId), AcceptError>
         requires { buf.old.items ≡ [] }
-        ensures admitted { IfOk result (λ made. IsAdmitted K.G.cid_len K.G.validates K.G.given (record { name = K.S.name; knows = K.S.knows; key = K.S.key; sealed = K.S.sealed; accepts = K.S.accepts }) server.now waiting.now now self.old self.new made.1) }
+        ensures admitted { IfOk result (λ made. IsAdmitted K.G.cid_len K.G.validates K.G.given (record { name = K.S.name; knows = K.S.knows; key = K.S.key; sealed = K.S.sealed; accepts = K.S.accepts }) server.now waiting.now now self.old self.new made.1 made.0) }
         ensures session { IfOk result (λ made. (K.S.key made.0 ≡ waiting.now.first.destination) × (K.S.name made.0 ≡ []) × (K.S.knows made.0 ≡ false)) }
         ensures unwritten { IfOk result (λ made. buf.new.items ≡ []) }
         ensures refused { IfErr result (IsNotAccepted K.G.cid_len K.G.validates K.G.given (record { name = K.S.name; knows = K.S.knows; key = K.S.key; sealed = K.S.sealed; accepts = K.S.accepts }) server.now waiting.now now self.old self.new buf.new.items) }
@@ -116,13 +117,15 @@ impl<K: Kit> Endpoint<K> {
             );
             return Err(exhausted(sent));
         }
+        let Some(form) = InitialForm::read(&waiting.datagram) else {
+            return Err(violation());
+        };
         let session = match self.kit.session(first.destination, b"") {
             Ok(session) => session,
             Err(Memory) => return Err(silent(ConnectionError::Memory)),
         };
-        if !opens(&session, &waiting.datagram) {
-            let violation = error_of(TransportErrorCode::PROTOCOL_VIOLATION);
-            return Err(silent(ConnectionError::TransportError(violation)));
+        if !opens(&session, &form) {
+            return Err(violation());
         }
         match self.connections.draw() {
             Some(local_id) => Ok((session, local_id)),
@@ -153,7 +156,7 @@ impl<K: Kit> Endpoint<K> {
         requires key { K.S.key session ≡ waiting.now.first.destination }
         requires name { K.S.name session ≡ [] }
         requires knows { K.S.knows session ≡ false }
-        ensures ready { IfOk result (λ made. IsReady (record { name = K.S.name; knows = K.S.knows; key = K.S.key; sealed = K.S.sealed; accepts = K.S.accepts }) server.now waiting.now local_id made.1) }
+        ensures ready { IfOk result (λ made. IsReady (record { name = K.S.name; knows = K.S.knows; key = K.S.key; sealed = K.S.sealed; accepts = K.S.accepts }) server.now waiting.now local_id session made.1) }
         ensures whole { IfOk result (λ made. IsWhole made.1) }
         ensures added { IfOk result (λ made. IsConnectionAdded self.old.connections self.new.connections made.0 AServer waiting.now.first.destination local_id waiting.now.addresses) }
         ensures ids { self.new.connections.ids ≡ self.old.connections.ids }
@@ -255,6 +258,14 @@ fn silent(cause: ConnectionError) -> AcceptError
     }
 }
 
+// The first packet isn't taken, and nothing is sent.
+fn violation() -> AcceptError
+    ensures { result ≡ record { cause = error.TransportError (bare (record { 0 = codes.protocol_violation })); response = None } }
+{
+    let error = error_of(TransportErrorCode::PROTOCOL_VIOLATION);
+    silent(ConnectionError::TransportError(error))
+}
+
 // Ids are exhausted, and this was written, or couldn't be for want of memory.
 fn exhausted(sent: Result<Transmit, Memory>) -> AcceptError
     ensures sent { IfOk sent (λ transmit. result ≡ record { cause = error.CidsExhausted; response = Some transmit }) }
@@ -282,15 +293,12 @@ fn is_stale(server: &ServerConfig, waiting: &Waiting, now: Moment) -> bool
     }
 }
 
-// Whether the first packet is taken, with a client's tag.
-fn opens<S: Session>(session: &S, datagram: &[u8]) -> bool
-    ensures opened { result ≡ true → IsOpened (S.accepts session.now) datagram.now }
-    ensures refused { result ≡ false → IsRefusedTag (S.accepts session.now) datagram.now }
+// Whether a packet of this form is taken, with a client's tag.
+fn opens<S: Session>(session: &S, form: &InitialForm<'_>) -> bool
+    ensures opened { result ≡ true → (number : ℕ) × (frames : List ℕ) × IsInitialOpened (S.accepts session.now) AClient 0 form.now.first form.now.body.now number frames }
+    ensures refused { result ≡ false → (number : ℕ) (frames : List ℕ) → IsInitialOpened (S.accepts session.now) AClient 0 form.now.first form.now.body.now number frames → ⊥ }
 {
-    let Some(form) = InitialForm::read(datagram) else {
-        return false;
-    };
-    match open_initial(session, &form, Side::Client, 0) {
+    match open_initial(session, form, Side::Client, 0) {
         Some(_) => true,
         None => false,
     }

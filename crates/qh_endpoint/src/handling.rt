@@ -234,7 +234,7 @@ impl<K: Kit> Endpoint<K> {
             → IsReset {S = K.S} K.G.cid_len K.G.validates K.G.given K.R.given K.T.limits K.T.stands K.S.key K.S.sealed now addresses.now datagram id.now self.old self.new buf.new.items event) }
         ensures late { OnErr result (IsResetEarly {S = K.S} K.G.cid_len K.G.validates K.G.given K.R.given K.T.limits K.T.stands K.S.key K.S.sealed now addresses.now [] self.old → ⊥) }
         ensures long { OnErr result (21 < size) }
-        ensures drawn { OnErr result (HasDrawn (K.R.given self.old.words) (K.R.given self.new.words)) }
+        ensures drawn { OnErr result (HasDrawn (size - 16) (K.R.given self.old.words) (K.R.given self.new.words)) }
         ensures err { OnErr result (self.new ≡ record self.old { words = self.new.words }) }
         ensures unwritten { OnErr result (buf.new.items ≡ []) }
         ensures ids { self.new.connections.ids ≡ self.old.connections.ids }

@@ -20,5 +20,7 @@ pub use accepting::AcceptError;
 pub use endpoint::Endpoint;
 pub use event::DatagramEvent;
 pub use incoming::Incoming;
-pub use laws::{attempts_leave_once, attempts_stay, routed_datagrams, tokens_come_back};
+pub use laws::{
+    attempts_are_led, attempts_leave_once, attempts_stay, routed_datagrams, tokens_come_back,
+};
 pub use retrying::{RetryError, RetryFault};

@@ -81,14 +81,24 @@ pub words_append : (given xs ys : List ℕ) → and_words given (xs ++ ys) ≡ a
 words_append given [] ys = refl
 words_append given (x ∷ xs) ys = words_append (and_word given x) xs ys
 
-pub none_of_them : (given : List ℕ) → HasDrawn given given
-none_of_them given = ([], refl)
+pub none_of_them : (most : ℕ) (given : List ℕ) → HasDrawn most given given
+none_of_them most given = ([], omega arith, refl)
 
-pub one_word : (old new : List ℕ) (word : ℕ) → new ≡ and_word old word → HasDrawn old new
-one_word old new word e = (word ∷ [], e)
+pub one_word : (most : ℕ) (old new : List ℕ) (word : ℕ) → 0 < most → new ≡ and_word old word → HasDrawn most old new
+one_word most old new word some e = (word ∷ [], omega (arith, some), e)
 
-pub then_drawn : (old mid new : List ℕ) → HasDrawn old mid → HasDrawn mid new → HasDrawn old new
-then_drawn old mid new (front, e) (rest, f) = (front ++ rest, f ∙ ap (λ (z : List ℕ). and_words z rest) e ∙ sym (words_append old front rest))
+pub then_drawn : (few more most : ℕ) (old mid new : List ℕ) → few + more ≤ most → HasDrawn few old mid → HasDrawn more mid new → HasDrawn most old new
+then_drawn few more most old mid new room (front, few_are, e) (rest, more_are, f) =
+    (front ++ rest, (let sum = length-append front rest in omega (arith, room, few_are, more_are, sum)), f ∙ ap (λ (z : List ℕ). and_words z rest) e ∙ sym (words_append old front rest))
+
+-- those of the padding and the one that chooses its size
+pub few_words : (cause_len size : ℕ) (chooser : List ℕ) → 21 < cause_len → IsPaddingSize (cause_len - 16) chooser size → length chooser + size ≤ cause_len - 16
+few_words cause_len size chooser cause (short low none is) = let count : length chooser ≡ 0 = ap length none in omega (arith, count)
+few_words cause_len size chooser cause (long word high one is) =
+    let room : 0 < cause_len - 16 - 1 - 25 = omega arith in
+    let below : word % (cause_len - 16 - 1 - 25) < cause_len - 16 - 1 - 25 = omega (arith, room) in
+    let count : length chooser ≡ 1 = ap length one in
+    omega (arith, below, count)
 
 -- So many words were drawn, and their low bytes appended.
 pub record IsDrawn (old now before after : List ℕ) (count : ℕ) : Type 0 where

@@ -18,7 +18,7 @@ const IDEAL_MIN_PADDING_LEN: usize = 25;
 ///
 /// Where h is `cause_len` less 16, there are h - 1 bytes of padding if that is at most 25, else a number from 25 up to but without h - 1 that
 /// a word chooses. Each byte of padding is the low byte of a further word, but that the top two bits of the first are 01. After want of
-/// memory nothing is appended; words may have been drawn.
+/// memory nothing is appended; words may have been drawn, at most h.
 pub fn put_stateless_reset<W: Words>(
     words: &mut W,
     cause_len: usize,
@@ -30,7 +30,7 @@ pub fn put_stateless_reset<W: Words>(
         × IsReset cause_len id.now drawn bytes) }
     ensures none { IfOk result (λ put. put ≡ false → (W.given words.new ≡ W.given words.old) × (out.new.items ≡ out.old.items)) }
     ensures wanted { OnErr result (21 < cause_len) }
-    ensures drawn { HasDrawn (W.given words.old) (W.given words.new) }
+    ensures drawn { HasDrawn (cause_len - 16) (W.given words.old) (W.given words.new) }
     ensures err { OnErr result (out.new.items ≡ out.old.items) }
 {
     if cause_len <= MAX_UNANSWERED {
@@ -74,7 +74,7 @@ fn put_reset<W: Words>(
 ) -> Result<(), Memory>
     requires { 0 < size }
     ensures ok { OnOk result ((drawn : List ℕ) × (W.given words.new ≡ and_words (W.given words.old) drawn) × (length drawn ≡ size) × (out.new.items ≡ out.old.items ++ (padding_of drawn ++ reset_token_of id.now))) }
-    ensures drawn { HasDrawn (W.given words.old) (W.given words.new) }
+    ensures drawn { HasDrawn size (W.given words.old) (W.given words.new) }
     ensures err { OnErr result (out.new.items ≡ out.old.items) }
 {
     let start = out.len();
@@ -90,7 +90,7 @@ fn put_reset<W: Words>(
 fn put_padding<W: Words>(words: &mut W, size: usize, out: &mut Vec<u8>) -> Result<(), Memory>
     requires { 0 < size }
     ensures ok { OnOk result ((drawn : List ℕ) × (W.given words.new ≡ and_words (W.given words.old) drawn) × (length drawn ≡ size) × (out.new.items ≡ out.old.items ++ padding_of drawn)) }
-    ensures drawn { HasDrawn (W.given words.old) (W.given words.new) }
+    ensures drawn { HasDrawn size (W.given words.old) (W.given words.new) }
     ensures err { OnErr result (out.new.items ≡ out.old.items) }
 {
     let start = out.len();
@@ -106,7 +106,7 @@ fn put_padding<W: Words>(words: &mut W, size: usize, out: &mut Vec<u8>) -> Resul
 // Appends the low bytes of so many words, or nothing.
 fn put_low_bytes<W: Words>(words: &mut W, count: usize, out: &mut Vec<u8>) -> Result<(), Memory>
     ensures ok { OnOk result ((drawn : List ℕ) × (W.given words.new ≡ and_words (W.given words.old) drawn) × (length drawn ≡ count) × (out.new.items ≡ out.old.items ++ low_bytes_of drawn)) }
-    ensures drawn { HasDrawn (W.given words.old) (W.given words.new) }
+    ensures drawn { HasDrawn count (W.given words.old) (W.given words.new) }
     ensures err { OnErr result (out.new.items ≡ out.old.items) }
 {
     let start = out.len();

@@ -1,4 +1,4 @@
-use Rattle.std.proofs.Common.{◌%◌, [], ◌∷◌}
+use Rattle.std.proofs.Common.{◌%◌, [], ◌∷◌, arith}
 use Rattle.qh_frame.proofs.FramesWritten.{appended}
 use Rattle.qh_stateless.proofs.Resets.{one_drawn, one_word, then_drawn}
 use Rattle.qh_stateless.proofs.reset.put_low_bytes.Goals as goal
@@ -12,7 +12,7 @@ loop-preserved g c = (
 )
 
 pub returns-then-is_err-clause-drawn : goal.returns-then-is_err-clause-drawn
-returns-then-is_err-clause-drawn g c = then_drawn _ _ _ (c.loop.invariant.0.drawn, c.loop.invariant.0.given_are) (one_word _ _ c.next-word.result c.next-word.ensures)
+returns-then-is_err-clause-drawn g c = let size = c.loop.invariant.0.count_is in then_drawn c.loop.counter 1 _ _ _ _ (omega arith) (c.loop.invariant.0.drawn, omega (arith, size), c.loop.invariant.0.given_are) (one_word 1 _ _ c.next-word.result (omega arith) c.next-word.ensures)
 
 pub returns-clause-drawn : goal.returns-clause-drawn
-returns-clause-drawn g c = (c.loop.invariant.0.drawn, c.loop.invariant.0.given_are)
+returns-clause-drawn g c = let size = c.loop.invariant.0.count_is in (c.loop.invariant.0.drawn, omega (arith, size), c.loop.invariant.0.given_are)

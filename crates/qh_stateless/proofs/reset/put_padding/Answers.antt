@@ -17,10 +17,10 @@ returns-clause-ok g c =
     )
 
 pub returns-in_err-push-clause-drawn : goal.returns-in_err-push-clause-drawn
-returns-in_err-push-clause-drawn g c = one_word _ _ c.next-first.result c.next-first.ensures
+returns-in_err-push-clause-drawn g c = one_word _ _ _ c.next-first.result c.requires c.next-first.ensures
 
 pub returns-then-is_err-clause-drawn : goal.returns-then-is_err-clause-drawn
-returns-then-is_err-clause-drawn g c = then_drawn _ _ _ (one_word _ _ c.next-first.result c.next-first.ensures) c.put_low_bytes.ensures.drawn
+returns-then-is_err-clause-drawn g c = let some = c.requires in then_drawn 1 _ _ _ _ _ (omega (arith, some)) (one_word 1 _ _ c.next-first.result (omega arith) c.next-first.ensures) c.put_low_bytes.ensures.drawn
 
 pub returns-clause-drawn : goal.returns-clause-drawn
-returns-clause-drawn g c = then_drawn _ _ _ (one_word _ _ c.next-first.result c.next-first.ensures) c.put_low_bytes.ensures.drawn
+returns-clause-drawn g c = let some = c.requires in then_drawn 1 _ _ _ _ _ (omega (arith, some)) (one_word 1 _ _ c.next-first.result (omega arith) c.next-first.ensures) c.put_low_bytes.ensures.drawn

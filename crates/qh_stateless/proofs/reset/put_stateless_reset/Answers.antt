@@ -1,5 +1,5 @@
-use Rattle.std.proofs.Common.{ℕ, List, ◌-◌, ◌++◌, refl, sym, ap, ◌∙◌, subst, arith}
-use Rattle.qh_stateless.proofs.Resets.{none_of_them, then_drawn, words_append}
+use Rattle.std.proofs.Common.{ℕ, List, ◌-◌, ◌++◌, length, refl, sym, ap, ◌∙◌, subst, arith}
+use Rattle.qh_stateless.proofs.Resets.{few_words, none_of_them, then_drawn, words_append}
 use Rattle.qh_stateless.specs.Words.{and_words}
 use Rattle.qh_stateless.specs.Reset.{IsPaddingSize, padding_of}
 use Rattle.qh_token.specs.Reset.{reset_token_of}
@@ -26,10 +26,10 @@ returns-clause-reset g c = λ done.
     )
 
 pub returns-then-cause_len-le-MAX_UNANSWERED-clause-drawn : goal.returns-then-cause_len-le-MAX_UNANSWERED-clause-drawn
-returns-then-cause_len-le-MAX_UNANSWERED-clause-drawn g c = none_of_them _
+returns-then-cause_len-le-MAX_UNANSWERED-clause-drawn g c = none_of_them _ _
 
 pub returns-in_err-put_reset-clause-drawn : goal.returns-in_err-put_reset-clause-drawn
-returns-in_err-put_reset-clause-drawn g c = then_drawn _ _ _ (let size = c.padding_size-size.ensures.size in (size.0, size.1)) c.put_reset.ensures.drawn
+returns-in_err-put_reset-clause-drawn g c = let size = c.padding_size-size.ensures.size in then_drawn (length size.0) _ _ _ _ _ (few_words c.args.cause_len _ size.0 (omega (arith, c.if-cause_len-le-MAX_UNANSWERED.false)) size.2) (size.0, omega arith, size.1) c.put_reset.ensures.drawn
 
 pub returns-clause-drawn : goal.returns-clause-drawn
-returns-clause-drawn g c = then_drawn _ _ _ (let size = c.padding_size-size.ensures.size in (size.0, size.1)) c.put_reset.ensures.drawn
+returns-clause-drawn g c = let size = c.padding_size-size.ensures.size in then_drawn (length size.0) _ _ _ _ _ (few_words c.args.cause_len _ size.0 (omega (arith, c.if-cause_len-le-MAX_UNANSWERED.false)) size.2) (size.0, omega arith, size.1) c.put_reset.ensures.drawn
