@@ -1,0 +1,16 @@
+pub mod Book
+pub mod Closing
+pub mod Datagrams
+pub mod Forms
+pub mod History
+pub mod Interests
+pub mod Items
+pub mod Opening
+pub mod Pages
+pub mod Promises
+pub mod Receiving
+pub mod Rows
+pub mod Sending
+pub mod Shown
+pub mod Step
+pub mod Values
