@@ -1,153 +1,239 @@
-//! Much in one row, to be timed: many connections of a server's endpoint, to which datagrams are routed.
-use crate::end::End;
-use crate::made::client_tag;
-use crate::say::{Line, address_of};
+//! Much in one row, to be timed: many handshakes, many bytes on one of many streams, and many datagrams to many connections of an endpoint.
+use crate::pair::{Pair, Story};
+use crate::row::{MILLISECOND, Row};
 use crate::settings::Settings;
-use bytes::Bytes;
-use qh_base::{ConnectionId, Moment, Side};
-use qh_endpoint::DatagramEvent;
-use qh_packet::put_initial;
-use row_text::{RowFault, Words};
-use std::alloc::Global;
+use qh_base::{Dir, Memory, Side, Span, StreamId};
+use row_text::RowFault;
 
-// What a client sends first.
-const PING: [u8; 1] = [1];
+// How long a round is.
+const ROUND: Span = Span(MILLISECOND);
 
-// The least length of a datagram that begins an attempt, and a token that fills most of it. It is none of the endpoint's, so it says nothing.
-const FIRST_SIZE: usize = 1_200;
+// The most rounds until both ends are connected.
+const ROUNDS: u32 = 100;
 
-const FILLING: [u8; 1_120] = [0xff; 1_120];
+// The most pieces that are written or read in a round, and the most events.
+const MANY: u32 = 10_000;
 
-// The first byte of a datagram with a short header, and how many bytes it has behind its id.
-const SHORT: u8 = 0x43;
+// How many two-way streams the ends of a handshake permit.
+const STREAMS: u64 = 10;
 
-const BEHIND: usize = 31;
+// What a writer gives in one call.
+const PIECE: [u8; 4_096] = [0x51; 4_096];
 
-// A server's end, with a datagram that goes to each of its connections.
-#[derive(Drop)]
-struct Many {
-    end: End,
-    datagrams: Vec<Bytes>,
+#[derive(Clone, Copy)]
+enum Bulk {
+    Handshake,
+    Connection,
+    Route,
 }
 
-/// route CONNECTIONS DATAGRAMS: so many datagrams with short headers go to so many connections in turn.
-pub(crate) fn put_bulk(
-    alloc: Global,
-    words: &mut Words<'_>,
-    out: &mut Line,
-) -> Result<(), RowFault> {
-    if words.next() != "route" {
-        return Err(RowFault::Form);
-    }
-    let connections = words.number()?;
-    let datagrams = words.number()?;
-    let settings = Settings::usual();
-    let mut many = Many {
-        end: End::new(alloc, Side::Server, settings.of(Side::Server))?,
-        datagrams: Vec::new(alloc),
+const BULKS: [(&str, Bulk); 3] = [
+    ("handshake", Bulk::Handshake),
+    ("connection", Bulk::Connection),
+    ("route", Bulk::Route),
+];
+
+// What fresh ends do.
+#[derive(Clone, Copy)]
+enum Work {
+    Handshake,
+    Connection { streams: u64, total: u64 },
+    Route { connections: u64, datagrams: u64 },
+}
+
+// What came of handshakes so far.
+#[derive(Clone, Copy)]
+struct Sums {
+    connected: u64,
+    by_clients: u64,
+    by_servers: u64,
+}
+
+/// handshake COUNT: connects that many pairs of fresh ends in turn. Or connection STREAMS BYTES: connects fresh ends, and sends that many bytes
+/// on the first of that many streams. Or route CONNECTIONS DATAGRAMS: so many datagrams go to so many connections in turn.
+pub(crate) fn put_bulk(row: &mut Row<'_>) {
+    let Some(bulk) = row.find(&BULKS) else {
+        return;
     };
-    let told = many.put_routed(alloc, connections, datagrams, out);
-    drop(many);
-    told
+    let mut sums = Sums {
+        connected: 0,
+        by_clients: 0,
+        by_servers: 0,
+    };
+    match bulk {
+        Bulk::Handshake => put_handshakes(&mut sums, row),
+        Bulk::Connection => {
+            let streams = row.number();
+            let total = row.number();
+            do_work(Work::Connection { streams, total }, &mut sums, row);
+        }
+        Bulk::Route => {
+            let connections = row.number();
+            let datagrams = row.number();
+            let routed = Work::Route {
+                connections,
+                datagrams,
+            };
+            do_work(routed, &mut sums, row);
+        }
+    }
 }
 
-impl Many {
-    fn put_routed(
-        &mut self,
-        alloc: Global,
-        connections: u64,
-        datagrams: u64,
-        out: &mut Line,
-    ) -> Result<(), RowFault> {
-        for number in 0..connections {
-            self.add(alloc, number)?;
-        }
-        let reached = self.route(alloc, datagrams)?;
-        out.put_count("", reached);
-        out.put_count(" of ", datagrams);
-        Ok(())
+fn put_handshakes(sums: &mut Sums, row: &mut Row<'_>) {
+    for _handshake in 0..row.number() {
+        do_work(Work::Handshake, sums, row);
     }
+    row.put_count("", sums.connected);
+    row.put_count(" connected, datagrams: ", sums.by_clients);
+    row.put_count(" from clients, ", sums.by_servers);
+    row.put(" from servers");
+}
 
-    // A client's first packet comes, and its attempt is accepted.
-    fn add(&mut self, alloc: Global, number: u64) -> Result<(), RowFault> {
-        let datagram = first_datagram(alloc, number)?;
-        let mut buf = Vec::new(alloc);
-        let mut told = Line::new(alloc);
-        let from = address_of(Side::Client);
-        self.end
-            .hand(Moment(0), from, datagram, &mut buf, &mut told);
-        self.accept(alloc, number as usize, &mut told)
-    }
-
-    // Accepts an attempt. Its connection itself isn't kept: the endpoint knows it all the same.
-    fn accept(&mut self, alloc: Global, place: usize, told: &mut Line) -> Result<(), RowFault> {
-        let mut buf = Vec::new(alloc);
-        self.end.accept(Moment(0), place, None, &mut buf, told)?;
-        drop(self.end.links.pop());
-        self.keep(alloc, place)
-    }
-
-    // Keeps a datagram to the first id of a connection.
-    fn keep(&mut self, alloc: Global, place: usize) -> Result<(), RowFault> {
-        let handle = self.end.handle_of(place)?;
-        let Some(meta) = self.end.endpoint.meta(handle) else {
-            return Err(RowFault::Form);
-        };
-        let Some(id) = meta.ids().next() else {
-            return Err(RowFault::Form);
-        };
-        let datagram = short_datagram(alloc, id.bytes())?;
-        self.datagrams.push(datagram)?;
-        Ok(())
-    }
-
-    // Routes so many datagrams. Returns how many reached their own connection.
-    fn route(&mut self, alloc: Global, count: u64) -> Result<u64, RowFault> {
-        let mut reached = 0u64;
-        let mut place = 0usize;
-        for _datagram in 0..count {
-            reached = reached.saturating_add(self.route_one(alloc, place)?);
-            place = place.saturating_add(1);
-            if place >= self.datagrams.len() {
-                place = 0;
+// Begins with fresh ends, and drops them afterwards.
+fn do_work(task: Work, sums: &mut Sums, row: &mut Row<'_>) {
+    let (story, settings) = match task {
+        Work::Handshake => (Story::Connections, Settings::wide(STREAMS)),
+        Work::Connection { streams, .. } => (Story::Connections, Settings::wide(streams)),
+        Work::Route { .. } => (Story::Endpoints, Settings::usual()),
+    };
+    match Pair::new(row.alloc, story, &settings) {
+        Ok(mut pair) => {
+            match task {
+                Work::Handshake => sums.add(&mut pair, row),
+                Work::Connection { streams, total } => {
+                    put_sent_over(&mut pair, streams, total, row);
+                }
+                Work::Route {
+                    connections,
+                    datagrams,
+                } => pair.put_routed(connections, datagrams, row),
             }
+            drop(pair);
         }
-        Ok(reached)
-    }
-
-    // Routes the datagram of a connection. Returns 1 if it reached that one.
-    fn route_one(&mut self, alloc: Global, place: usize) -> Result<u64, RowFault> {
-        let Some(datagram) = self.datagrams.get(place) else {
-            return Err(RowFault::Form);
-        };
-        let datagram = datagram.clone()?;
-        let handle = self.end.handle_of(place)?;
-        let mut buf = Vec::new(alloc);
-        let from = address_of(Side::Client);
-        match self.end.handle(Moment(0), from, datagram, &mut buf)? {
-            Some(DatagramEvent::ConnectionEvent(reached, _)) => Ok(u64::from(reached == handle)),
-            _ => Ok(0),
-        }
+        Err(Memory) => row.fail(RowFault::Memory),
     }
 }
 
-// The first datagram of a client, to an id of this number. The id begins with d0, and none that the endpoint draws does.
-fn first_datagram(alloc: Global, number: u64) -> Result<Bytes, RowFault> {
-    let id = number.wrapping_mul(256).wrapping_add(0xd0).to_le_bytes();
-    let Some(id) = ConnectionId::new(&id) else {
-        return Err(RowFault::Form);
+impl Sums {
+    fn add(&mut self, pair: &mut Pair, row: &mut Row<'_>) {
+        let is_connected = connect(pair, row);
+        self.connected = self.connected.saturating_add(u64::from(is_connected));
+        self.by_clients = self.by_clients.saturating_add(sent(pair, Side::Client));
+        self.by_servers = self.by_servers.saturating_add(sent(pair, Side::Server));
+    }
+}
+
+// How many datagrams an end sent.
+fn sent(pair: &mut Pair, side: Side) -> u64 {
+    match pair.link(side) {
+        Some(link) => link.connection.stats().datagrams_sent,
+        None => 0,
+    }
+}
+
+// Begins with fresh connections, and makes rounds until both ends are connected. Returns whether they are.
+fn connect(pair: &mut Pair, row: &mut Row<'_>) -> bool {
+    pair.begin_both(row);
+    for _round in 0..ROUNDS {
+        if pair.client.live() > 0 && pair.server.live() > 0 {
+            return true;
+        }
+        pair.send_all(Side::Client, 0, row);
+        pair.send_all(Side::Server, 0, row);
+        end_round(pair, row);
+    }
+    false
+}
+
+// Takes what both ends tell, and lets a round pass.
+fn end_round(pair: &mut Pair, row: &mut Row<'_>) {
+    poll_all(pair, Side::Client);
+    poll_all(pair, Side::Server);
+    let now = pair.now.plus(ROUND);
+    pair.advance(now, row);
+}
+
+fn poll_all(pair: &mut Pair, side: Side) {
+    let Some(link) = pair.link(side) else {
+        return;
     };
-    let tag = client_tag(id)?;
-    let mut bytes = Vec::new(alloc);
-    put_initial(&mut bytes, &id, &id, &FILLING, 0, &PING, FIRST_SIZE, &tag)?;
-    Ok(Bytes::from_vec(bytes)?)
+    for _event in 0..MANY {
+        if link.poll().is_none() && link.poll_endpoint().is_none() {
+            break;
+        }
+    }
 }
 
-// A datagram with a short header to this id.
-fn short_datagram(alloc: Global, id: &[u8]) -> Result<Bytes, RowFault> {
-    let mut bytes = Vec::new(alloc);
-    bytes.push(SHORT)?;
-    bytes.extend_from_slice(id)?;
-    bytes.extend_from_slice(&[0; BEHIND])?;
-    Ok(Bytes::from_vec(bytes)?)
+fn put_sent_over(pair: &mut Pair, streams: u64, total: u64, row: &mut Row<'_>) {
+    connect(pair, row);
+    let Some(id) = open_all(pair, streams, row) else {
+        return row.fail(RowFault::Form);
+    };
+    let read = carry(pair, id, total, row);
+    row.put_count("", read);
+    row.put_count(" bytes read, datagrams: ", sent(pair, Side::Client));
+    row.put_count(" from the client, ", sent(pair, Side::Server));
+    row.put(" from the server");
+}
+
+// The client opens that many streams. Returns the first.
+fn open_all(pair: &mut Pair, streams: u64, row: &mut Row<'_>) -> Option<StreamId> {
+    let Some(link) = pair.link(Side::Client) else {
+        return None;
+    };
+    let first = link.open(Dir::Bi, row);
+    for _stream in 1..streams {
+        let _ = link.open(Dir::Bi, row);
+    }
+    first
+}
+
+// Sends that many bytes, in as many rounds as that takes if each brings a datagram. Returns how many were read.
+fn carry(pair: &mut Pair, id: StreamId, total: u64, row: &mut Row<'_>) -> u64 {
+    let mut left = total;
+    let mut read = 0u64;
+    for _round in 0..(total / 1_000).saturating_add(1_000) {
+        if read >= total {
+            break;
+        }
+        left = left.saturating_sub(write_some(pair, id, left));
+        pair.send_all(Side::Client, 0, row);
+        read = read.saturating_add(read_some(pair, id));
+        pair.send_all(Side::Server, 0, row);
+        end_round(pair, row);
+    }
+    read
+}
+
+// The client writes as far as the limits permit, at most that many bytes. Returns how many.
+fn write_some(pair: &mut Pair, id: StreamId, left: u64) -> u64 {
+    let mut taken = 0u64;
+    let Some(link) = pair.link(Side::Client) else {
+        return taken;
+    };
+    for _piece in 0..MANY {
+        let len = left.saturating_sub(taken).min(PIECE.len() as u64) as usize;
+        match link.write(id, &PIECE[..len]) {
+            Ok(count) if count > 0 => taken = taken.saturating_add(count as u64),
+            _ => break,
+        }
+    }
+    taken
+}
+
+// The server reads what waits. Returns how many bytes.
+fn read_some(pair: &mut Pair, id: StreamId) -> u64 {
+    let mut read = 0u64;
+    let Some(link) = pair.link(Side::Server) else {
+        return read;
+    };
+    for _piece in 0..MANY {
+        match link.read(id) {
+            Ok(Some(chunk)) if chunk.bytes.len() > 0 => {
+                read = read.saturating_add(chunk.bytes.len() as u64);
+            }
+            _ => break,
+        }
+    }
+    read
 }

@@ -1,24 +1,33 @@
-//! Answers rows about two endpoints, of a client and of a server, between which datagrams go. The head of `stdin` beside `src/` explains the
-//! rows.
+//! Answers rows about a client and a server between which datagrams go: of one connection of each, or of an endpoint of each with its connections.
+//! The head of `stdin` beside `src/` explains the rows.
 #![tactic(auto)]
 
-mod attempts;
 mod bulk;
-mod calls;
-mod course;
+mod connection_calls;
+mod connection_request;
+mod connection_run;
+mod datagrams;
 mod end;
+mod endpoint_attempts;
+mod endpoint_bulk;
+mod endpoint_calls;
+mod endpoint_connections;
+mod endpoint_run;
+mod items;
 mod kit;
 mod link;
+mod link_calls;
+mod link_changes;
 mod made;
 mod pair;
-mod say;
+mod row;
 mod settings;
 mod tell;
 
-use pair::Pair;
+use pair::{Pair, Story};
 use qh_base::{StdSink, StdSource};
-use row_text::{RowFault, Table, Words, run};
-use say::Line;
+use row::Row;
+use row_text::{RowFault, Table, run};
 use settings::Settings;
 use std::alloc::Global;
 use std::process::ExitCode;
@@ -27,7 +36,7 @@ fn main(rt: HostRuntime) -> ExitCode {
     let alloc = rt.alloc();
     let mut source = StdSource::new(rt.stdin());
     let mut sink = StdSink::new(rt.stdout());
-    match Pair::new(alloc, &Settings::usual()) {
+    match Pair::new(alloc, Story::Endpoints, &Settings::usual()) {
         Ok(mut pair) => {
             let status = run(alloc, &mut source, &mut sink, &mut pair);
             drop(pair);
@@ -39,14 +48,8 @@ fn main(rt: HostRuntime) -> ExitCode {
 
 impl Table for Pair {
     fn answer(&mut self, alloc: Global, row: &str, out: &mut Vec<u8>) -> Result<(), RowFault> {
-        let mut words = Words::new(row);
-        let mut line = Line::new(alloc);
-        if let Err(fault) = self.answer_row(alloc, &mut words, &mut line) {
-            line.fail(fault);
-        }
-        if !words.is_at_end() {
-            line.fail(RowFault::Form);
-        }
-        line.end(out)
+        let mut row = Row::new(alloc, row);
+        self.answer_row(&mut row);
+        row.end(out)
     }
 }

@@ -1,113 +1,126 @@
-//! Both ends, and the rows about them.
+//! Both ends, and the rows of all stories.
 use crate::bulk::put_bulk;
-use crate::calls;
+use crate::connection_calls::made_retry;
+use crate::connection_run::put_run;
+use crate::datagrams::Datagrams;
 use crate::end::End;
-use crate::made::write_initial;
-use crate::say::{Line, MILLISECOND, address, address_of, find, place};
+use crate::endpoint_calls::{ENDPOINT_CALLS, made_initial};
+use crate::link::Link;
+use crate::link_calls;
+use crate::row::{MILLISECOND, Row, address_of, find};
 use crate::settings::Settings;
 use crate::tell::put_datagram;
 use bytes::Bytes;
 use qh_base::{Memory, Moment, Side};
-use row_text::{RowFault, Words};
+use qh_conn::ConnectionEvent;
+use row_text::RowFault;
 use std::alloc::Global;
 use std::mem;
 use std::net::SocketAddr;
 
-// The server name that clients ask for.
-const NAME: &[u8] = b"example";
+// The most datagrams that a connection sends at once.
+const MANY: u32 = 10_000;
+
+/// What the next rows are about.
+#[derive(Clone, Copy)]
+pub(crate) enum Story {
+    /// One connection of each end, with no endpoint between them.
+    Connections,
+    /// Two endpoints, with the connections that they make.
+    Endpoints,
+}
 
 /// Both ends, the moment, and the datagrams so far.
 #[derive(Drop)]
 pub(crate) struct Pair {
+    story: Story,
     pub(crate) client: End,
     pub(crate) server: End,
     pub(crate) now: Moment,
-    datagrams: Vec<Bytes>,
+    pub(crate) datagrams: Datagrams,
 }
 
-// The word of a row of both ends.
+// The word of a row.
 #[derive(Clone, Copy)]
-enum BothCall {
+enum Call {
     Of(Side),
+    Tell(Story),
     Begin,
     Time,
-    Make,
     Run,
+    Exchange,
+    Origin,
+    Retry,
+    Try,
+    Make,
     Bulk,
 }
 
-const BOTH_CALLS: [(&str, BothCall); 7] = [
-    ("client", BothCall::Of(Side::Client)),
-    ("server", BothCall::Of(Side::Server)),
-    ("begin", BothCall::Begin),
-    ("time", BothCall::Time),
-    ("make", BothCall::Make),
-    ("run", BothCall::Run),
-    ("bulk", BothCall::Bulk),
+const CALLS: [(&str, Call); 13] = [
+    ("client", Call::Of(Side::Client)),
+    ("server", Call::Of(Side::Server)),
+    ("connections", Call::Tell(Story::Connections)),
+    ("endpoints", Call::Tell(Story::Endpoints)),
+    ("begin", Call::Begin),
+    ("time", Call::Time),
+    ("run", Call::Run),
+    ("exchange", Call::Exchange),
+    ("origin", Call::Origin),
+    ("retry", Call::Retry),
+    ("try", Call::Try),
+    ("make", Call::Make),
+    ("bulk", Call::Bulk),
 ];
 
-// The word of a row of one end.
+// The word of a row of one end, in each story.
 #[derive(Clone, Copy)]
-pub(crate) enum Call {
-    Connect,
-    ConnectBearing,
-    ConnectMany,
-    Hand,
-    Cuts,
-    Give,
+enum EndCall {
     Send,
-    Accept,
-    Refuse,
-    Retry,
-    Ignore,
-    Pending,
-    Takes,
-    Known,
-    State,
+    Give,
+    Hand,
+    Hear,
+    HearMany,
     Events,
-    Close,
-    ValidationToken,
-    Queue,
-    TakeToken,
-    Bytes,
-    Open,
 }
 
-const CALLS: [(&str, Call); 22] = [
-    ("connect", Call::Connect),
-    ("connect-bearing", Call::ConnectBearing),
-    ("connect-many", Call::ConnectMany),
-    ("hand", Call::Hand),
-    ("cuts", Call::Cuts),
-    ("give", Call::Give),
-    ("send", Call::Send),
-    ("accept", Call::Accept),
-    ("refuse", Call::Refuse),
-    ("retry", Call::Retry),
-    ("ignore", Call::Ignore),
-    ("pending", Call::Pending),
-    ("takes", Call::Takes),
-    ("known", Call::Known),
-    ("state", Call::State),
-    ("events", Call::Events),
-    ("close", Call::Close),
-    ("validation-token", Call::ValidationToken),
-    ("queue", Call::Queue),
-    ("take-token", Call::TakeToken),
-    ("bytes", Call::Bytes),
-    ("open", Call::Open),
+const END_CALLS: [(&str, EndCall); 6] = [
+    ("send", EndCall::Send),
+    ("give", EndCall::Give),
+    ("hand", EndCall::Hand),
+    ("hear", EndCall::Hear),
+    ("hear-many", EndCall::HearMany),
+    ("events", EndCall::Events),
 ];
 
+impl Story {
+    // The next word as the number of a connection. In a story of connections there is but one, which has no number.
+    fn place(self, row: &mut Row<'_>) -> usize {
+        match self {
+            Story::Connections => 0,
+            Story::Endpoints => row.number() as usize,
+        }
+    }
+
+    // The next word as the address from which a datagram comes. In a story of connections it comes from the other end, and nothing is said.
+    fn address(self, to: Side, row: &mut Row<'_>) -> SocketAddr {
+        match self {
+            Story::Connections => address_of(to.other()),
+            Story::Endpoints => row.address(),
+        }
+    }
+}
+
 impl Pair {
-    /// Fresh ends, at the moment 0.
-    pub(crate) fn new(alloc: Global, settings: &Settings) -> Result<Pair, Memory> {
+    /// Fresh ends without connections, at the moment 0.
+    pub(crate) fn new(alloc: Global, story: Story, settings: &Settings) -> Result<Pair, Memory> {
         let client = End::new(alloc, Side::Client, settings.of(Side::Client))?;
         match End::new(alloc, Side::Server, settings.of(Side::Server)) {
             Ok(server) => Ok(Pair {
+                story,
                 client,
                 server,
                 now: Moment(0),
-                datagrams: Vec::new(alloc),
+                datagrams: Datagrams::new(alloc),
             }),
             Err(Memory) => {
                 drop(client);
@@ -123,295 +136,189 @@ impl Pair {
         }
     }
 
+    /// In a story of connections that of an end.
+    pub(crate) fn link(&mut self, side: Side) -> Option<&mut Link> {
+        match self.story {
+            Story::Connections => self.end(side).links.get_mut(0),
+            Story::Endpoints => None,
+        }
+    }
+
     /// Answers a row.
-    pub(crate) fn answer_row(
-        &mut self,
-        alloc: Global,
-        words: &mut Words<'_>,
-        out: &mut Line,
-    ) -> Result<(), RowFault> {
-        match find(&BOTH_CALLS, words.next()) {
-            Some(BothCall::Of(side)) => match find(&CALLS, words.next()) {
-                Some(call) => self.answer_end(alloc, side, call, words, out),
-                None => Err(RowFault::Form),
-            },
-            Some(BothCall::Begin) => self.begin(alloc, words, out),
-            Some(BothCall::Time) => self.pass(words, out),
-            Some(BothCall::Make) => self.make(alloc, words, out),
-            Some(BothCall::Run) => self.run(alloc, out),
-            Some(BothCall::Bulk) => put_bulk(alloc, words, out),
-            None => Err(RowFault::Form),
+    pub(crate) fn answer_row(&mut self, row: &mut Row<'_>) {
+        let Some(call) = row.find(&CALLS) else {
+            return;
+        };
+        match (call, self.story) {
+            (Call::Of(side), _) => self.answer_end(side, row),
+            (Call::Tell(story), _) | (Call::Begin, story) => {
+                row.put("ok");
+                self.restart(story, row);
+            }
+            (Call::Time, _) => {
+                row.put("ok");
+                let now = Moment(row.number().saturating_mul(MILLISECOND));
+                self.advance(now, row);
+            }
+            (Call::Bulk, _) => put_bulk(row),
+            (Call::Run, Story::Connections) => put_run(self, false, row),
+            (Call::Exchange, Story::Connections) => put_run(self, true, row),
+            (Call::Origin, Story::Connections) => self.set_origin(row),
+            (Call::Retry, Story::Connections) => {
+                let id = self.client.settings.own_id(Side::Client, row);
+                self.datagrams.put_made(made_retry(&id, row), row);
+            }
+            (Call::Try, Story::Connections) => self.try_frames(row),
+            (Call::Run, Story::Endpoints) => self.run(row),
+            (Call::Make, Story::Endpoints) => self.datagrams.put_made(made_initial(row), row),
+            _ => row.fail(RowFault::Form),
         }
     }
 
-    // SETTINGS: begins with fresh ends.
-    fn begin(
-        &mut self,
-        alloc: Global,
-        words: &mut Words<'_>,
-        out: &mut Line,
-    ) -> Result<(), RowFault> {
-        let pair = Pair::new(alloc, &Settings::read(words)?)?;
-        drop(mem::replace(self, pair));
-        out.put("ok");
-        Ok(())
+    /// SETTINGS: begins with fresh ends, and this story.
+    pub(crate) fn restart(&mut self, story: Story, row: &mut Row<'_>) {
+        match Pair::new(row.alloc, story, &Settings::read(row)) {
+            Ok(pair) => drop(mem::replace(self, pair)),
+            Err(Memory) => row.fail(RowFault::Memory),
+        }
+        if let Story::Connections = story {
+            self.begin_both(row);
+        }
     }
 
-    // T: time advances.
-    fn pass(&mut self, words: &mut Words<'_>, out: &mut Line) -> Result<(), RowFault> {
-        let now = words.number()?;
-        self.advance(Moment(now.saturating_mul(MILLISECOND)))?;
-        out.put("ok");
-        Ok(())
-    }
-
-    /// Time advances to this moment.
-    pub(crate) fn advance(&mut self, now: Moment) -> Result<(), RowFault> {
+    /// Time advances to this moment: connections do what is due by now.
+    pub(crate) fn advance(&mut self, now: Moment, row: &mut Row<'_>) {
         self.now = now;
-        self.client.pass(now)?;
-        self.server.pass(now)
-    }
-
-    // Makes an Initial packet of a client.
-    fn make(
-        &mut self,
-        alloc: Global,
-        words: &mut Words<'_>,
-        out: &mut Line,
-    ) -> Result<(), RowFault> {
-        let mut bytes = Vec::new(alloc);
-        write_initial(alloc, words, &mut bytes)?;
-        out.put_count("", self.datagrams.len() as u64);
-        out.put_count(": ", bytes.len() as u64);
-        self.datagrams.push(Bytes::from_vec(bytes)?)?;
-        Ok(())
-    }
-
-    // Keeps a datagram that an endpoint answered, if it did, and tells its number and its bytes.
-    fn keep_response(&mut self, bytes: Vec<u8>, out: &mut Line) -> Result<(), RowFault> {
-        if bytes.is_empty() {
-            return Ok(());
-        }
-        out.put_count(", ", self.datagrams.len() as u64);
-        out.put_part(": ", &bytes);
-        self.datagrams.push(Bytes::from_vec(bytes)?)?;
-        Ok(())
+        self.client.pass(now, row);
+        self.server.pass(now, row);
     }
 
     // Answers a row of one end.
-    fn answer_end(
-        &mut self,
-        alloc: Global,
-        side: Side,
-        call: Call,
-        words: &mut Words<'_>,
-        out: &mut Line,
-    ) -> Result<(), RowFault> {
-        match call {
-            Call::Connect => self.connect(alloc, side, 1, words, out),
-            Call::ConnectBearing => self.connect_bearing(alloc, side, words, out),
-            Call::ConnectMany => {
-                let count = words.number()?;
-                self.connect(alloc, side, count, words, out)
+    fn answer_end(&mut self, side: Side, row: &mut Row<'_>) {
+        let word = row.word();
+        let story = self.story;
+        if let Story::Endpoints = story
+            && let Some(call) = find(&ENDPOINT_CALLS, word)
+        {
+            let now = self.now;
+            let mut buf = Vec::new(row.alloc);
+            self.end(side).answer(now, call, &mut buf, row);
+            return self.datagrams.put_response(buf, row);
+        }
+        match find(&END_CALLS, word) {
+            Some(EndCall::Send) => self.send(side, row),
+            Some(EndCall::Give) => {
+                let number = row.number() as usize;
+                let from = row.address_or(side.other());
+                if let Some(payload) = self.datagrams.copy(number, row) {
+                    self.take(side, from, payload, row);
+                }
             }
-            Call::Hand => self.hand(alloc, side, words, out),
-            Call::Cuts => self.cuts(alloc, side, words, out),
-            Call::Give => self.give(alloc, side, words, out),
-            Call::Send => self.send(alloc, side, place(words)?, out),
-            Call::Accept | Call::Refuse | Call::Retry => {
-                self.decide(alloc, side, call, words, out)
+            Some(EndCall::Hand) => {
+                let from = story.address(side, row);
+                self.take(side, from, row.payload(), row);
             }
-            _ => {
-                let now = self.now;
-                calls::answer(alloc, now, self.end(side), call, words, out)
-            }
+            Some(EndCall::Hear) => self.hear(side, row),
+            Some(EndCall::HearMany) => self.hear_many(side, row),
+            Some(EndCall::Events) => self.end(side).put_told(story.place(row), row),
+            None => self.answer_link(side, word, row),
         }
     }
 
-    // [NAME [ADDRESS]]: tries so many connections, and tells of the last one, or how many there are.
-    fn connect(
-        &mut self,
-        alloc: Global,
-        side: Side,
-        count: u64,
-        words: &mut Words<'_>,
-        out: &mut Line,
-    ) -> Result<(), RowFault> {
+    // Answers a row of a connection.
+    fn answer_link(&mut self, side: Side, word: &str, row: &mut Row<'_>) {
         let now = self.now;
-        let name = read_name(alloc, words)?;
-        let remote = read_address(side.other(), words)?;
-        let end = self.end(side);
-        for _ in 1..count {
-            end.connect(now, remote, &name, &mut Line::new(alloc));
+        let place = self.story.place(row);
+        match self.end(side).links.get_mut(place) {
+            Some(link) => link_calls::answer(now, link, word, row),
+            None => row.fail(RowFault::Form),
         }
-        end.connect(now, remote, &name, out);
-        Ok(())
     }
+}
 
-    // TOKEN [NAME [ADDRESS]]
-    fn connect_bearing(
+// Datagrams that go between both ends.
+impl Pair {
+    /// The next datagram that a connection sends, if there is one.
+    pub(crate) fn transmit(
         &mut self,
-        alloc: Global,
-        side: Side,
-        words: &mut Words<'_>,
-        out: &mut Line,
-    ) -> Result<(), RowFault> {
-        let now = self.now;
-        let token = words.bytes(alloc)?;
-        let name = read_name(alloc, words)?;
-        let remote = read_address(side.other(), words)?;
-        let token = Bytes::from_vec(token)?;
-        self.end(side)
-            .connect_bearing(now, remote, &name, token, out);
-        Ok(())
-    }
-
-    // ADDRESS BYTES
-    fn hand(
-        &mut self,
-        alloc: Global,
-        side: Side,
-        words: &mut Words<'_>,
-        out: &mut Line,
-    ) -> Result<(), RowFault> {
-        let from = address(words)?;
-        let datagram = Bytes::from_vec(words.bytes(alloc)?)?;
-        self.take(alloc, side, from, datagram, out)
-    }
-
-    // NUMBER [ADDRESS]
-    fn give(
-        &mut self,
-        alloc: Global,
-        side: Side,
-        words: &mut Words<'_>,
-        out: &mut Line,
-    ) -> Result<(), RowFault> {
-        let place = place(words)?;
-        let from = read_address(side.other(), words)?;
-        let datagram = match self.datagrams.get(place) {
-            Some(datagram) => datagram.clone()?,
-            None => return Err(RowFault::Form),
-        };
-        self.take(alloc, side, from, datagram, out)
-    }
-
-    /// A datagram comes from this address.
-    pub(crate) fn take(
-        &mut self,
-        alloc: Global,
-        side: Side,
-        from: SocketAddr,
-        datagram: Bytes,
-        out: &mut Line,
-    ) -> Result<(), RowFault> {
-        let now = self.now;
-        let mut buf = Vec::new(alloc);
-        self.end(side).hand(now, from, datagram, &mut buf, out);
-        self.keep_response(buf, out)
-    }
-
-    // ADDRESS BYTES: each front of the bytes but all of them comes.
-    fn cuts(
-        &mut self,
-        alloc: Global,
-        side: Side,
-        words: &mut Words<'_>,
-        out: &mut Line,
-    ) -> Result<(), RowFault> {
-        let from = address(words)?;
-        let bytes = words.bytes(alloc)?;
-        let mut ignored = 0u64;
-        for len in 0..bytes.len() {
-            let front = bytes.get(..len).unwrap_or(&[]);
-            ignored = ignored.saturating_add(self.cut(alloc, side, from, front)?);
-        }
-        out.put_count("", ignored);
-        out.put_count(" of ", bytes.len() as u64);
-        Ok(())
-    }
-
-    // A datagram of these bytes comes. Returns 1 if nothing is done with it.
-    fn cut(
-        &mut self,
-        alloc: Global,
-        side: Side,
-        from: SocketAddr,
-        front: &[u8],
-    ) -> Result<u64, RowFault> {
-        let now = self.now;
-        let datagram = Bytes::copy_from_slice(alloc, front)?;
-        let mut told = Line::new(alloc);
-        let mut buf = Vec::new(alloc);
-        self.end(side)
-            .hand(now, from, datagram, &mut buf, &mut told);
-        Ok(u64::from(told.is("none")))
-    }
-
-    // The next datagram of a connection.
-    fn send(
-        &mut self,
-        alloc: Global,
-        side: Side,
+        from: Side,
         place: usize,
-        out: &mut Line,
-    ) -> Result<(), RowFault> {
+        row: &mut Row<'_>,
+    ) -> Option<Bytes> {
         let now = self.now;
-        let number = self.datagrams.len() as u64;
-        let id_len = self.end(side.other()).settings.id as usize;
-        let mut buf = Vec::new(alloc);
-        let link = self.end(side).link(place)?;
-        if !link.transmit(now, &mut buf)? {
-            out.put("nothing");
-            return Ok(());
-        }
-        out.put_count("", number);
-        out.put_count(": ", buf.len() as u64);
-        let connection = &link.connection;
-        out.put_address(" to ", connection.remote_address());
-        put_datagram(out, connection.session(), side, id_len, &buf);
-        self.datagrams.push(Bytes::from_vec(buf)?)?;
-        Ok(())
-    }
-
-    // ATTEMPT [SETTINGS]
-    fn decide(
-        &mut self,
-        alloc: Global,
-        side: Side,
-        call: Call,
-        words: &mut Words<'_>,
-        out: &mut Line,
-    ) -> Result<(), RowFault> {
-        let now = self.now;
-        let place = place(words)?;
-        let mut buf = Vec::new(alloc);
-        let end = self.end(side);
-        match call {
-            Call::Accept if words.is_at_end() => end.accept(now, place, None, &mut buf, out)?,
-            Call::Accept => {
-                let server = Settings::read(words)?.of(side).server();
-                end.accept(now, place, server, &mut buf, out)?;
+        match self.end(from).links.get_mut(place) {
+            Some(link) => link.transmit(now, row),
+            None => {
+                row.fail(RowFault::Form);
+                None
             }
-            Call::Refuse => end.refuse(place, &mut buf, out)?,
-            _ => end.retry(now, place, &mut buf, out)?,
         }
-        self.keep_response(buf, out)
     }
-}
 
-// The next word as a server name, or the one that clients ask for where nothing is said.
-fn read_name(alloc: Global, words: &mut Words<'_>) -> Result<Vec<u8>, RowFault> {
-    if words.is_at_end() {
-        return Ok(NAME.to_vec(alloc)?);
+    /// A connection sends all that it may, which comes to the other end.
+    pub(crate) fn send_all(&mut self, from: Side, place: usize, row: &mut Row<'_>) {
+        for _datagram in 0..MANY {
+            match self.transmit(from, place, row) {
+                Some(payload) => self.deliver(from.other(), payload, row),
+                None => break,
+            }
+        }
     }
-    words.bytes(alloc)
-}
 
-// The next word as an address, or that of a side where nothing is said.
-fn read_address(side: Side, words: &mut Words<'_>) -> Result<SocketAddr, RowFault> {
-    if words.is_at_end() {
-        return Ok(address_of(side));
+    /// A datagram comes to an end from the other one, and nothing is told of it.
+    pub(crate) fn deliver(&mut self, to: Side, payload: Bytes, row: &mut Row<'_>) {
+        match self.story {
+            Story::Connections => self.hand_in(to, payload, row),
+            Story::Endpoints => {
+                let mut told = Row::new(row.alloc, "");
+                self.take(to, address_of(to.other()), payload, &mut told);
+            }
+        }
     }
-    address(words)
+
+    // A datagram comes to a connection itself.
+    fn hand_in(&mut self, to: Side, payload: Bytes, row: &mut Row<'_>) {
+        let event = ConnectionEvent::Datagram {
+            now: self.now,
+            remote: address_of(to.other()),
+            payload,
+        };
+        self.end(to).hand_in(0, event, row);
+    }
+
+    /// A datagram comes to an end from this address: what its connection tells, or what becomes of it at its endpoint.
+    pub(crate) fn take(&mut self, to: Side, from: SocketAddr, payload: Bytes, row: &mut Row<'_>) {
+        match self.story {
+            Story::Connections => {
+                self.hand_in(to, payload, row);
+                self.end(to).put_told(0, row);
+            }
+            Story::Endpoints => {
+                let now = self.now;
+                let mut buf = Vec::new(row.alloc);
+                self.end(to).hand(now, from, payload, &mut buf, row);
+                self.datagrams.put_response(buf, row);
+            }
+        }
+    }
+
+    // [CONNECTION]: the next datagram of a connection is kept: its number, its size, in a story of endpoints where it goes, and its packets.
+    fn send(&mut self, from: Side, row: &mut Row<'_>) {
+        let story = self.story;
+        let place = story.place(row);
+        let number = self.datagrams.len() as u64;
+        let id_len = self.end(from.other()).settings.id as usize;
+        let Some(payload) = self.transmit(from, place, row) else {
+            return row.put("nothing");
+        };
+        if let Some(link) = self.end(from).links.get(place) {
+            row.put_count("", number);
+            row.put_count(": ", payload.len() as u64);
+            if let Story::Endpoints = story {
+                row.put_address(" to ", link.connection.remote_address());
+            }
+            put_datagram(link.connection.session(), from, id_len, &payload, row);
+        }
+        self.datagrams.keep(payload, row);
+    }
 }

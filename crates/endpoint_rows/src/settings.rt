@@ -1,19 +1,44 @@
-//! What both endpoints begin with.
-use crate::say::find;
-use qh_base::{Memory, Side, Span};
+//! What both ends begin with: their connections, and their endpoints.
+use crate::row::Row;
+use qh_base::{ConnectionId, Memory, Side, Span};
 use qh_conn::ConnConfig;
 use qh_kit::{EndpointConfig, ServerConfig};
 use qh_packet::Version;
 use qh_streams::StreamLimits;
-use row_text::{RowFault, Words};
+use row_text::RowFault;
 use std::alloc::Global;
 
-/// What one endpoint begins with. Times are in milliseconds; 1 is yes.
+// In a story of connections the client's id is the first of these bytes.
+const CLIENT: [u8; 20] = [
+    0xc0, 0xc1, 0xc2, 0xc3, 0xc4, 0xc5, 0xc6, 0xc7, 0xc8, 0xc9, 0xca, 0xcb, 0xcc, 0xcd, 0xce, 0xcf,
+    0xb0, 0xb1, 0xb2, 0xb3,
+];
+
+// And the server's id is the first of these.
+const SERVER: [u8; 20] = [
+    0x50, 0x51, 0x52, 0x53, 0x54, 0x55, 0x56, 0x57, 0x58, 0x59, 0x5a, 0x5b, 0x5c, 0x5d, 0x5e, 0x5f,
+    0x60, 0x61, 0x62, 0x63,
+];
+
+/// What one end begins with. Times are in milliseconds; 1 is yes.
 #[derive(Clone, Copy)]
 pub(crate) struct EndSettings {
+    /// How long its ids are.
+    pub(crate) id: u64,
+    // Of its connections.
+    idle: u64,
+    receive: u64,
+    stream: u64,
+    send: u64,
+    bidi: u64,
+    uni: u64,
+    datagrams: Option<u64>,
+    datagram_send: u64,
+    rtt: u64,
+    window: u64,
+    // Of its endpoint.
     takes: u64,
     versions: u64,
-    pub(crate) id: u64,
     pub(crate) strict: u64,
     grease: u64,
     max: u64,
@@ -22,11 +47,10 @@ pub(crate) struct EndSettings {
     reset: u64,
     retry: u64,
     life: u64,
-    idle: u64,
     pub(crate) log: u64,
 }
 
-/// What both endpoints begin with.
+/// What both ends begin with.
 #[derive(Clone, Copy)]
 pub(crate) struct Settings {
     client: EndSettings,
@@ -34,9 +58,19 @@ pub(crate) struct Settings {
 }
 
 const USUAL: EndSettings = EndSettings {
+    id: 8,
+    idle: 30_000,
+    receive: 100_000,
+    stream: 10_000,
+    send: 100_000,
+    bidi: 10,
+    uni: 10,
+    datagrams: Some(5_000),
+    datagram_send: 5_000,
+    rtt: 100,
+    window: 12_000,
     takes: 1,
     versions: 1,
-    id: 8,
     strict: 0,
     grease: 0,
     max: 10,
@@ -45,16 +79,28 @@ const USUAL: EndSettings = EndSettings {
     reset: 20,
     retry: 15_000,
     life: 60_000,
-    idle: 30_000,
     log: 10_000,
 };
+
+// A window of a stream, of the connection, of what is held to send, and of what may be in flight at first, where windows are wide.
+const WINDOW: u64 = 1_048_576;
 
 // Which setting.
 #[derive(Clone, Copy)]
 enum Setting {
+    Id,
+    Idle,
+    Receive,
+    Stream,
+    Send,
+    Bidi,
+    Uni,
+    Datagrams,
+    DatagramSend,
+    Rtt,
+    Window,
     Takes,
     Versions,
-    Id,
     Strict,
     Grease,
     Max,
@@ -63,24 +109,43 @@ enum Setting {
     Reset,
     Retry,
     Life,
-    Idle,
     Log,
 }
 
-const SETTINGS: [(&str, Setting); 13] = [
-    ("takes", Setting::Takes),
-    ("versions", Setting::Versions),
-    ("id", Setting::Id),
-    ("strict", Setting::Strict),
-    ("grease", Setting::Grease),
-    ("max", Setting::Max),
-    ("buffer", Setting::Buffer),
-    ("total", Setting::Total),
-    ("reset", Setting::Reset),
-    ("retry", Setting::Retry),
-    ("life", Setting::Life),
-    ("idle", Setting::Idle),
-    ("log", Setting::Log),
+// What a word of settings is.
+#[derive(Clone, Copy)]
+enum Word {
+    End,
+    Of(Side),
+    Name(Setting),
+}
+
+const WORDS: [(&str, Word); 25] = [
+    ("", Word::End),
+    ("client", Word::Of(Side::Client)),
+    ("server", Word::Of(Side::Server)),
+    ("id", Word::Name(Setting::Id)),
+    ("idle", Word::Name(Setting::Idle)),
+    ("receive", Word::Name(Setting::Receive)),
+    ("stream", Word::Name(Setting::Stream)),
+    ("send", Word::Name(Setting::Send)),
+    ("bidi", Word::Name(Setting::Bidi)),
+    ("uni", Word::Name(Setting::Uni)),
+    ("datagrams", Word::Name(Setting::Datagrams)),
+    ("datagram-send", Word::Name(Setting::DatagramSend)),
+    ("rtt", Word::Name(Setting::Rtt)),
+    ("window", Word::Name(Setting::Window)),
+    ("takes", Word::Name(Setting::Takes)),
+    ("versions", Word::Name(Setting::Versions)),
+    ("strict", Word::Name(Setting::Strict)),
+    ("grease", Word::Name(Setting::Grease)),
+    ("max", Word::Name(Setting::Max)),
+    ("buffer", Word::Name(Setting::Buffer)),
+    ("total", Word::Name(Setting::Total)),
+    ("reset", Word::Name(Setting::Reset)),
+    ("retry", Word::Name(Setting::Retry)),
+    ("life", Word::Name(Setting::Life)),
+    ("log", Word::Name(Setting::Log)),
 ];
 
 impl Settings {
@@ -94,7 +159,28 @@ impl Settings {
         }
     }
 
-    /// Those of one endpoint.
+    /// Wide windows, that many two-way streams, no datagrams and no idle time.
+    pub(crate) fn wide(streams: u64) -> Settings {
+        let end = EndSettings {
+            idle: 0,
+            receive: WINDOW,
+            stream: WINDOW,
+            send: WINDOW,
+            bidi: streams,
+            uni: 0,
+            datagrams: None,
+            datagram_send: 0,
+            rtt: 1,
+            window: WINDOW,
+            ..USUAL
+        };
+        Settings {
+            client: end,
+            server: end,
+        }
+    }
+
+    /// Those of one end.
     pub(crate) fn of(&self, side: Side) -> &EndSettings {
         match side {
             Side::Client => &self.client,
@@ -102,26 +188,26 @@ impl Settings {
         }
     }
 
-    /// Reads names and values: of both endpoints up to the word `client` or `server`, and of that one after it.
-    pub(crate) fn read(words: &mut Words<'_>) -> Result<Settings, RowFault> {
+    /// Reads names and values: of both ends up to the word `client` or `server`, and of that one after it.
+    pub(crate) fn read(row: &mut Row<'_>) -> Settings {
         let mut settings = Settings::usual();
         let mut side = None;
         for _word in 0..u64::MAX {
-            match words.next() {
-                "" => break,
-                "client" => side = Some(Side::Client),
-                "server" => side = Some(Side::Server),
-                word => match find(&SETTINGS, word) {
-                    Some(setting) => settings.set(side, setting, words.number()?),
-                    None => return Err(RowFault::Form),
-                },
+            match row.find(&WORDS) {
+                None | Some(Word::End) => break,
+                Some(Word::Of(one)) => side = Some(one),
+                Some(Word::Name(setting)) => settings.set(side, setting, row),
             }
         }
-        Ok(settings)
+        settings
     }
 
-    // Sets one of an endpoint, or of both.
-    fn set(&mut self, side: Option<Side>, setting: Setting, value: u64) {
+    // Sets one of an end, or of both.
+    fn set(&mut self, side: Option<Side>, setting: Setting, row: &mut Row<'_>) {
+        let value = match setting {
+            Setting::Datagrams => number_or_none(row),
+            _ => Some(row.number()),
+        };
         if side != Some(Side::Server) {
             self.client.set(setting, value);
         }
@@ -131,22 +217,59 @@ impl Settings {
     }
 }
 
+// The next word as a number, if it isn't `none`.
+fn number_or_none(row: &mut Row<'_>) -> Option<u64> {
+    let word = row.word();
+    if word == "none" {
+        return None;
+    }
+    let mut named = Row::new(row.alloc, word);
+    let number = named.number();
+    row.fail_as(&named);
+    Some(number)
+}
+
 impl EndSettings {
-    fn set(&mut self, setting: Setting, value: u64) {
+    fn set(&mut self, setting: Setting, value: Option<u64>) {
+        let number = value.unwrap_or(0);
         match setting {
-            Setting::Takes => self.takes = value,
-            Setting::Versions => self.versions = value,
-            Setting::Id => self.id = value,
-            Setting::Strict => self.strict = value,
-            Setting::Grease => self.grease = value,
-            Setting::Max => self.max = value,
-            Setting::Buffer => self.buffer = value,
-            Setting::Total => self.total = value,
-            Setting::Reset => self.reset = value,
-            Setting::Retry => self.retry = value,
-            Setting::Life => self.life = value,
-            Setting::Idle => self.idle = value,
-            Setting::Log => self.log = value,
+            Setting::Id => self.id = number,
+            Setting::Idle => self.idle = number,
+            Setting::Receive => self.receive = number,
+            Setting::Stream => self.stream = number,
+            Setting::Send => self.send = number,
+            Setting::Bidi => self.bidi = number,
+            Setting::Uni => self.uni = number,
+            Setting::Datagrams => self.datagrams = value,
+            Setting::DatagramSend => self.datagram_send = number,
+            Setting::Rtt => self.rtt = number,
+            Setting::Window => self.window = number,
+            Setting::Takes => self.takes = number,
+            Setting::Versions => self.versions = number,
+            Setting::Strict => self.strict = number,
+            Setting::Grease => self.grease = number,
+            Setting::Max => self.max = number,
+            Setting::Buffer => self.buffer = number,
+            Setting::Total => self.total = number,
+            Setting::Reset => self.reset = number,
+            Setting::Retry => self.retry = number,
+            Setting::Life => self.life = number,
+            Setting::Log => self.log = number,
+        }
+    }
+
+    /// In a story of connections the id of the end of this side.
+    pub(crate) fn own_id(&self, side: Side, row: &mut Row<'_>) -> ConnectionId {
+        let bytes = match side {
+            Side::Client => &CLIENT,
+            Side::Server => &SERVER,
+        };
+        match bytes.get(..self.id.min(21) as usize) {
+            Some(bytes) => ConnectionId::new(bytes).unwrap(),
+            None => {
+                row.fail(RowFault::Form);
+                ConnectionId::new(bytes).unwrap()
+            }
         }
     }
 
@@ -183,20 +306,20 @@ impl EndSettings {
     pub(crate) fn conn(&self) -> ConnConfig {
         ConnConfig {
             limits: StreamLimits {
-                receive_window: 100_000,
-                stream_window: 10_000,
-                send_window: 100_000,
-                max_bidi: 10,
-                max_uni: 10,
+                receive_window: self.receive,
+                stream_window: self.stream,
+                send_window: self.send,
+                max_bidi: self.bidi,
+                max_uni: self.uni,
             },
             idle: match self.idle {
                 0 => None,
                 millis => Some(Span::from_millis(millis)),
             },
-            initial_rtt: Span::from_millis(100),
-            initial_window: 12_000,
-            datagram_receive: Some(5_000),
-            datagram_send: 5_000,
+            initial_rtt: Span::from_millis(self.rtt),
+            initial_window: self.window,
+            datagram_receive: self.datagrams,
+            datagram_send: self.datagram_send,
             version: Version::One,
         }
     }

@@ -1,146 +1,118 @@
-//! Describes attempts, answers, packets and events.
-use crate::say::Line;
-use qh_base::{ConnectionError, Side, Transmit, TransportErrorCode};
-use qh_conn::{ConnectionEvent, EndpointEvent, Event};
-use qh_endpoint::Incoming;
+//! Describes packets, and what a connection tells.
+use crate::row::Row;
+use qh_base::{ConnectionError, Side, TransportErrorCode};
+use qh_conn::{EndpointEvent, Event};
 use qh_packet::{InitialForm, PlainSession, open_initial, open_packet};
-use row_text::RowFault;
-
-/// Puts what an attempt tells.
-pub(crate) fn put_attempt(out: &mut Line, number: u64, incoming: &Incoming) {
-    out.put_count("attempt ", number);
-    out.put_address(" from ", incoming.remote_address());
-    match incoming.local_ip() {
-        Some(ip) => out.put_ip(" to ", ip),
-        None => out.put(" to none"),
-    }
-    out.put_part(" original ", incoming.orig_dst_cid().bytes());
-    if incoming.may_retry() {
-        out.put(" may-retry");
-    }
-    if incoming.remote_address_validated() {
-        out.put(" validated");
-    }
-}
-
-/// Puts how many bytes are to be sent, and where.
-pub(crate) fn put_response(out: &mut Line, transmit: &Transmit) {
-    out.put_count("response ", transmit.size as u64);
-    match transmit.src_ip {
-        Some(ip) => out.put_ip(" from ", ip),
-        None => {}
-    }
-    out.put_address(" to ", transmit.destination);
-}
+use qh_streams::StreamEvent;
 
 /// Puts the packets of a datagram that the end of a session sent to an end whose ids have this length.
 pub(crate) fn put_datagram(
-    out: &mut Line,
     session: &PlainSession,
     from: Side,
     id_len: usize,
     payload: &[u8],
+    row: &mut Row<'_>,
 ) {
     let Some(form) = InitialForm::read(payload) else {
-        return put_data(out, session, from, id_len, payload);
+        return put_data(session, from, id_len, payload, row);
     };
     match open_initial(session, &form, from, 0) {
         Some(packet) => {
-            out.put_count(" initial ", packet.number);
-            out.put_part(" to ", form.destination);
+            row.put_count(" initial ", packet.number);
+            row.put_part(" to ", form.destination);
             if !form.token.is_empty() {
-                out.put_part(" token ", form.token);
+                row.put_part(" token ", form.token);
             }
-            out.put_part(" frames ", packet.frames);
+            row.put_part(" frames ", packet.frames);
         }
-        None => out.put(" unknown"),
+        None => row.put(" unknown"),
     }
     if !form.rest.is_empty() {
-        out.put(" and");
-        put_data(out, session, from, id_len, form.rest);
+        row.put(" and");
+        put_data(session, from, id_len, form.rest, row);
     }
 }
 
-fn put_data(out: &mut Line, session: &PlainSession, from: Side, id_len: usize, payload: &[u8]) {
+fn put_data(session: &PlainSession, from: Side, id_len: usize, payload: &[u8], row: &mut Row<'_>) {
     let id_len = id_len.min(20);
     let Some(packet) = open_packet(session, payload, id_len, from, 0) else {
-        return out.put(" unknown");
+        return row.put(" unknown");
     };
-    out.put_count(" data ", packet.number);
-    out.put_part(
+    row.put_count(" data ", packet.number);
+    row.put_part(
         " to ",
         payload.get(1..id_len.saturating_add(1)).unwrap_or(&[]),
     );
-    out.put_part(" frames ", packet.frames);
+    row.put_part(" frames ", packet.frames);
 }
 
 /// Puts what a connection tells the application.
-pub(crate) fn put_event(out: &mut Line, event: &Event) {
+pub(crate) fn put_event(event: &Event, row: &mut Row<'_>) {
     match event {
-        Event::HandshakeDataReady => out.put("data"),
-        Event::Connected => out.put("connected"),
+        Event::HandshakeDataReady => row.put("data"),
+        Event::Connected => row.put("connected"),
         Event::ConnectionLost { reason } => {
-            out.put("lost ");
-            put_cause(out, reason);
+            row.put("lost ");
+            put_cause(reason, row);
         }
-        _ => out.put("other"),
+        Event::Stream(event) => put_stream_event(*event, row),
+        Event::DatagramReceived => row.put("datagram"),
+        Event::DatagramsUnblocked => row.put("unblocked"),
+    }
+}
+
+fn put_stream_event(event: StreamEvent, row: &mut Row<'_>) {
+    match event {
+        StreamEvent::Opened { dir } => row.put_dir("opened ", dir),
+        StreamEvent::Available { dir } => row.put_dir("available ", dir),
+        StreamEvent::Readable { id } => row.put_count("readable ", id.0),
+        StreamEvent::Writable { id } => row.put_count("writable ", id.0),
+        StreamEvent::Finished { id } => row.put_count("finished ", id.0),
+        StreamEvent::Stopped { id, code } => {
+            row.put_count("stopped ", id.0);
+            row.put_count(" code ", code.into_inner());
+        }
     }
 }
 
 /// Puts what a connection asks of its endpoint.
-pub(crate) fn put_endpoint_event(out: &mut Line, event: &EndpointEvent) {
+pub(crate) fn put_endpoint_event(event: &EndpointEvent, row: &mut Row<'_>) {
     match event {
-        EndpointEvent::NeedIdentifiers(_, count) => out.put_count("need ", *count),
-        EndpointEvent::ResetToken(remote, token) => {
-            out.put_part("token ", &token.0);
-            out.put_address(" from ", *remote);
-        }
+        EndpointEvent::NeedIdentifiers(_, count) => row.put_count("need ", *count),
+        EndpointEvent::ResetToken(_, token) => row.put_part("token ", &token.0),
         EndpointEvent::RetireConnectionId(_, sequence, allow_more) => {
-            out.put_count("retire ", *sequence);
-            out.put(if *allow_more { " more" } else { " full" });
+            row.put_count("retire ", *sequence);
+            row.put(if *allow_more { " more" } else { " full" });
         }
-        EndpointEvent::Drained => out.put("drained"),
-    }
-}
-
-/// Puts the ids that a connection is told of, with their sequences.
-pub(crate) fn put_ids(out: &mut Line, event: &ConnectionEvent) {
-    let ConnectionEvent::NewIdentifiers(ids, _) = event else {
-        return out.fail(RowFault::Form);
-    };
-    out.put(" ids");
-    for issued in ids {
-        out.put_count(" ", issued.sequence);
-        out.put_part(":", issued.id.bytes());
+        EndpointEvent::Drained => row.put("drained"),
     }
 }
 
 /// Puts why a connection is lost, or isn't made.
-pub(crate) fn put_cause(out: &mut Line, cause: &ConnectionError) {
+pub(crate) fn put_cause(cause: &ConnectionError, row: &mut Row<'_>) {
     match cause {
-        ConnectionError::VersionMismatch => out.put("mismatch"),
-        ConnectionError::TransportError(error) => put_code(out, "error ", error.code, error.frame),
-        ConnectionError::ConnectionClosed(close) => put_code(
-            out,
-            "closed ",
-            close.code,
-            close.frame,
-        ),
-        ConnectionError::ApplicationClosed(close) => {
-            out.put_count("application ", close.error_code.into_inner());
+        ConnectionError::VersionMismatch => row.put("mismatch"),
+        ConnectionError::TransportError(error) => put_code("error ", error.code, error.frame, row),
+        ConnectionError::ConnectionClosed(close) => {
+            put_code("closed ", close.code, close.frame, row);
+            row.put_part(" ", close.reason.bytes());
         }
-        ConnectionError::Reset => out.put("reset"),
-        ConnectionError::TimedOut => out.put("timed-out"),
-        ConnectionError::LocallyClosed => out.put("by-this-end"),
-        ConnectionError::CidsExhausted => out.put("exhausted"),
-        ConnectionError::Memory => out.put("memory"),
+        ConnectionError::ApplicationClosed(close) => {
+            row.put_count("application ", close.error_code.into_inner());
+            row.put_part(" ", close.reason.bytes());
+        }
+        ConnectionError::Reset => row.put("reset"),
+        ConnectionError::TimedOut => row.put("timed-out"),
+        ConnectionError::LocallyClosed => row.put("by-this-end"),
+        ConnectionError::CidsExhausted => row.put("exhausted"),
+        ConnectionError::Memory => row.put("memory"),
     }
 }
 
 // Puts a code, and the type of a frame.
-fn put_code(out: &mut Line, name: &str, code: TransportErrorCode, frame: Option<u64>) {
-    out.put_code(name, code.0);
+fn put_code(name: &str, code: TransportErrorCode, frame: Option<u64>, row: &mut Row<'_>) {
+    row.put_code(name, code.0);
     if let Some(kind) = frame {
-        out.put_code(" frame ", kind);
+        row.put_code(" frame ", kind);
     }
 }

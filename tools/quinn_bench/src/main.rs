@@ -1,6 +1,6 @@
 //! Work of two quinn-proto connections in memory, to be timed. `quinn_bench STREAMS BYTES` sends so many bytes on the first of so
 //! many open streams, and `quinn_bench handshake N` connects N pairs of fresh ends in turn. It does what the words `bulk
-//! connection STREAMS BYTES` and `bulk handshake N` of the program `conn_rows` of this repository do. `quinn_bench route
+//! connection STREAMS BYTES` and `bulk handshake N` of the program `endpoint_rows` of this repository do. `quinn_bench route
 //! CONNECTIONS DATAGRAMS` hands so many datagrams in turn over so many live connections to the endpoint of their server.
 mod plain;
 mod route;
