@@ -9,7 +9,7 @@ ghost use Rattle.qh_control.specs.declared.control.ControlState.{ControlState as
 ghost use Rattle.qh_core.specs.Inner.{counted, fresh_stats, is_open};
 ghost use Rattle.qh_core.specs.Event.{is_drained};
 ghost use Rattle.qh_core.specs.Made.{AcceptsTags, MakesTagsOf};
-ghost use Rattle.qh_core.specs.Receiving.{IsClosedWith};
+ghost use Rattle.qh_core.specs.Receiving.{IsClosedWith, IsFaulted};
 ghost use Rattle.qh_core.specs.declared.control.ControlFrame.TheVariants as sending;
 ghost use Rattle.qh_core.specs.declared.state.Close.TheVariants.{Application};
 ghost use Rattle.qh_handshake.specs.Follows.{IsFresh};
@@ -21,7 +21,8 @@ use crate::ConnConfig;
 use crate::laws::still;
 use bytes::Bytes;
 use qh_base::{
-    ConnectionError, ConnectionId, FourTuple, Memory, Moment, Reason, Side, Span, VarInt,
+    ConnectionError, ConnectionId, FourTuple, Memory, Moment, Reason, Side, Span, TransportError,
+    VarInt,
 };
 use qh_control::{ControlState, EndpointEvent};
 use qh_converse::hears;
@@ -204,6 +205,22 @@ impl<S> Connection<S> {
         still::<S>();
         made::<S>();
         self.core.close(now, error_code, reason);
+    }
+
+    /// Something outside of the connection failed, as its socket: it closes with a fault of the transport (RFC 9000, section 11.1), in place of the
+    /// error that it is lost by, if it is.
+    pub fn close_by_fault(&mut self, now: Moment, error: TransportError)
+        requires whole { IsWhole self.old }
+        requires lives { is_drained self.old.core.state ≡ false }
+        ensures faulted { IsFaulted now error self.old.core self.new.core }
+        ensures rest { self.new ≡ record self.old { core = self.new.core } }
+        ensures stands { StandsStill self.old self.new }
+        ensures whole { IsWhole self.new }
+        ensures same { (key : S → List ℕ) → IsSameConnection key self.old self.new }
+    {
+        still::<S>();
+        made::<S>();
+        self.core.close_by_fault(now, error);
     }
 
     /// What the endpoint is to be told. None exactly if nothing is left to be told.
