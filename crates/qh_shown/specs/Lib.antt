@@ -1,0 +1,3 @@
+pub mod Brings
+pub mod Connections
+pub mod Items
