@@ -1,0 +1,4 @@
+pub mod Contexts
+pub mod Polls
+pub mod Told
+pub mod Turns

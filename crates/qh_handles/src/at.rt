@@ -1,0 +1,82 @@
+ghost use Rattle.std.specs.Prelude.{◌≡◌, ℕ, Bool, List, MatchResult, IfErr, IfOk};
+ghost use Rattle.futures.specs.Poll.{IfReady, OnPending};
+ghost use Rattle.futures.specs.Task.{IsArmed, Keeps};
+ghost use Rattle.futures.specs.declared.task.Poll.{Poll as APoll};
+ghost use Rattle.std.specs.Prelude.{Result as AResult};
+ghost use Rattle.qh_base.specs.declared.time.Moment.{Moment as AMoment};
+ghost use Rattle.qh_book.specs.declared.call.Call.{Call as ACall};
+ghost use Rattle.qh_book.specs.declared.reply.Reply.{Reply as AReply};
+ghost use Rattle.qh_book.specs.declared.reply.Reply.TheVariants as reply;
+ghost use Rattle.qh_handles.specs.Contexts.{ContextArmed, ContextKept, HasContext};
+ghost use Rattle.qh_handles.specs.Told.{IsDrive, IsPolled, MayReply};
+ghost use Rattle.qh_handles.specs.Turns.{AreSent, HasCause, IsTurnFault};
+ghost use Rattle.qh_handles.specs.declared.told.Told.{Told as AToldValue};
+ghost use Rattle.qh_runtime.specs.declared.runtime.IoFault.{IoFault as AFault};
+ghost use Rattle.qh_runtime.specs.declared.runtime.OutMessage.{OutMessage as AnOutMessage};
+
+use crate::Told;
+use futures::task::{Context, Poll};
+use qh_base::{Memory, Moment};
+use qh_book::{Call, Reply};
+use qh_runtime::{AsyncUdpSocket, IoFault};
+
+/// Where calls are made: at the state of a connection itself, or at one that is shared. Each call is one step of that state, done while nobody else has it.
+pub trait At {
+    /// What the handshake tells of the peer.
+    type HandshakeData: Drop;
+
+    /// The call was made and replied so.
+    ghost acts: { Self → ACall → AReply (AToldValue Self.HandshakeData) → Self → Type 0 };
+
+    /// No call of this one was made, for want of memory.
+    ghost stays: { Self → Self → Type 0 };
+
+    /// A turn of the driver was made at this moment, while it was held or wasn't; it handed these messages to the socket and answered so. The last flag says
+    /// whether there is more to send than one turn may.
+    ghost drives: { Self → AMoment → Bool → List AnOutMessage → APoll (AResult (Unit {0}) AFault) → Bool → Self → Type 0 };
+
+    /// Makes a call that is none of the driver's. One that may have to wait needs a context to wait by.
+    fn act(
+        &mut self,
+        call: Call,
+        cx: Option<&mut Context<'_>>,
+    ) -> Result<Reply<Told<Self::HandshakeData>>, Memory>
+        requires polled { IsPolled call → HasContext cx }
+        requires no_turn { IsDrive call → ⊥ }
+        ensures value { MatchResult result (λ r. acts self.old call r self.new) (λ _. stays self.old self.new) }
+        ensures armed { IfOk result (λ r. r ≡ reply.Pending → ContextArmed cx.entry cx.exit) }
+        ensures kept { ContextKept cx.entry cx.exit };
+
+    /// Makes a turn of the driver.
+    fn drive<X: AsyncUdpSocket>(
+        &mut self,
+        part: &mut DriverPart<X>,
+        socket: &mut X,
+        now: Moment,
+        cx: &mut Context<'_>,
+    ) -> Poll<Result<(), IoFault>>
+        ensures value { (out : List AnOutMessage) × drives self.old now part.old.is_held out result part.new.keeps_going self.new × AreSent out (X.departed socket.old) (X.departed socket.new) }
+        ensures arrived { X.arrived socket.new ≡ X.arrived socket.old }
+        ensures cause { HasCause X.Poller.faults result (X.faults socket.old) (X.faults socket.new) part.old.poller part.new.poller }
+        ensures errors { IfReady result (λ r. IfErr r IsTurnFault) }
+        ensures held { part.new.is_held ≡ part.old.is_held }
+        ensures armed { OnPending result (IsArmed cx.new) }
+        ensures kept { Keeps cx.old cx.new };
+
+    /// If nothing is done no call is made.
+    ghost rests: { (x : Self) → stays x x };
+
+    /// The reply has a form that the call may have.
+    ghost fits: { (x y : Self) (c : ACall) (r : AReply (AToldValue Self.HandshakeData)) → acts x c r y → MayReply c r };
+}
+
+/// What a driver owns beside the state of its connection.
+#[derive(Drop)]
+pub struct DriverPart<X: AsyncUdpSocket> {
+    /// What tells that the socket can be written to, if it was asked for yet.
+    pub poller: Option<X::Poller>,
+    /// Whether it makes no datagram for now.
+    pub is_held: bool,
+    /// Whether the last turn ended because it had sent as many datagrams as one may, and not because none was left.
+    pub keeps_going: bool,
+}
