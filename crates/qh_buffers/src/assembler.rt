@@ -148,6 +148,16 @@ impl Assembler {
         Ok(Some(Chunk { offset, bytes }))
     }
 
+    /// Whether bytes wait that a read gives, in an ordered read the next ones.
+    pub fn has_next(&self, ordered: bool) -> bool
+        ensures yes { result ≡ true → HasNext self.now ordered }
+        ensures none_ordered { result ≡ false → ordered ≡ true → (to_give self.now (read_to self.now) ≡ None) × (was_given self.now (read_to self.now) ≡ false) }
+        ensures none_unordered { result ≡ false → ordered ≡ false → HasNothing self.now }
+    {
+        let _ = &self.given;
+        self.next_length(1, ordered) > 0
+    }
+
     /// Drops all bytes that wait, and keeps no room for others.
     pub fn clear(&mut self)
         ensures waits { HasNothing self.new }

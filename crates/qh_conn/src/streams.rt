@@ -1,4 +1,4 @@
-ghost use Rattle.std.specs.Prelude.{◌≡◌, ◌⊎◌, ◌<◌, [], ℕ, List, take, min, length, true, false, None, Some, Ok, is_some, OnOk, IsOk, OnErr, IfOk, IfErr, IfSome, IsSome, MatchResult};
+ghost use Rattle.std.specs.Prelude.{nat_lt, ◌≡◌, ◌⊎◌, ◌<◌, [], ℕ, List, take, min, length, true, false, None, Some, Ok, is_some, OnOk, IsOk, OnErr, IfOk, IfErr, IfSome, IsSome, MatchResult};
 ghost use Rattle.std.specs.List.{concat};
 ghost use Rattle.qh_conn.specs.Whole.{CarriesOn, IsWhole, Stands, StandsStill};
 ghost use Rattle.qh_core.specs.Follows.{write_acts, write_chunks_acts, finish_acts, reset_by_acts, stop_acts, take_acts, received_reset_acts};
@@ -10,9 +10,9 @@ ghost use Rattle.qh_half.specs.declared.fault.FinishFault.TheVariants as finish_
 ghost use Rattle.qh_half.specs.declared.fault.ReadFault.TheVariants.{Memory as Wanting};
 ghost use Rattle.qh_half.specs.declared.fault.ReadableFault.TheVariants as readable_faults;
 ghost use Rattle.qh_half.specs.declared.fault.WriteFault.TheVariants as write_faults;
-ghost use Rattle.qh_half.specs.Send.{credit, chunks_after, whole_chunks};
+ghost use Rattle.qh_half.specs.Send.{is_blocked_fault, credit, chunks_after, whole_chunks};
 ghost use Rattle.qh_halves.specs.Counts.{other_side};
-ghost use Rattle.qh_halves.specs.RecvHalves.{IsRecvStep, WaitsForMoreInOrderAt, Stops, TakesReset, is_closed_at};
+ghost use Rattle.qh_halves.specs.RecvHalves.{IsRecvStep, WaitsForMoreInOrderAt, Stops, TakesReset, is_closed_at, recv_at, IsReadBlockedAt, half_awaits_reset};
 ghost use Rattle.qh_halves.specs.SendHalves.{send_at, write_limit, write_fault_at, finish_fault_at, is_reset_refused_at, half_priority, IsStep, Takes, Finishes, IsResetWith, HasPriority};
 ghost use Rattle.qh_spec.specs.StreamId.{stream_id};
 ghost use Rattle.qh_spec.specs.Transcript.{Act, written, finished, read};
@@ -287,5 +287,41 @@ impl<S> Connection<S> {
             return Err(ClosedStream);
         }
         self.core.received_reset(id)
+    }
+
+    /// Whether the peer permits one more stream of a direction (RFC 9000, section 4.6).
+    pub fn can_open(&self, dir: Dir) -> bool
+        ensures { result ≡ nat_lt (counts_of self.now.core.space.streams (is_two_way dir)).opened (counts_of self.now.core.space.streams (is_two_way dir)).max_opened }
+    {
+        self.core.can_open(dir)
+    }
+
+    /// Whether a stream that the peer opened waits to be accepted.
+    pub fn can_accept(&self, dir: Dir) -> bool
+        ensures { result ≡ nat_lt (counts_of self.now.core.space.streams (is_two_way dir)).accepted (counts_of self.now.core.space.streams (is_two_way dir)).arrived }
+    {
+        self.core.can_accept(dir)
+    }
+
+    /// Whether a read of a stream in this order waits: it may be made, and there is nothing for it, neither bytes nor the end nor the reset.
+    pub fn is_read_blocked(&self, id: StreamId, ordered: bool) -> bool
+        ensures yes { result ≡ true → IsReadBlockedAt self.now.core.space.streams.recv id.0 ordered }
+        ensures no { result ≡ false → IsReadBlockedAt self.now.core.space.streams.recv id.0 ordered → ⊥ }
+    {
+        self.core.is_read_blocked(id, ordered)
+    }
+
+    /// Whether whoever waits for the peer's reset of a stream waits still: none came, and reads aren't refused.
+    pub fn awaits_reset(&self, id: StreamId) -> bool
+        ensures { result ≡ half_awaits_reset (recv_at self.now.core.space.streams.recv id.0) }
+    {
+        self.core.awaits_reset(id)
+    }
+
+    /// Whether a write to a stream waits, as far as its streams go: it is neither refused nor is a byte permitted.
+    pub fn is_write_blocked(&self, id: StreamId) -> bool
+        ensures { result ≡ is_blocked_fault (write_fault_at self.now.core.space.streams.send id.0) }
+    {
+        self.core.is_write_blocked(id)
     }
 }

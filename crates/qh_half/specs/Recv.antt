@@ -252,3 +252,14 @@ pub record IsRecv (r : PlainRecv) : Type 0 where
   pub given : (k : ℕ) → was_given r.assembler k ≡ true → k < r.end
   pub waiting : (k : ℕ) → r.end ≤ k → to_give r.assembler k ≡ None
   pub size : (n : ℕ) → final_size r.state ≡ Some n → r.end ≤ n
+
+-- A read in this order waits: it may be made, and there is nothing for it.
+pub record IsBlocked (r : PlainRecv) (ordered : Bool) : Type 0 where
+  pub readable : readable_fault r ordered ≡ None
+  pub waits : WaitsForMore (with_order r ordered)
+  pub no_end : is_at_end r ≡ false
+  pub no_reset : reset_code r.state ≡ None
+
+-- none came, and reads aren't refused
+abbrev pub awaits_reset : PlainRecv → Bool
+awaits_reset r = not (is_closed r) && not (is_some (reset_code r.state))

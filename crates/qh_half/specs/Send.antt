@@ -53,6 +53,11 @@ stopped_or_blocked None credit = if credit == 0 then Some Blocked else None
 abbrev pub write_fault : PlainSend → (limit : ℕ) → Option WriteFault
 write_fault s limit = if is_ready s.state then stopped_or_blocked s.stop_reason (credit s limit) else Some ClosedStream
 
+-- the write waits for a limit
+abbrev pub is_blocked_fault : Option WriteFault → Bool
+is_blocked_fault (Some Blocked) = true
+is_blocked_fault other = false
+
 -- Why a write took nothing: what refuses it, or memory lacks for the bytes if nothing does.
 abbrev pub IsWriteFault : WriteFault → Option WriteFault → Type 0
 IsWriteFault e refusal = ((e ≡ Memory) × (refusal ≡ None)) ⊎ (refusal ≡ Some e)

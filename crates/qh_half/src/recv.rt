@@ -1,6 +1,6 @@
 ghost use Rattle.std.specs.Prelude.{◌≡◌, ◌⊎◌, ℕ, Bool, ◌+◌, ◌-◌, ◌<◌, ◌≤◌, ◌^◌, ◌==◌, min, length, Option, Some, None, true, false, Err, OnOk, OnErr, IfOk, IfErr, IsOk, IfSome, MatchOption, if◌then◌else◌};
 ghost use Rattle.qh_buffers.specs.Assembler.{end_of, HasNothing, IsInserted};
-ghost use Rattle.qh_half.specs.Recv.{new_recv, ingest_fault, contradicts, readable_fault, with_order, with_size, keeps_bytes, IsFaultOf, IsRead, IsReadAnswer, WantsMemory, WaitsForMore, IsStopped, with_reset_given, limit_of, final_size, reset_code, bytes_read, IsIngested, IsResetBy, is_closed, is_at_end, is_done, is_limit_due, counted, owes_limit, owes_stop, is_stop_due, is_frame_due, wants_more, acked_stop, lost_stop, new_stop};
+ghost use Rattle.qh_half.specs.Recv.{new_recv, ingest_fault, contradicts, readable_fault, with_order, with_size, keeps_bytes, IsFaultOf, IsRead, IsReadAnswer, WantsMemory, WaitsForMore, IsStopped, with_reset_given, limit_of, final_size, reset_code, bytes_read, IsIngested, IsResetBy, is_closed, is_at_end, is_done, is_limit_due, counted, owes_limit, owes_stop, is_stop_due, is_frame_due, wants_more, IsBlocked, awaits_reset, acked_stop, lost_stop, new_stop};
 ghost use Rattle.std.specs.Option.{option_map};
 ghost use Rattle.qh_buffers.specs.SendBuffer.{lost_mark};
 ghost use Rattle.qh_buffers.specs.declared.send_buffer.Mark.TheVariants.{Sent, Queued, Acked};
@@ -508,6 +508,24 @@ impl Recv {
             return Some(ReadableFault::IllegalOrderedRead);
         }
         None
+    }
+
+    /// Whether a read in this order waits: it may be made, and there is nothing for it, neither bytes nor the end nor the reset.
+    pub fn is_blocked(&self, ordered: bool) -> bool
+        ensures yes { result ≡ true → IsBlocked self.now ordered }
+        ensures no { result ≡ false → IsBlocked self.now ordered → ⊥ }
+    {
+        self.readable_fault(ordered).is_none()
+            && self.state.reset_code().is_none()
+            && !self.is_at_end()
+            && !self.assembler.has_next(ordered && !self.is_unordered)
+    }
+
+    /// Whether whoever waits for the peer's reset waits still: none came, and reads aren't refused.
+    pub fn awaits_reset(&self) -> bool
+        ensures { result ≡ awaits_reset self.now }
+    {
+        !self.is_closed() && self.state.reset_code().is_none()
     }
 
     /// The code of the peer's reset, if one came.

@@ -3,7 +3,7 @@ ghost use Rattle.std.specs.List.{concat};
 ghost use Rattle.qh_buffers.specs.SendBuffer.{taken_to, is_queued, bytes_between, IsSpan};
 ghost use Rattle.qh_half.specs.declared.send.SendState.TheVariants.{Ready, DataSent, ResetSent};
 ghost use Rattle.qh_buffers.specs.declared.send_buffer.Mark.TheVariants.{Sent, Queued, Acked};
-ghost use Rattle.qh_half.specs.Send.{PlainSend, is_done, is_ready, is_finished, is_end_queued, is_end_acked, is_reset_refused, credit, write_fault, IsWriteFault, with_bytes, finish_fault, is_reset, is_reset_queued, IsPending, IsPieceOut, IsEndOut, IsPieceAcked, IsPieceQueued, IsSettled, with_end_sent, with_end_acked, with_end_lost, with_reset_mark, with_reset_lost, chunks_after, whole_chunks, new_send, owes_reset, held, Waits, is_writable, IsHeld};
+ghost use Rattle.qh_half.specs.Send.{is_blocked_fault, PlainSend, is_done, is_ready, is_finished, is_end_queued, is_end_acked, is_reset_refused, credit, write_fault, IsWriteFault, with_bytes, finish_fault, is_reset, is_reset_queued, IsPending, IsPieceOut, IsEndOut, IsPieceAcked, IsPieceQueued, IsSettled, with_end_sent, with_end_acked, with_end_lost, with_reset_mark, with_reset_lost, chunks_after, whole_chunks, new_send, owes_reset, held, Waits, is_writable, IsHeld};
 
 mod chunks;
 
@@ -249,6 +249,13 @@ impl Send {
             SendState::ResetSent(_, Mark::Acked) => true,
             _ => false,
         }
+    }
+
+    /// Whether a write waits, if all streams may take so many bytes more: it is neither refused nor is a byte permitted.
+    pub fn is_blocked(&self, limit: u64) -> bool
+        ensures { result ≡ is_blocked_fault (write_fault self.now limit) }
+    {
+        matches!(self.budget(limit), Err(WriteFault::Blocked))
     }
 
     // How many bytes may be taken now.

@@ -1,5 +1,5 @@
 -- The receiving halves of a connection's streams by their ids, and what they share: the connection's limit.
-use Rattle.std.specs.Prelude.{◌≡◌, ℕ, ◌+◌, ◌-◌, ◌<◌, ◌≤◌, ◌^◌, ◌==◌, min, max, Bool, true, false, ◌&&◌, ◌||◌, not, List, Option, Some, None, IfSome, is_some, pos, Result, Err, if◌then◌else◌}
+use Rattle.std.specs.Prelude.{◌≡◌, ℕ, ◌+◌, ◌-◌, ◌<◌, ◌≤◌, ◌^◌, ◌==◌, min, max, Bool, true, false, ◌&&◌, ◌||◌, not, List, Option, Some, None, IfSome, IsSomeAnd, is_some, pos, Result, Err, if◌then◌else◌}
 use Rattle.std.specs.Ordering.{nat_cmp}
 use Rattle.std.specs.BTreeMap.{is_at}
 use Rattle.std.specs.Map.{lookup, set_value}
@@ -17,7 +17,7 @@ use Rattle.qh_halves.specs.declared.recv_halves.StreamControl.TheVariants.{StopS
 use Rattle.qh_halves.specs.Counts.{is_in_range}
 use Rattle.qh_halves.specs.Limit.{is_due}
 use Rattle.qh_halves.specs.Pending.{PlainPending, has_room, waits}
-use Rattle.qh_half.specs.Recv.{PlainRecv, new_recv, ingest_fault, readable_fault, with_order, IsIngested, IsResetBy, IsReadAnswer, WaitsForMore, IsStopped, with_reset_given, reset_code, is_closed, is_done, counted, limit_of, is_limit_due, owes_limit, is_stop_due, owes_stop, is_frame_due, acked_stop, lost_stop}
+use Rattle.qh_half.specs.Recv.{PlainRecv, new_recv, ingest_fault, readable_fault, with_order, IsBlocked, awaits_reset, IsIngested, IsResetBy, IsReadAnswer, WaitsForMore, IsStopped, with_reset_given, reset_code, is_closed, is_done, counted, limit_of, is_limit_due, owes_limit, is_stop_due, owes_stop, is_frame_due, acked_stop, lost_stop}
 use Rattle.qh_buffers.specs.SendBuffer.{lost_mark}
 use Rattle.qh_halves.specs.declared.limit.AnnouncedLimit.{AnnouncedLimit}
 
@@ -132,6 +132,14 @@ WaitsForMoreAt s id = IfSome (recv_at s id) WaitsForMore
 
 abbrev pub WaitsForMoreInOrderAt : PlainRecvHalves → (id : ℕ) → (ordered : Bool) → Type 0
 WaitsForMoreInOrderAt s id ordered = IfSome (recv_at s id) (λ r. WaitsForMore (with_order r ordered))
+
+-- a read of the half in this order waits; one of a half that isn't there doesn't
+abbrev pub IsReadBlockedAt : PlainRecvHalves → (id : ℕ) → (ordered : Bool) → Type 0
+IsReadBlockedAt s id ordered = IsSomeAnd (recv_at s id) (λ r. IsBlocked r ordered)
+
+abbrev pub half_awaits_reset : Option PlainRecv → Bool
+half_awaits_reset None = false
+half_awaits_reset (Some r) = awaits_reset r
 
 -- a read that begins, in order or not, and then answers so
 pub record IsBegunRead (max_length : ℕ) (ordered : Bool) (answer : Result (Option Chunk) ReadFault) (old new : PlainRecvHalves) (id : ℕ) : Type 0 where

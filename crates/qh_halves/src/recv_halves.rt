@@ -7,7 +7,7 @@ ghost use Rattle.qh_buffers.specs.declared.send_buffer.Mark.TheVariants.{Sent, A
 ghost use Rattle.qh_half.specs.declared.fault.ReadFault.TheVariants.{Memory as Lacking};
 ghost use Rattle.qh_halves.specs.Limit.{is_due, acked_at, lost_at, owes_value};
 ghost use Rattle.qh_half.specs.Recv.{PlainRecv, new_recv, ingest_fault, is_frame_due, IsFaultOf};
-ghost use Rattle.qh_halves.specs.RecvHalves.{recv_at, recv_half_in, data_limit, IsRecvHalf, IsRecvStep, IsRecvAbsent, ingest_fault_at, IsPieceTaken, IsResetTaken, readable_fault_at, is_closed_at, Reads, Begins, WaitsForMoreAt, WaitsForMoreInOrderAt, IsBegunRead, is_wanting, Stops, TakesReset, NoneIsDue, GivesControl, IsLimitAcked, IsLimitLost, IsStopAcked, IsStopLost, half_owes_limit, half_owes_stop, half_is_wanted, due_entry, is_credit_due, AreRecvAdded, PlainRecvHalves, IsSettled, IsHalfWritten, IsNoneDue};
+ghost use Rattle.qh_halves.specs.RecvHalves.{IsReadBlockedAt, half_awaits_reset, recv_at, recv_half_in, data_limit, IsRecvHalf, IsRecvStep, IsRecvAbsent, ingest_fault_at, IsPieceTaken, IsResetTaken, readable_fault_at, is_closed_at, Reads, Begins, WaitsForMoreAt, WaitsForMoreInOrderAt, IsBegunRead, is_wanting, Stops, TakesReset, NoneIsDue, GivesControl, IsLimitAcked, IsLimitLost, IsStopAcked, IsStopLost, half_owes_limit, half_owes_stop, half_is_wanted, due_entry, is_credit_due, AreRecvAdded, PlainRecvHalves, IsSettled, IsHalfWritten, IsNoneDue};
 ghost use Rattle.qh_halves.specs.Counts.{is_in_range};
 ghost use Rattle.qh_halves.specs.Pending.{has_room};
 
@@ -240,6 +240,27 @@ impl RecvHalves {
             return Err(ReadableFault::ClosedStream);
         };
         half.begin_read(ordered)
+    }
+
+    /// Whether a read of the stream in this order waits: it may be made, and there is nothing for it, neither bytes nor the end nor the reset.
+    pub fn is_blocked(&self, id: u64, ordered: bool) -> bool
+        ensures yes { result ≡ true → IsReadBlockedAt self.now id ordered }
+        ensures no { result ≡ false → IsReadBlockedAt self.now id ordered → ⊥ }
+    {
+        match self.halves.get(&id) {
+            Some(half) => half.is_blocked(ordered),
+            None => false,
+        }
+    }
+
+    /// Whether whoever waits for the peer's reset of the stream waits still: none came, and reads aren't refused.
+    pub fn awaits_reset(&self, id: u64) -> bool
+        ensures { result ≡ half_awaits_reset (recv_at self.now id) }
+    {
+        match self.halves.get(&id) {
+            Some(half) => half.awaits_reset(),
+            None => false,
+        }
     }
 
     /// Why a read isn't begun, in order or not, as `begin_read` tells it.

@@ -7,7 +7,7 @@ ghost use Rattle.std.specs.Map.{keys_of};
 ghost use Rattle.std.specs.List.Sorted.{IsStrictlySortedBy};
 ghost use Rattle.qh_buffers.specs.SendBuffer.{empty_buffer, bytes_between, taken_to};
 ghost use Rattle.qh_half.specs.declared.send.SendState.TheVariants.{Ready};
-ghost use Rattle.qh_half.specs.Send.{PlainSend, IsWriteFault, credit, chunks_after, whole_chunks, Waits, new_send};
+ghost use Rattle.qh_half.specs.Send.{is_blocked_fault, PlainSend, IsWriteFault, credit, chunks_after, whole_chunks, Waits, new_send};
 ghost use Rattle.qh_halves.specs.SendHalves.{send_at, write_limit, write_fault_at, finish_fault_at, is_reset_refused_at, IsHalf, IsStep, IsAbsent, IsSettledBy, Takes, Finishes, IsResetWith, HasPriority, IsStoppedWith, HasLimit, IsUnblocked, IsAcked, IsLost, IsResetAcked, IsResetLost, IsSentNext, NoneWaits, IsSpanAt, IsOutNow, half_holds, half_in, KeepsSpans, IsSettledAt, half_owes_reset, half_priority, half_is_writable, half_end_acked, Gives, AreAdded, HasForm, PlainSendHalves, half_is_out, IsNextToSend};
 ghost use Rattle.qh_halves.specs.Counts.{is_in_range};
 
@@ -574,6 +574,16 @@ impl SendHalves {
     {
         match self.halves.get(&id) {
             Some(half) => half.is_writable(),
+            None => false,
+        }
+    }
+
+    /// Whether a write waits: it is neither refused nor is a byte permitted, by the limit of the stream, by that of all or by the send window.
+    pub fn is_blocked(&self, id: u64) -> bool
+        ensures { result ≡ is_blocked_fault (write_fault_at self.now id) }
+    {
+        match self.halves.get(&id) {
+            Some(half) => half.is_blocked(self.write_limit()),
             None => false,
         }
     }

@@ -1,4 +1,4 @@
-ghost use Rattle.std.specs.Prelude.{◌≡◌, ◌-◌, ◌<◌, ◌^◌, ◌==◌, ◌&&◌, not, min, [], length, None, IfSome, if◌then◌else◌};
+ghost use Rattle.std.specs.Prelude.{nat_lt, ◌≡◌, ◌-◌, ◌<◌, ◌^◌, ◌==◌, ◌&&◌, not, min, [], length, None, IfSome, if◌then◌else◌};
 ghost use Rattle.qh_spec.specs.StreamId.{stream_id};
 ghost use Rattle.qh_buffers.specs.declared.send_buffer.Mark.TheVariants.{Acked};
 ghost use Rattle.qh_halves.specs.Counts.{AreCounts, AreNoFewer, is_own, new_counts, other_side, count_limit};
@@ -142,6 +142,22 @@ impl Streams {
         ensures { result ≡ count_limit (counts_of self.now (is_two_way dir)) }
     {
         self.counts(dir).limit()
+    }
+
+    /// Whether the peer permits one more stream of a direction (RFC 9000, section 4.6).
+    pub fn can_open(&self, dir: Dir) -> bool
+        ensures { result ≡ nat_lt (counts_of self.now (is_two_way dir)).opened (counts_of self.now (is_two_way dir)).max_opened }
+    {
+        let counts = self.counts(dir);
+        counts.opened < counts.max_opened
+    }
+
+    /// Whether a stream that the peer opened waits to be accepted.
+    pub fn can_accept(&self, dir: Dir) -> bool
+        ensures { result ≡ nat_lt (counts_of self.now (is_two_way dir)).accepted (counts_of self.now (is_two_way dir)).arrived }
+    {
+        let counts = self.counts(dir);
+        counts.accepted < counts.arrived
     }
 
     /// Gives a stream that the peer opened, the next in order; None exactly if none is new.

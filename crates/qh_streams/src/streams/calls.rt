@@ -2,9 +2,9 @@ ghost use Rattle.std.specs.Prelude.{◌≡◌, ◌⊎◌, ◌||◌, take, min, l
 ghost use Rattle.std.specs.List.{concat};
 ghost use Rattle.qh_half.specs.declared.fault.ReadFault.TheVariants.{Memory as Lacking};
 ghost use Rattle.qh_half.specs.declared.fault.WriteFault.TheVariants.{Blocked, Memory as Wanting};
-ghost use Rattle.qh_half.specs.Send.{credit, chunks_after, whole_chunks};
+ghost use Rattle.qh_half.specs.Send.{credit, is_blocked_fault, chunks_after, whole_chunks};
 ghost use Rattle.qh_halves.specs.SendHalves.{send_at, write_limit, write_fault_at, finish_fault_at, is_reset_refused_at, half_priority, IsStep, IsAbsent, Takes, Finishes, IsResetWith, HasPriority};
-ghost use Rattle.qh_halves.specs.RecvHalves.{IsRecvStep, Reads, Begins, WaitsForMoreAt, WaitsForMoreInOrderAt, IsBegunRead, is_wanting, Stops, TakesReset, readable_fault_at, is_closed_at, is_credit_due};
+ghost use Rattle.qh_halves.specs.RecvHalves.{IsRecvStep, Reads, Begins, WaitsForMoreAt, WaitsForMoreInOrderAt, IsBegunRead, is_wanting, Stops, TakesReset, readable_fault_at, is_closed_at, is_credit_due, recv_at, IsReadBlockedAt, half_awaits_reset};
 ghost use Rattle.qh_streams.specs.Streams.{counted_closed, is_live, with_blocked, IsWriteRefusal, KeepsOut};
 
 use crate::{ClosedStream, FinishFault, ReadFault, ReadableFault, Streams, WriteFault, Written};
@@ -194,6 +194,28 @@ impl Streams {
         let code = self.recv.take_reset(id.0)?;
         self.count_closed(id, was_live);
         Ok(code)
+    }
+
+    /// Whether a read of a stream in this order waits: it may be made, and there is nothing for it, neither bytes nor the end nor the reset.
+    pub fn is_read_blocked(&self, id: StreamId, ordered: bool) -> bool
+        ensures yes { result ≡ true → IsReadBlockedAt self.now.recv id.0 ordered }
+        ensures no { result ≡ false → IsReadBlockedAt self.now.recv id.0 ordered → ⊥ }
+    {
+        self.recv.is_blocked(id.0, ordered)
+    }
+
+    /// Whether whoever waits for the peer's reset of a stream waits still: none came, and reads aren't refused.
+    pub fn awaits_reset(&self, id: StreamId) -> bool
+        ensures { result ≡ half_awaits_reset (recv_at self.now.recv id.0) }
+    {
+        self.recv.awaits_reset(id.0)
+    }
+
+    /// Whether a write to a stream waits: it is neither refused nor is a byte permitted.
+    pub fn is_write_blocked(&self, id: StreamId) -> bool
+        ensures { result ≡ is_blocked_fault (write_fault_at self.now.send id.0) }
+    {
+        self.send.is_blocked(id.0)
     }
 
     /// Whether a limit is to be announced: the connection's, or the stream's.
