@@ -1,4 +1,4 @@
-ghost use Rattle.std.specs.Prelude.{◌≡◌, ℕ, ◌+◌, ◌-◌, ◌<◌, ◌≤◌, ◌++◌, ◌∷◌, ◌==◌, ◌&&◌, List, [], drop, length, slice_get, nat_lt, None, Some, false, true, IfErr, IfOk, IfSome, OnErr, OnOk};
+ghost use Rattle.std.specs.Prelude.{◌≡◌, ℕ, ◌+◌, ◌-◌, ◌<◌, ◌≤◌, ◌++◌, ◌∷◌, ◌==◌, ◌&&◌, List, [], drop, length, slice_get, nat_le, nat_lt, not, None, Some, false, true, IfErr, IfOk, IfSome, OnErr, OnOk};
 ghost use Rattle.qh_datagrams.specs.Datagrams.{bytes_of, newest, with_room};
 ghost use Rattle.qh_datagrams.specs.declared.datagrams.SendRefusal.TheVariants as refusal;
 
@@ -104,6 +104,20 @@ impl DatagramState {
         ensures { result ≡ room - bytes_of self.now.outgoing }
     {
         room.saturating_sub(self.outgoing.total())
+    }
+
+    /// Whether a datagram waits to be read.
+    pub fn has_incoming(&self) -> bool
+        ensures { result ≡ not (length self.now.incoming == 0) }
+    {
+        !self.incoming.is_empty()
+    }
+
+    /// Whether one of this many bytes more may be queued without dropping any, if the queued ones may have so many together.
+    pub fn has_room(&self, size: u64, room: u64) -> bool
+        ensures { result ≡ nat_le (bytes_of self.now.outgoing + size) room }
+    {
+        self.outgoing.has_room(size, room)
     }
 
     /// The payload that is to be sent as the next but `index`. None exactly if there are no more than `index`.
