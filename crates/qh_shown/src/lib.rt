@@ -1,6 +1,7 @@
 //! Laws of a book that shows a whole connection: what events bring to it, and which of its replies a call of the connection is.
 #![tactic(auto)]
 
+mod books;
 mod driving;
 
 pub use driving::{
