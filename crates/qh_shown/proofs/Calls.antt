@@ -29,6 +29,7 @@ use Rattle.qh_control.specs.declared.items.ConnectionItem.TheVariants as entry
 use Rattle.qh_core.specs.Event.{is_drained}
 use Rattle.qh_core.specs.Inner.{is_open}
 use Rattle.qh_core.specs.Receiving.{IsFaulted}
+use Rattle.qh_core.specs.Sending.{without_close_due}
 use Rattle.qh_core.specs.declared.event.Event.{Event as CoreEvent}
 use Rattle.qh_core.specs.declared.event.Event.TheVariants as core_event
 use Rattle.qh_core.specs.declared.inner.Inner.{Inner}
@@ -38,7 +39,7 @@ use Rattle.qh_handshake.specs.Moments.{IsTimedOut as IsHandshakeTimedOut}
 use Rattle.qh_handshake.specs.declared.handshake.Handshake.{Handshake}
 use Rattle.qh_packet.specs.Session.{SealsTag}
 use Rattle.qh_shown.proofs.ControlSteps.{all_issued_quiet, IsQuietControl}
-use Rattle.qh_shown.proofs.CoreSteps.{CoreQuiet, CoreStep, close_quiet, core_step, drained_quiet, ended, frames_quiet, moment_quiet, open_lives, polled_quiet, quiet_by as core_by, quiet_self, step_self, timed_quiet_core}
+use Rattle.qh_shown.proofs.CoreSteps.{CoreQuiet, CoreStep, close_quiet, core_step, drained_quiet, ended, frames_quiet, kept, open_lives, polled_quiet, quiet_by as core_by, quiet_self, step_self, timed_quiet_core}
 use Rattle.qh_shown.proofs.Datagrams.{datagram_brings}
 use Rattle.qh_shown.proofs.Steps.{Quiet, Step, brings_by, by_core, by_parts, came_still, came_taken, no_longer, open_brings, quiet_brings, quiet_shows, step_by, taken, taken_on}
 use Rattle.qh_shown.specs.Brings.{Brings, BringsSome, IsLogging, TellsOf, is_told}
@@ -145,7 +146,7 @@ module _ {S : Type 0} (laws : BookLaws) where
 
   pub endpoint_brings : (told : Option EndpointEvent) (old new : Connection S) → IsEndpointTold old new told → Brings [] old new
   endpoint_brings _ old new (IsEndpointTold.control told are is) = brings_by [] old new _ is (control_brings old _ (record { datagrams = refl; bounds = refl; log = refl }))
-  endpoint_brings _ old new (IsEndpointTold.of_core told none drained is) = brings_by [] old new _ is (core_brings old new.core (drained_quiet _ old.core new.core drained))
+  endpoint_brings _ old new (IsEndpointTold.of_core told empty over is) = brings_by [] old new _ is (core_brings old new.core (drained_quiet _ old.core new.core over))
 
   -- ---- what is sent
 
@@ -189,9 +190,8 @@ module _ {S : Type 0} (laws : BookLaws) where
 
   pub sent_brings : (sealed : SealsTag) (now : Moment) (old new : Connection S) (before after : List ℕ) (t : Transmit) → IsWhole old → IsTransmitted sealed now old new before after t → BringsSome old new
   sent_brings sealed now old new before after t w (IsTransmitted.initial up made is goes) =
-      let k : CoreQuiet old.core (record old.core { idle = _ }) = moment_quiet old.core _ _ refl in
-      record { items = []; brings = brings_by [] old new _ is (quiet_brings laws old _ (by_parts old _ (core_step old.core _ k) refl refl (ap (λ (z : Handshake). z.peer) made.new_is) refl refl) k refl) }
+      record { items = []; brings = brings_by [] old new _ is (quiet_brings laws old _ (by_parts old _ (core_step old.core _ (kept old.core)) refl refl (ap (λ (z : Handshake). z.peer) made.new_is) refl refl) (kept old.core) refl) }
   sent_brings sealed now old new before after t w (IsTransmitted.close reason until said early was says made is goes) =
-      let k = close_quiet old.core _ refl in
+      let k = close_quiet old.core (record old.core { state = without_close_due old.core.state }) refl in
       record { items = []; brings = brings_by [] old new _ is (quiet_brings laws old _ (by_parts old _ (core_step old.core _ k) refl refl (ap (λ (z : Handshake). z.peer) made.new_is) refl refl) k refl) }
   sent_brings sealed now old new before after t w (IsTransmitted.data_packet connected turns carried) = data_brings sealed now old new before after t (w.sound.connected connected).0 carried

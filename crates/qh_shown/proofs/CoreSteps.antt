@@ -60,6 +60,13 @@ polled_streams old new _ (IsPolled.writable id front rest some waits none writab
 polled_streams old new _ (IsPolled.queued e es none events is) = is ∙ ap (λ (z : PlainStreams). record old { events = z.events; blocked = z.blocked }) (sym is)
 polled_streams old new _ (IsPolled.none none events is) = is ∙ ap (λ (z : PlainStreams). record old { events = z.events; blocked = z.blocked }) (sym is)
 
+module _ (laws : BookLaws) where
+  told_leads : (old new : PlainStreams) (e : Option StreamEvent) → IsPolled old new e → Leads [] old new
+  told_leads old new e polled = leads_by [] old new _ (polled_streams old new e polled) (laws.told old new.events new.blocked)
+
+  told_space : (s : DataSpace) (new : PlainStreams) (e : Option StreamEvent) → IsPolled s.streams new e → SpaceQuiet s (record s { streams = new })
+  told_space s new e polled = record { leads = told_leads s.streams new e polled; log = refl }
+
 module _ {S : Type 0} where
   -- ---- these items come
 
@@ -192,9 +199,9 @@ module _ {S : Type 0} where
 
     handled_step : (now : Moment) (number : ℕ) (frames : List ℕ) (old new : Inner S) → IsPacketHandled now number frames old new → SomeStep old new
     handled_step now number frames old new (IsPacketHandled.repeated before is) = same_some old new (quiet_same old new is)
-    handled_step now number frames old new (IsPacketHandled.empty e fresh none fault f) = faulted_some now e old new f
+    handled_step now number frames old new (IsPacketHandled.empty e fresh blank fault f) = faulted_some now e old new f
     handled_step now number frames old new (IsPacketHandled.faulty e k fresh faulty fault f) = faulted_some now e old new f
-    handled_step now number frames old new (IsPacketHandled.unnoted e eliciting fresh valid none f) = faulted_some now e old new f
+    handled_step now number frames old new (IsPacketHandled.unnoted e eliciting fresh valid first f) = faulted_some now e old new f
     handled_step now number frames old new (IsPacketHandled.taken fresh p) = packet_step now number frames old new p
 
     pub datagram_step : (accepts : AcceptsTag) (now : Moment) (d : List ℕ) (old new : Inner S) → IsDatagramTaken accepts now d old new → SomeStep old new
@@ -226,16 +233,10 @@ module _ {S : Type 0} where
 
     -- ---- what is told
 
-    told_leads : (old new : PlainStreams) (e : Option StreamEvent) → IsPolled old new e → Leads [] old new
-    told_leads old new e polled = leads_by [] old new _ (polled_streams old new e polled) (laws.told old new.events new.blocked)
-
-    told_space : (s : DataSpace) (new : PlainStreams) (e : Option StreamEvent) → IsPolled s.streams new e → SpaceQuiet s (record s { streams = new })
-    told_space s new e polled = record { leads = told_leads s.streams new e polled; log = refl }
-
     pub polled_quiet : (told : Option Event) (old new : Inner S) → IsPolledEvent old new told → CoreQuiet old new
-    polled_quiet _ old new (IsPolledEvent.stream e polled is) = quiet_by old new _ is (spaced old (told_space old.space _ _ polled))
-    polled_quiet _ old new (IsPolledEvent.lost mid error polled was untold is) = quiet_by old new _ is (spaced old (told_space old.space mid _ polled))
-    polled_quiet _ old new (IsPolledEvent.none polled either is) = quiet_by old new _ is (spaced old (told_space old.space _ _ polled))
+    polled_quiet _ old new (IsPolledEvent.stream e polled is) = quiet_by old new _ is (spaced old (told_space laws old.space _ _ polled))
+    polled_quiet _ old new (IsPolledEvent.lost mid error polled was untold is) = quiet_by old new _ is (spaced old (told_space laws old.space mid _ polled))
+    polled_quiet _ old new (IsPolledEvent.none polled either is) = quiet_by old new _ is (spaced old (told_space laws old.space _ _ polled))
 
   -- ---- an end that closed
 

@@ -22,7 +22,7 @@ use Rattle.qh_shown.proofs.ControlSteps.{frames_handled}
 use Rattle.qh_shown.proofs.CoreSteps.{CoreQuiet, CoreStep, after_counted, core_step, datagram_step, ends, ends_step, heard_quiet, packet_step, quiet_counted, quiet_self, shut_quiet, step_by, step_self}
 use Rattle.qh_shown.proofs.Greets.{datagram_calm, ended_step, met_step}
 use Rattle.qh_shown.proofs.SpaceSteps.{leads_same, logged_none}
-use Rattle.qh_shown.proofs.Steps.{SomeStep, accepted_step, brings_both, brings_by, by_core, by_parts, no_longer, open_some, quiet_brings, quiet_step, some_both, some_by, streams_step}
+use Rattle.qh_shown.proofs.Steps.{SomeStep, Step, accepted_step, brings_both, brings_by, by_core, by_parts, no_longer, open_some, quiet_brings, quiet_step, some_both, some_by, streams_step}
 use Rattle.qh_shown.specs.Brings.{Brings, BringsSome, IsLogging}
 use Rattle.qh_shown.specs.Connections.{bounds_of}
 use Rattle.qh_shown.specs.Laws.{BookLaws}
@@ -116,8 +116,8 @@ module _ {S : Type 0} (laws : BookLaws) where
 
   -- ---- a datagram
 
-  pub counted_step : (size : ℕ) (c : Connection S) → SomeStep c (counted_at size c)
-  counted_step size c = ([], quiet_step laws c (counted_at size c) (by_parts c (counted_at size c) (step_self c.core) refl refl refl refl refl) refl)
+  pub counted_step : (size : ℕ) (c : Connection S) → Step [] c (counted_at size c)
+  counted_step size c = quiet_step laws c (counted_at size c) (by_parts c (counted_at size c) (step_self c.core) refl refl refl refl refl) refl
 
   counted_brings : (size : ℕ) (c : Connection S) → Brings [] c (counted_at size c)
   counted_brings size c = shut_parts c (counted_at size c) (quiet_self c.core) refl refl refl refl
@@ -132,9 +132,9 @@ module _ {S : Type 0} (laws : BookLaws) where
   datagram_brings v now d old new w logging (IsDatagramHandled.ended mid rest e up fed by is) =
       let at = counted_at (length d) old in
       let calm = datagram_calm (v.accepts at.core.session) now d rest at.handshake fed.handshake fed.retried fed.learned (Some e) fed.taken in
-      open_some old new up (some_both old at new (counted_step (length d) old)
+      open_some old new up (some_both old at new ([], counted_step (length d) old)
       (ended_step laws v now d rest at mid e new (ends_shut now e mid.core new.core by) (ends_step [] now e mid.core mid.core new.core calm by (step_self mid.core)) fed is))
   datagram_brings v now d old new w logging (IsDatagramHandled.taken fed restarted met rest up f r m t) =
       let at = counted_at (length d) old in
       let first = met_step laws v now d rest at fed restarted met (λ none. w.current (inr none)) f r m in
-      open_some old new up (some_both old at new (counted_step (length d) old) (some_both at met new first (rest_step _ now d rest met new t (first.1.logging logging))))
+      open_some old new up (some_both old at new ([], counted_step (length d) old) (some_both at met new first (rest_step _ now d rest met new t (first.1.logging logging))))

@@ -1,5 +1,5 @@
 -- What the peer's hello brings: how long a datagram it takes, its first limits, and at a client that the handshake is complete.
-use Rattle.std.proofs.Common.{◌≡◌, ℕ, Bool, true, false, if◌then◌else◌, List, [], ◌∷◌, ◌++◌, Option, None, Some, is_some, refl, sym, ap, subst, ◌∙◌}
+use Rattle.std.proofs.Common.{◌≡◌, ℕ, Bool, true, false, if◌then◌else◌, List, [], ◌∷◌, ◌++◌, map, Option, None, Some, is_some, refl, sym, ap, subst, ◌∙◌}
 use Rattle.std.proofs.lemmas.Bool.{both_ways}
 use Rattle.std.proofs.lemmas.Option.{none-some}
 use Rattle.qh_base.specs.declared.connection_error.ConnectionError.{ConnectionError}
@@ -20,6 +20,7 @@ use Rattle.qh_control.specs.declared.items.ConnectionItem.{ConnectionItem}
 use Rattle.qh_control.specs.declared.items.ConnectionItem.TheVariants as entry
 use Rattle.qh_converse.specs.Settled.{datagram_of, peer_limits}
 use Rattle.qh_core.specs.Inner.{is_client, is_open}
+use Rattle.qh_core.specs.Timers.{restarted}
 use Rattle.qh_core.specs.declared.config.ConnConfig.{ConnConfig as CoreConfig}
 use Rattle.qh_core.specs.declared.idle.IdleTimer.{IdleTimer}
 use Rattle.qh_core.specs.declared.inner.Inner.{Inner}
@@ -48,7 +49,7 @@ hello_calm : (old new : Handshake) (learned : Option (List ℕ)) (end : Option C
 hello_calm old new _ _ (IsHelloRead.gone _ _) = refl
 hello_calm old new _ _ (IsHelloRead.known _ _ _) = refl
 hello_calm old new _ _ (IsHelloRead.cut _ _ _ _) = refl
-hello_calm old new _ _ (IsHelloRead.refused _ _ _ _ _ _ _ _ _ _ _) = refl
+hello_calm old new _ _ (IsHelloRead.refused _ _ _ _ _ _ _ _ _ _ _ _) = refl
 hello_calm old new _ _ (IsHelloRead.at_client _ _ _ _ _) = refl
 hello_calm old new _ _ (IsHelloRead.at_server _ _ _ _ _ _ _) = refl
 
@@ -107,13 +108,13 @@ unused_first side limits e = record { sends = λ k. refl; recvs = λ k. refl; bi
 limits_on : (side : Side) (limits : StreamLimits) (e : EarlyLimits) (peer : PeerLimits) → with_early e (first_streams side limits peer) ≡ with_peer (unused side limits e) peer
 limits_on side limits e peer = refl
 
-begun_log : (log : Log) (s : DataSpace) (streams : PlainStreams) → s.log ≡ None → streamed (record (streams_logged log s) { streams = streams }).log ≡ []
-begun_log None s streams none = ap (λ (z : Option (List Item)). streamed z) none
-begun_log (Some items) s streams none = refl
+begun_log : (log : Log) (s : DataSpace) → s.log ≡ None → streamed (streams_logged log s).log ≡ []
+begun_log None s off = ap (λ (z : Option (List Item)). streamed z) off
+begun_log (Some items) s off = refl
 
-begun_on : (log : Log) (s : DataSpace) (streams : PlainStreams) → is_some log ≡ true → is_some (record (streams_logged log s) { streams = streams }).log ≡ true
-begun_on None s streams on = let z : false ≡ true = on in cc
-begun_on (Some items) s streams on = refl
+begun_on : (log : Log) (s : DataSpace) → is_some log ≡ true → is_some (streams_logged log s).log ≡ true
+begun_on None s on = let z : false ≡ true = on in cc
+begun_on (Some items) s on = refl
 
 module _ {S : Type 0} where
   -- the connection as it was before its peer's hello was read
@@ -136,24 +137,25 @@ module _ {S : Type 0} where
         (begun.space.streams_are ∙ ap (λ (z : Side). first_streams z core.config.limits core.config.peer) side_is
         ∙ ap (λ (z : Inner S). first_streams c.core.side z.config.limits z.config.peer) begun.rest_is)
         ∙ limits_on c.core.side limits c.early peer in
-        let log_is : streamed core.space.log ≡ [] = ap (λ (z : Inner S). streamed z.space.log) begun.rest_is ∙ begun_log c.control.log begun.begun _ begun.space.log in
+        let log_is : streamed core.space.log ≡ [] = ap (λ (z : Inner S). streamed z.space.log) begun.rest_is ∙ begun_log c.control.log begun.begun begun.space.log in
         record {
           front = λ was_told b shown. record { side = shown.side ∙ sym side_is; addresses = shown.addresses ∙ ap (λ (z : Inner S). z.addresses) (sym begun.rest_is); connected = shown.connected };
           wanting = λ calm. ap (λ (z : Inner S). is_wanting_in z.error) begun.rest_is ∙ calm;
           live = λ notes b shown.
               let u = shown.ungreeted refl in
               let at : Book = bring (item.MaxDatagramSize most) b in
+              let to : Book = bring_all (map stream_item (first_items peer)) at in
               let first = laws.streams c.core.space.streams notes b at (laws.bounds most b) shown.streams in
               let next = (laws.anew c.core.space.streams new u.streams (unused_first c.core.side limits c.early) (sym u.side) (sym u.window)).to notes at first in
               record {
-                streams = subst (λ (z : PlainStreams). ShowsStreams z notes (bring_all _ at)) (sym is) ((laws.peer new peer).to notes at next);
-                datagrams = laws.datagrams c.control.datagrams _ at (bring_all _ at) (laws.changed at (bring_all _ at) (laws.items (first_items peer) at)) (laws.bounded c.control.datagrams _ b most shown.datagrams);
+                streams = subst (λ (z : PlainStreams). ShowsStreams z notes to) (sym is) ((laws.peer new peer).to notes at next);
+                datagrams = laws.datagrams c.control.datagrams _ at to (laws.changed at to (laws.items (first_items peer) at)) (laws.bounded c.control.datagrams _ b most shown.datagrams);
                 kept = shown.kept;
                 ungreeted = λ unread. absurd (none-some p (sym unread ∙ met));
               };
           logs = ap (λ (z : List ConnectionItem). logged (logged c.control.log items) z) log_is
               ∙ logged_none (logged c.control.log items) ∙ ap (λ (z : Log). logged z items) (sym (ap (λ (z : List ConnectionItem). logged c.control.log z) none ∙ logged_none c.control.log));
-          logging = λ logging up greeted on. ap (λ (z : Inner S). is_some z.space.log) begun.rest_is ∙ begun_on c.control.log begun.begun _ (sym (logged_on c.control.log items) ∙ on);
+          logging = λ logging up greeted on. ap (λ (z : Inner S). is_some z.space.log) begun.rest_is ∙ begun_on c.control.log begun.begun (sym (logged_on c.control.log items) ∙ on);
         }
 
     either_greeted : (now : Moment) (c at : Connection S) (b : Bool) → is_some at.handshake.peer ≡ true → SomeStep c at → SomeStep c (if b then connected now at else at)
@@ -173,7 +175,7 @@ module _ {S : Type 0} where
 
     pub restarted_is : (now : Moment) (before : Handshake) (old fed new : Connection S) (h : Handshake) (session : S) → fed ≡ record old { handshake = h; core = record old.core { session = session } } → IsRestarted now before fed new
         → (idle : IdleTimer) × HasTaken old new h session idle
-    restarted_is now before old fed new h session fed_is (IsRestarted.heard heard is) = (_, is ∙ ap (λ (z : Connection S). record z { core = record z.core { idle = _ } }) fed_is)
+    restarted_is now before old fed new h session fed_is (IsRestarted.heard heard is) = (restarted now fed.core.idle, is ∙ ap (λ (z : Connection S). record z { core = record z.core { idle = restarted now fed.core.idle } }) fed_is)
     restarted_is now before old fed new h session fed_is (IsRestarted.quiet never is) = (old.core.idle, is ∙ fed_is)
 
     taken_quiet : (old new : Connection S) (h : Handshake) (session : S) (idle : IdleTimer) → HasTaken old new h session idle → h.peer ≡ old.handshake.peer → Quiet old new
@@ -231,7 +233,7 @@ module _ {S : Type 0} where
   -- ---- what came to the streams by then is in the log of the connection
 
   pub begun_moved : (c : Connection S) (core : Inner S) (p : TransportParameters) → IsBegunBy p c.handshake c.early c.control.log c.core core → streamed core.space.log ≡ []
-  begun_moved c core p begun = ap (λ (z : Inner S). streamed z.space.log) begun.rest_is ∙ begun_log c.control.log begun.begun _ begun.space.log
+  begun_moved c core p begun = ap (λ (z : Inner S). streamed z.space.log) begun.rest_is ∙ begun_log c.control.log begun.begun begun.space.log
 
   taken_moved : (log : Log) (core : Inner S) → streamed core.space.log ≡ [] → streamed (streams_taken log core).space.log ≡ []
   taken_moved None core none = none

@@ -21,7 +21,7 @@ use Rattle.qh_space.specs.Receiving.{IsAckReceived, IsClosedBy, IsFrameTaken, Is
 use Rattle.qh_space.specs.Sending.{AreElicitingPut, IsPacketMade, may_elicit, with_sent}
 use Rattle.qh_space.specs.Timers.{pings_after}
 use Rattle.qh_space.specs.declared.data_space.DataSpace.{DataSpace}
-use Rattle.qh_streams.specs.Items.{AreConfirmed, logged}
+use Rattle.qh_streams.specs.Items.{AreConfirmed, items_of, logged}
 use Rattle.qh_streams.specs.Streams.{AreLost, AreWritten, PlainStreams, refusal_of}
 use Rattle.qh_streams.specs.declared.frames.SentFrame.{SentFrame}
 use Rattle.qh_streams.specs.declared.frames.StreamFrame.{StreamFrame}
@@ -221,7 +221,7 @@ module _ (laws : BookLaws) where
   frame_step : (now : ℕ) (old new : DataSpace) (f : Frame) (end : Option ConnectionError) → frame_refusal old f ≡ None → IsFrameTaken now old new f end → SpaceStep old new
   frame_step now old new _ _ none (IsFrameTaken.passive f passive is) = step_same old new is
   frame_step now old new _ _ none (IsFrameTaken.streams f s coming is rest) =
-      record { items = _; leads = laws.received old.streams new.streams s (unrefused old f s coming none) is; log = ap (λ (z : DataSpace). z.log) rest }
+      record { items = items_of old.streams s; leads = laws.received old.streams new.streams s (unrefused old f s coming none) is; log = ap (λ (z : DataSpace). z.log) rest }
   frame_step now old new _ _ none (IsFrameTaken.ack a is) = ack_step now old new a is
   frame_step now old new _ _ none (IsFrameTaken.challenge bytes is) = quiet_step old new (quiet_by old new _ is (record { leads = leads_self old.streams; log = refl }))
   frame_step now old new _ _ none (IsFrameTaken.close f e by is) = step_same old new is

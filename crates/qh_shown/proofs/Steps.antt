@@ -1,5 +1,5 @@
 -- Steps of a connection: these items lead from each book that shows it to one that shows it afterwards.
-use Rattle.std.proofs.Common.{◌≡◌, ℕ, Bool, true, false, ◌||◌, if◌then◌else◌, List, [], ◌∷◌, ◌++◌, Option, None, Some, is_some, refl, sym, ap, subst, ◌∙◌}
+use Rattle.std.proofs.Common.{◌≡◌, ℕ, Bool, true, false, ◌||◌, if◌then◌else◌, List, [], ◌∷◌, ◌++◌, map, Option, None, Some, is_some, refl, sym, ap, subst, ◌∙◌}
 use Rattle.std.proofs.lemmas.Bool.{both_ways}
 use Rattle.qh_base.specs.declared.path.FourTuple.{FourTuple}
 use Rattle.qh_base.specs.declared.time.Moment.{Moment}
@@ -67,6 +67,18 @@ first_still laws addresses s t f leads =
       sym shown.side,
       sym shown.send_window,
     )
+
+pub no_longer : {A : Type 0} (o : Option A) (P : Type 0) → is_some o ≡ true → o ≡ None → P
+no_longer None P some none = absurd (both_ways false refl some)
+no_longer (Some x) P some none = let z : true ≡ false = ap is_some none in cc
+
+record AsksAlone (old new : ControlState) : Type 0 where
+  datagrams : new.datagrams ≡ old.datagrams
+  bounds : bounds_of new ≡ bounds_of old
+
+asked_alone : (now : Moment) (up : Bool) (s : ControlState) (log : Log) → AsksAlone s (record (if up then ids_asked now s else s) { log = log })
+asked_alone now true s log = record { datagrams = refl; bounds = refl }
+asked_alone now false s log = record { datagrams = refl; bounds = refl }
 
 module _ {S : Type 0} where
   -- ---- what a book shows of a connection that goes on
@@ -207,10 +219,6 @@ module _ {S : Type 0} where
   taken_on None core = refl
   taken_on (Some items) core = some_map (λ (z : List Item). []) core.space.log
 
-  pub no_longer : {A : Type 0} (o : Option A) (P : Type 0) → is_some o ≡ true → o ≡ None → P
-  no_longer None P some none = absurd (both_ways false refl some)
-  no_longer (Some x) P some none = let z : true ≡ false = ap is_some none in cc
-
   module _ (laws : BookLaws) where
     ungreeted_still : (old new : Connection S) → Quiet old new → IsUngreeted old → IsUngreeted new
     ungreeted_still old new q u =
@@ -275,7 +283,7 @@ module _ {S : Type 0} where
       live = λ notes b shown. record {
         streams = subst (λ (z : Book). ShowsStreams core.space.streams notes z) (sym (brought_streams items b)) (s.leads.to notes b shown.streams);
         datagrams = subst (λ (z : Book). ShowsDatagrams c.control.datagrams (bounds_of c.control) z) (sym (brought_streams items b))
-            (laws.datagrams c.control.datagrams (bounds_of c.control) b (bring_all _ b) (laws.changed b (bring_all _ b) (laws.items items b)) shown.datagrams);
+            (laws.datagrams c.control.datagrams (bounds_of c.control) b (bring_all (map stream_item items) b) (laws.changed b (bring_all (map stream_item items) b) (laws.items items b)) shown.datagrams);
         kept = (streams_end laws items b).is_emptied ∙ shown.kept;
         ungreeted = λ none. no_longer c.handshake.peer (IsUngreeted (record c { core = core })) greeted none;
       };
@@ -284,14 +292,6 @@ module _ {S : Type 0} where
     }
 
     -- ---- the handshake is complete
-
-    record AsksAlone (old new : ControlState) : Type 0 where
-      datagrams : new.datagrams ≡ old.datagrams
-      bounds : bounds_of new ≡ bounds_of old
-
-    asked_alone : (now : Moment) (up : Bool) (s : ControlState) (log : Log) → AsksAlone s (record (if up then ids_asked now s else s) { log = log })
-    asked_alone now true s log = record { datagrams = refl; bounds = refl }
-    asked_alone now false s log = record { datagrams = refl; bounds = refl }
 
     pub connected_step : (now : Moment) (c : Connection S) → is_some c.handshake.peer ≡ true → Step (entry.Connected ∷ []) c (connected now c)
     connected_step now c greeted =

@@ -54,7 +54,7 @@ use Rattle.qh_streams.specs.declared.fault.StreamFault.{StreamFault}
 
 -- ---- pages
 
-none_either : (b : Bool) → (if b then None {A = ℕ} else None) ≡ None
+none_either : (b : Bool) → ◌≡◌ {A = Option ℕ} (if b then None else None) None
 none_either true = refl
 none_either false = refl
 
@@ -334,14 +334,14 @@ module _ {S : Type 0} where
         let unread = not_known old.handshake.peer unmet_yet in
         let q = taken_unmet laws at restarted fed_by.handshake fed_by.session i.0 i.1 unread in
         greeting_ends now p old restarted mid new up was is
-        (step_both [] [] old at (unmet restarted) (counted_step laws (length d) old).1 (quiet_step laws at (unmet restarted) q (ap (λ (z : Connection S). z.is_connected_due) i.1)))
+        (step_both [] [] old at (unmet restarted) (counted_step laws (length d) old) (quiet_step laws at (unmet restarted) q (ap (λ (z : Connection S). z.is_connected_due) i.1)))
         (like_by old restarted _ i.1 (record { side = refl; addresses = refl; due = refl; bounds = refl; log = refl })) met
         (ap (λ (z : Connection S). streamed z.core.space.log) i.1 ∙ was.current (inr unread)) cut f
     datagram_ends v now d old mid new was is up logging (IsUnread.behind fed restarted met rest fed_by r m greeted some unread) f =
         let at = counted_at (length d) old in
         let first = met_step laws v now d rest at fed restarted met (λ none. was.current (inr none)) fed_by r m in
         let moved = met_moved now at.handshake (is_some at.handshake.peer) at fed restarted met fed_by.handshake fed_by.session fed_by.new_is r m (λ on. was.current (inl on)) in
-        rest_ends _ now rest old met mid new up was is (some_both old at met (counted_step laws (length d) old) first) moved (first.1.logging logging) greeted unread f
+        rest_ends _ now rest old met mid new up was is (some_both old at met ([], counted_step laws (length d) old) first) moved (first.1.logging logging) greeted unread f
 
     pub event_ends : (v : SessionView S) (e : ConnectionEvent) (old mid new : Connection S) → IsWhole old → IsWhole new → is_open old.core.state ≡ true → IsLogging old → IsEventUnread v e old mid → HasFailed mid new → EndsWanting old new
     event_ends v (incoming.Datagram now remote payload) old mid new was is up logging unread f = datagram_ends v now payload old mid new was is up logging unread f

@@ -33,7 +33,7 @@ ghost use Rattle.qh_shown.specs.Brings.{Brings, BringsSome, EndsWanting, IsLoggi
 ghost use Rattle.qh_shown.specs.Connections.{IsBegun, ShowsConnection};
 ghost use Rattle.qh_spec.specs.declared.sides.Side.{Side as ASide};
 
-use crate::books::books_show;
+use crate::known::books_show;
 
 /// A connection that is new has begun (`new`), and one has that went on from it by events and settings of its handshake (`brings`, `handshake`).
 pub fn begun_shown<S>()

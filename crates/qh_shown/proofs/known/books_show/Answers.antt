@@ -1,4 +1,4 @@
-use Rattle.qh_shown.proofs.books.books_show.Goals as goal
+use Rattle.qh_shown.proofs.known.books_show.Goals as goal
 
 pub returns : goal.returns
 returns c = record {
