@@ -1,0 +1,11 @@
+mod Begins
+mod Books
+mod Calls
+mod ControlSteps
+mod CoreSteps
+mod Datagrams
+mod Greets
+mod Logs
+mod SpaceSteps
+mod Steps
+mod Wants

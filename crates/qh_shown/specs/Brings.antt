@@ -1,5 +1,5 @@
 -- What an event, or another call of the driver's, brings of a connection: items, in their order.
-use Rattle.std.specs.Prelude.{◌≡◌, ℕ, Bool, true, List, Option, Some}
+use Rattle.std.specs.Prelude.{◌≡◌, ℕ, Bool, true, List, Option, Some, is_some}
 use Rattle.qh_base.specs.declared.connection_error.ConnectionError.TheVariants as error
 use Rattle.qh_book.specs.Book.{Book}
 use Rattle.qh_book.specs.Items.{bring}
@@ -11,6 +11,7 @@ use Rattle.qh_conn.specs.declared.event.Event.{Event}
 use Rattle.qh_conn.specs.declared.event.Event.TheVariants as event
 use Rattle.qh_control.specs.Items.{logged}
 use Rattle.qh_control.specs.declared.items.ConnectionItem.{ConnectionItem}
+use Rattle.qh_core.specs.Inner.{is_open}
 use Rattle.qh_shown.specs.Connections.{ShowsConnection, is_wanting, spared_all}
 use Rattle.qh_shown.specs.Items.{brought}
 
@@ -20,10 +21,15 @@ is_told was_told (Some event.Connected) = true
 is_told was_told other = was_told
 
 module _ {S : Type 0} where
+  -- The log of the streams of an end that is open and was greeted is on, if that of the connection is.
+  abbrev pub IsLogging : Connection S → Type 0
+  IsLogging c = is_open c.core.state ≡ true → is_some c.handshake.peer ≡ true → is_some c.control.log ≡ true → is_some c.core.space.log ≡ true
+
   -- These items lead from each book that shows the connection to one that shows it now. They come last in its log, if that is on.
   pub record Brings (items : List ConnectionItem) (old new : Connection S) : Type 0 where
     pub shows : (was_told : Bool) (notes : ℕ → Note) (b : Book) → ShowsConnection was_told old notes b → ShowsConnection was_told new notes (brought items b)
     pub logs : came new ≡ logged (came old) items
+    pub logging : IsLogging old → IsLogging new
 
   pub record BringsSome (old new : Connection S) : Type 0 where
     pub items : List ConnectionItem
@@ -33,10 +39,11 @@ module _ {S : Type 0} where
   pub record TellsOf (told : Option Event) (old new : Connection S) : Type 0 where
     pub shows : (was_told : Bool) (notes : ℕ → Note) (b : Book) → ShowsConnection was_told old notes b → ShowsConnection (is_told was_told told) new notes b
     pub logs : came new ≡ came old
+    pub logging : IsLogging old → IsLogging new
 
   -- These items, and then want of memory ends the connection.
   pub record EndsWanting (old new : Connection S) : Type 0 where
     pub items : List ConnectionItem
     pub wanting : is_wanting new ≡ true
-    pub shows : (was_told : Bool) (notes : ℕ → Note) (b : Book) → ShowsConnection was_told old notes b → ShowsConnection was_told new (spared_all notes) (bring (item.Lost error.Memory) (brought items b))
+    pub shows : (was_told : Bool) (notes : ℕ → Note) (b : Book) → ShowsConnection was_told old notes b → ShowsConnection was_told new (spared_all notes (brought items b)) (bring (item.Lost error.Memory) (brought items b))
     pub logs : came new ≡ logged (came old) items

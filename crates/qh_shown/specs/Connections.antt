@@ -4,7 +4,7 @@ use Rattle.std.specs.Prelude.{◌≡◌, ℕ, ◌≤◌, Bool, true, false, ◌|
 use Rattle.qh_base.specs.declared.connection_error.ConnectionError.{ConnectionError}
 use Rattle.qh_book.specs.Book.{Book, first_book, tally}
 use Rattle.qh_book.specs.Items.{is_memory}
-use Rattle.qh_book.specs.Pages.{RecvPage, is_open, unread_at}
+use Rattle.qh_book.specs.Pages.{RecvPage, is_given, is_open, unread_at}
 use Rattle.qh_book.specs.Shown.{AreFirst, DatagramBounds, IsShut, Note, ShowsDatagrams, ShowsStreams, no_note}
 use Rattle.qh_conn.specs.Greeting.{or_set}
 use Rattle.qh_conn.specs.declared.connection.Connection.{Connection}
@@ -26,12 +26,13 @@ pub record IsDry (p : RecvPage) : Type 0 where
   pub end : p.end ≡ None
   pub reset_code : p.reset_code ≡ None
 
--- what was told of a reset is known still, and nothing else of one
-abbrev pub spared : Note → Note
-spared note = if note.is_told then note else record note { code = None }
+-- what is noted of a half whose end or reset was told is known still, and nothing else of a reset
+abbrev pub spared : Note → Option RecvPage → Note
+spared note None = note
+spared note (Some p) = if is_given p.state then note else record note { code = None }
 
-abbrev pub spared_all : (ℕ → Note) → (ℕ → Note)
-spared_all notes = λ k. spared (notes k)
+abbrev pub spared_all : (ℕ → Note) → Book → (ℕ → Note)
+spared_all notes b = λ k. spared (notes k) (b.recvs k)
 
 abbrev pub ShowsLost : Note → Option RecvPage → Type 0
 ShowsLost note None = note ≡ no_note

@@ -1,3 +1,4 @@
 pub mod Brings
 pub mod Connections
 pub mod Items
+pub mod Laws

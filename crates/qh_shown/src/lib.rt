@@ -2,6 +2,7 @@
 #![tactic(auto)]
 
 mod driving;
+mod known;
 
 pub use driving::{
     begun_shown, closes_shown, datagrams_bring, events_bring, log_shown, sends_bring, times_bring,
