@@ -1,4 +1,7 @@
 pub mod Contexts
+pub mod Kinds
+pub mod Origins
 pub mod Polls
+pub mod Streams
 pub mod Told
 pub mod Turns

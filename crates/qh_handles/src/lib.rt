@@ -3,7 +3,24 @@
 #![tactic(auto)]
 
 mod at;
+mod connecting;
+mod connection;
+mod driver;
+mod error;
+mod recv_stream;
+mod send_stream;
 mod told;
 
 pub use at::{At, DriverPart};
+pub use connecting::{Connecting, HandshakeData};
+pub use connection::{
+    AcceptBi, AcceptUni, Closed, Connection, OpenBi, OpenUni, ReadDatagram, SendDatagram,
+};
+pub use driver::ConnectionDriver;
+pub use error::{
+    ReadError, ReadExactError, ReadToEndError, ResetError, SendDatagramError, StoppedError,
+    WriteError,
+};
+pub use recv_stream::{Read, ReadChunk, ReceivedReset, RecvStream};
+pub use send_stream::{SendStream, Stopped, Write};
 pub use told::Told;

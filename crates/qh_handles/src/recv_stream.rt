@@ -1,0 +1,284 @@
+ghost use Rattle.std.specs.Prelude.{◌≡◌, ◌⊎◌, List, MatchResult, true, false, length, ⊤};
+ghost use Rattle.futures.specs.Poll.{OnPending};
+ghost use Rattle.futures.specs.Task.{IsArmed, Keeps};
+ghost use Rattle.qh_book.specs.declared.call.Call.TheVariants as call;
+ghost use Rattle.qh_book.specs.declared.reply.Reply.{Reply as AReply};
+ghost use Rattle.qh_book.specs.declared.reply.Reply.TheVariants as answer;
+ghost use Rattle.qh_handles.specs.Origins.{IsFrom, read_origin, reset_origin};
+ghost use Rattle.qh_handles.specs.Polls.{MatchAnswer};
+ghost use Rattle.qh_handles.specs.Streams.{IsReadInto, IsReadOrEnded, chunk_reply};
+ghost use Rattle.qh_handles.specs.declared.told.Told.{Told as AToldValue};
+
+use crate::{At, ReadError, ResetError};
+use futures::task::{Context, Poll};
+use qh_base::{Memory, StreamId, VarInt};
+use qh_book::{Call, Reply};
+use qh_conn::{Chunk, ClosedStream};
+
+/// The receiving half of a stream (quinn, `RecvStream`). It is one of the handles that the connection's state counts. One that is dropped without `end` stays
+/// counted, so the connection isn't closed for want of handles, and the stream isn't stopped.
+#[derive(Drop)]
+pub struct RecvStream {
+    id: StreamId,
+}
+
+impl RecvStream {
+    // The half that a reply tells.
+    pub(crate) fn of_id(id: StreamId) -> RecvStream
+        ensures { result.id ≡ id }
+    {
+        RecvStream { id }
+    }
+
+    /// Reads the next bytes into the front of the buffer, and says how many. There are none at the end, or if the buffer is empty.
+    pub fn poll_read<A: At>(
+        &mut self,
+        at: &mut A,
+        buf: &mut [u8],
+        cx: &mut Context<'_>,
+    ) -> Poll<Result<usize, ReadError>>
+        ensures same { self.new ≡ self.old }
+        ensures value { MatchAnswer result
+            (λ count. (r : AReply (AToldValue A.HandshakeData)) × A.acts at.old (call.Read self.old.id (length buf.old) true) r at.new × IsReadOrEnded r count buf.old buf.new)
+            (λ e. IsFrom (read_origin e) (λ r. A.acts at.old (call.Read self.old.id (length buf.old) true) r at.new) (A.stays at.old at.new))
+            (A.acts at.old (call.Read self.old.id (length buf.old) true) answer.Pending at.new) }
+        ensures unread { MatchAnswer result (λ _. ⊤) (λ _. buf.new ≡ buf.old) (buf.new ≡ buf.old) }
+        ensures armed { OnPending result (IsArmed cx.new) }
+        ensures kept { Keeps cx.old cx.new }
+    {
+        match read_into(self.id, at, buf, cx) {
+            Poll::Ready(Ok(Some(count))) => Poll::Ready(Ok(count)),
+            Poll::Ready(Ok(None)) => Poll::Ready(Ok(0)),
+            Poll::Ready(Err(error)) => Poll::Ready(Err(error)),
+            Poll::Pending => Poll::Pending,
+        }
+    }
+
+    /// Reads the next bytes into the front of a buffer that is lent: a call that waits for some.
+    pub fn read<'a>(&mut self, buf: &'a mut [u8]) -> Read<'a>
+        ensures same { self.new ≡ self.old }
+        ensures stream { result.id ≡ self.old.id }
+        ensures lent { result.buf.ghost_name ≡ buf.entry.ghost_name }
+        ensures bytes { result.buf.now ≡ buf.old }
+    {
+        Read { id: self.id, buf }
+    }
+
+    /// Reads a piece of at most `max_length` bytes, the next one or any that came: a call that waits for one.
+    pub fn read_chunk(&mut self, max_length: usize, ordered: bool) -> ReadChunk
+        ensures same { self.new ≡ self.old }
+        ensures value { result ≡ record { id = self.old.id; max_length = max_length; is_ordered = ordered } }
+    {
+        ReadChunk {
+            id: self.id,
+            max_length,
+            is_ordered: ordered,
+        }
+    }
+
+    /// The code of the peer's reset: a call that waits for it.
+    pub fn received_reset(&mut self) -> ReceivedReset
+        ensures same { self.new ≡ self.old }
+        ensures value { result.id ≡ self.old.id }
+    {
+        ReceivedReset { id: self.id }
+    }
+
+    /// Wants no more of the stream, and tells the peer so, with this code of the application (RFC 9000, section 3.5). What came and wasn't read is dropped.
+    pub fn stop<A: At>(
+        &mut self,
+        at: &mut A,
+        code: VarInt,
+    ) -> Result<Result<(), ClosedStream>, Memory>
+        ensures same { self.new ≡ self.old }
+        ensures value { MatchResult result (λ r. MatchResult r (λ _. A.acts at.old (call.Stop self.old.id code) answer.Done at.new)
+            (λ _. A.acts at.old (call.Stop self.old.id code) answer.ClosedStream at.new)) (λ _. A.stays at.old at.new) }
+    {
+        match at.act(Call::Stop { id: self.id, code }, None)? {
+            Reply::Done => Ok(Ok(())),
+            Reply::ClosedStream => Ok(Err(ClosedStream)),
+            _ => unreachable!(),
+        }
+    }
+
+    /// The id of the stream.
+    pub fn id(&self) -> StreamId
+        ensures { result ≡ self.now.id }
+    {
+        self.id
+    }
+
+    /// Whether it was opened before the handshake was complete. None is.
+    pub fn is_0rtt(&self) -> bool
+        ensures { result ≡ false }
+    {
+        false
+    }
+
+    /// Ends the handle. The stream is stopped with code 0, unless its end or an error was given, or it was stopped, or the connection is lost.
+    pub fn end<A: At>(self, at: &mut A)
+        ensures { A.acts at.old (call.EndRecv self.id) answer.Done at.new ⊎ A.stays at.old at.new }
+    {
+        match at.act(Call::EndRecv(self.id), None) {
+            Ok(Reply::Done) | Err(Memory) => {}
+            Ok(_) => unreachable!(),
+        }
+    }
+}
+
+// Reads the next bytes into the front of a buffer, and says how many. None at the end.
+fn read_into<A: At>(
+    id: StreamId,
+    at: &mut A,
+    buf: &mut [u8],
+    cx: &mut Context<'_>,
+) -> Poll<Result<Option<usize>, ReadError>>
+    ensures value { MatchAnswer result
+        (λ count. (r : AReply (AToldValue A.HandshakeData)) × A.acts at.old (call.Read id (length buf.old) true) r at.new × IsReadInto r count buf.old buf.new)
+        (λ e. IsFrom (read_origin e) (λ r. A.acts at.old (call.Read id (length buf.old) true) r at.new) (A.stays at.old at.new))
+        (A.acts at.old (call.Read id (length buf.old) true) answer.Pending at.new) }
+    ensures unread { MatchAnswer result (λ _. ⊤) (λ _. buf.new ≡ buf.old) (buf.new ≡ buf.old) }
+    ensures armed { OnPending result (IsArmed cx.new) }
+    ensures kept { Keeps cx.old cx.new }
+{
+    let call = Call::Read {
+        id,
+        max_length: buf.len(),
+        is_ordered: true,
+    };
+    match at.act(call, Some(cx)) {
+        Ok(Reply::Bytes { payload, .. }) => {
+            let count = payload.len();
+            buf[..count].copy_from_slice(payload.as_slice());
+            Poll::Ready(Ok(Some(count)))
+        }
+        Ok(Reply::Ended) => Poll::Ready(Ok(None)),
+        Ok(Reply::Pending) => Poll::Pending,
+        Ok(Reply::Reset(code)) => Poll::Ready(Err(ReadError::Reset(code))),
+        Ok(Reply::ConnectionLost(error)) => Poll::Ready(Err(ReadError::ConnectionLost(error))),
+        Ok(Reply::ClosedStream) => Poll::Ready(Err(ReadError::ClosedStream)),
+        Ok(Reply::IllegalOrderedRead) => Poll::Ready(Err(ReadError::IllegalOrderedRead)),
+        Ok(_) => unreachable!(),
+        Err(Memory) => Poll::Ready(Err(ReadError::Memory)),
+    }
+}
+
+// Reads a piece. None at the end.
+fn poll_chunk<A: At>(
+    id: StreamId,
+    at: &mut A,
+    max_length: usize,
+    is_ordered: bool,
+    cx: &mut Context<'_>,
+) -> Poll<Result<Option<Chunk>, ReadError>>
+    ensures value { MatchAnswer result (λ chunk. A.acts at.old (call.Read id max_length is_ordered) (chunk_reply chunk) at.new)
+        (λ e. IsFrom (read_origin e) (λ r. A.acts at.old (call.Read id max_length is_ordered) r at.new) (A.stays at.old at.new))
+        (A.acts at.old (call.Read id max_length is_ordered) answer.Pending at.new) }
+    ensures armed { OnPending result (IsArmed cx.new) }
+    ensures kept { Keeps cx.old cx.new }
+{
+    let call = Call::Read {
+        id,
+        max_length,
+        is_ordered,
+    };
+    match at.act(call, Some(cx)) {
+        Ok(Reply::Bytes { offset, payload }) => Poll::Ready(Ok(Some(Chunk {
+            offset,
+            bytes: payload,
+        }))),
+        Ok(Reply::Ended) => Poll::Ready(Ok(None)),
+        Ok(Reply::Pending) => Poll::Pending,
+        Ok(Reply::Reset(code)) => Poll::Ready(Err(ReadError::Reset(code))),
+        Ok(Reply::ConnectionLost(error)) => Poll::Ready(Err(ReadError::ConnectionLost(error))),
+        Ok(Reply::ClosedStream) => Poll::Ready(Err(ReadError::ClosedStream)),
+        Ok(Reply::IllegalOrderedRead) => Poll::Ready(Err(ReadError::IllegalOrderedRead)),
+        Ok(_) => unreachable!(),
+        Err(Memory) => Poll::Ready(Err(ReadError::Memory)),
+    }
+}
+
+/// Waits for bytes of a stream (quinn, `Read`).
+#[derive(Drop)]
+pub struct Read<'a> {
+    id: StreamId,
+    buf: &'a mut [u8],
+}
+
+impl Read<'_> {
+    /// How many bytes were read into the front of the buffer. None at the end.
+    pub fn poll<A: At>(
+        &mut self,
+        at: &mut A,
+        cx: &mut Context<'_>,
+    ) -> Poll<Result<Option<usize>, ReadError>>
+        ensures same { self.new.id ≡ self.old.id }
+        ensures lent { self.new.buf.ghost_name ≡ self.old.buf.ghost_name }
+        ensures value { MatchAnswer result
+            (λ count. (r : AReply (AToldValue A.HandshakeData)) × A.acts at.old (call.Read self.old.id (length self.old.buf.now) true) r at.new × IsReadInto r count self.old.buf.now self.new.buf.now)
+            (λ e. IsFrom (read_origin e) (λ r. A.acts at.old (call.Read self.old.id (length self.old.buf.now) true) r at.new) (A.stays at.old at.new))
+            (A.acts at.old (call.Read self.old.id (length self.old.buf.now) true) answer.Pending at.new) }
+        ensures unread { MatchAnswer result (λ _. ⊤) (λ _. self.new.buf.now ≡ self.old.buf.now) (self.new.buf.now ≡ self.old.buf.now) }
+        ensures armed { OnPending result (IsArmed cx.new) }
+        ensures kept { Keeps cx.old cx.new }
+    {
+        let buf = &mut *self.buf;
+        read_into(self.id, at, buf, cx)
+    }
+}
+
+/// Waits for a piece of a stream (quinn, `ReadChunk`).
+#[derive(Drop)]
+pub struct ReadChunk {
+    id: StreamId,
+    max_length: usize,
+    is_ordered: bool,
+}
+
+impl ReadChunk {
+    /// The piece, with its offset. None at the end.
+    pub fn poll<A: At>(
+        &mut self,
+        at: &mut A,
+        cx: &mut Context<'_>,
+    ) -> Poll<Result<Option<Chunk>, ReadError>>
+        ensures same { self.new ≡ self.old }
+        ensures value { MatchAnswer result (λ chunk. A.acts at.old (call.Read self.old.id self.old.max_length self.old.is_ordered) (chunk_reply chunk) at.new)
+            (λ e. IsFrom (read_origin e) (λ r. A.acts at.old (call.Read self.old.id self.old.max_length self.old.is_ordered) r at.new) (A.stays at.old at.new))
+            (A.acts at.old (call.Read self.old.id self.old.max_length self.old.is_ordered) answer.Pending at.new) }
+        ensures armed { OnPending result (IsArmed cx.new) }
+        ensures kept { Keeps cx.old cx.new }
+    {
+        poll_chunk(self.id, at, self.max_length, self.is_ordered, cx)
+    }
+}
+
+/// Waits for the reset of a stream (quinn: the future of `RecvStream::received_reset`).
+#[derive(Drop)]
+pub struct ReceivedReset {
+    id: StreamId,
+}
+
+impl ReceivedReset {
+    /// The code of the reset, also if a read told it before. None once the stream was stopped or its end was read.
+    pub fn poll<A: At>(
+        &mut self,
+        at: &mut A,
+        cx: &mut Context<'_>,
+    ) -> Poll<Result<Option<VarInt>, ResetError>>
+        ensures same { self.new ≡ self.old }
+        ensures value { MatchAnswer result (λ code. A.acts at.old (call.ReceivedReset self.old.id) (answer.Code code) at.new)
+            (λ e. IsFrom (reset_origin e) (λ r. A.acts at.old (call.ReceivedReset self.old.id) r at.new) (A.stays at.old at.new))
+            (A.acts at.old (call.ReceivedReset self.old.id) answer.Pending at.new) }
+        ensures armed { OnPending result (IsArmed cx.new) }
+        ensures kept { Keeps cx.old cx.new }
+    {
+        match at.act(Call::ReceivedReset(self.id), Some(cx)) {
+            Ok(Reply::Code(code)) => Poll::Ready(Ok(code)),
+            Ok(Reply::ConnectionLost(error)) => Poll::Ready(Err(ResetError::ConnectionLost(error))),
+            Ok(Reply::Pending) => Poll::Pending,
+            Ok(_) => unreachable!(),
+            Err(Memory) => Poll::Ready(Err(ResetError::Memory)),
+        }
+    }
+}

@@ -1,0 +1,245 @@
+ghost use Rattle.std.specs.Prelude.{◌≡◌, ◌⊎◌, MatchResult};
+ghost use Rattle.futures.specs.Poll.{OnPending};
+ghost use Rattle.futures.specs.Task.{IsArmed, Keeps};
+ghost use Rattle.qh_book.specs.declared.call.Call.TheVariants as call;
+ghost use Rattle.qh_book.specs.declared.reply.Reply.TheVariants as answer;
+ghost use Rattle.qh_handles.specs.Origins.{IsFrom, stopped_origin, write_origin};
+ghost use Rattle.qh_handles.specs.Polls.{MatchAnswer};
+
+use crate::{At, StoppedError, WriteError};
+use bytes::Bytes;
+use futures::task::{Context, Poll};
+use qh_base::{Memory, StreamId, VarInt};
+use qh_book::{Call, Reply};
+use qh_conn::ClosedStream;
+use std::alloc::Global;
+
+/// The sending half of a stream (quinn, `SendStream`). It is one of the handles that the connection's state counts. One that is dropped without `end` stays
+/// counted, so the connection isn't closed for want of handles, and the stream isn't finished.
+#[derive(Drop)]
+pub struct SendStream {
+    id: StreamId,
+}
+
+impl SendStream {
+    // The half that a reply tells.
+    pub(crate) fn of_id(id: StreamId) -> SendStream
+        ensures { result.id ≡ id }
+    {
+        SendStream { id }
+    }
+
+    /// Writes bytes, as many as the limits permit, and says how many.
+    pub fn poll_write<A: At>(
+        &mut self,
+        at: &mut A,
+        alloc: Global,
+        buf: &[u8],
+        cx: &mut Context<'_>,
+    ) -> Poll<Result<usize, WriteError>>
+        ensures same { self.new ≡ self.old }
+        ensures value { MatchAnswer result (λ count. A.acts at.old (call.Write self.old.id buf.now) (answer.Count count) at.new)
+            (λ e. IsFrom (write_origin e) (λ r. A.acts at.old (call.Write self.old.id buf.now) r at.new) (A.stays at.old at.new))
+            (A.acts at.old (call.Write self.old.id buf.now) answer.Pending at.new) }
+        ensures armed { OnPending result (IsArmed cx.new) }
+        ensures kept { Keeps cx.old cx.new }
+    {
+        write_from(self.id, at, alloc, buf, cx)
+    }
+
+    /// Writes bytes of a buffer that is lent, as many as the limits permit: a call that waits until some are written.
+    pub fn write<'a>(&mut self, buf: &'a [u8]) -> Write<'a>
+        ensures same { self.new ≡ self.old }
+        ensures stream { result.id ≡ self.old.id }
+        ensures bytes { result.buf.now ≡ buf.now }
+    {
+        Write { id: self.id, buf }
+    }
+
+    /// Ends the stream behind the bytes that were written (RFC 9000, section 3.1). If the peer asked to stop it, it stays as it is.
+    pub fn finish<A: At>(&mut self, at: &mut A) -> Result<Result<(), ClosedStream>, Memory>
+        ensures same { self.new ≡ self.old }
+        ensures value { MatchResult result (λ r. MatchResult r (λ _. A.acts at.old (call.Finish self.old.id) answer.Done at.new)
+            (λ _. A.acts at.old (call.Finish self.old.id) answer.ClosedStream at.new)) (λ _. A.stays at.old at.new) }
+    {
+        match at.act(Call::Finish(self.id), None)? {
+            Reply::Done => Ok(Ok(())),
+            Reply::ClosedStream => Ok(Err(ClosedStream)),
+            _ => unreachable!(),
+        }
+    }
+
+    /// Abandons what was written, and tells the peer so, with this code of the application (RFC 9000, section 3.1).
+    pub fn reset<A: At>(
+        &mut self,
+        at: &mut A,
+        code: VarInt,
+    ) -> Result<Result<(), ClosedStream>, Memory>
+        ensures same { self.new ≡ self.old }
+        ensures value { MatchResult result (λ r. MatchResult r (λ _. A.acts at.old (call.Reset self.old.id code) answer.Done at.new)
+            (λ _. A.acts at.old (call.Reset self.old.id code) answer.ClosedStream at.new)) (λ _. A.stays at.old at.new) }
+    {
+        match at.act(Call::Reset { id: self.id, code }, None)? {
+            Reply::Done => Ok(Ok(())),
+            Reply::ClosedStream => Ok(Err(ClosedStream)),
+            _ => unreachable!(),
+        }
+    }
+
+    /// Sets the priority of the stream. Of the bytes that wait, those of streams of a greater one are sent first.
+    pub fn set_priority<A: At>(
+        &self,
+        at: &mut A,
+        priority: i32,
+    ) -> Result<Result<(), ClosedStream>, Memory>
+        ensures { MatchResult result (λ r. MatchResult r (λ _. A.acts at.old (call.SetPriority self.now.id priority) answer.Done at.new)
+            (λ _. A.acts at.old (call.SetPriority self.now.id priority) answer.ClosedStream at.new)) (λ _. A.stays at.old at.new) }
+    {
+        let call = Call::SetPriority {
+            id: self.id,
+            priority,
+        };
+        match at.act(call, None)? {
+            Reply::Done => Ok(Ok(())),
+            Reply::ClosedStream => Ok(Err(ClosedStream)),
+            _ => unreachable!(),
+        }
+    }
+
+    /// The priority of the stream.
+    pub fn priority<A: At>(&self, at: &mut A) -> Result<Result<i32, ClosedStream>, Memory>
+        ensures { MatchResult result (λ r. MatchResult r (λ priority. A.acts at.old (call.Priority self.now.id) (answer.Priority priority) at.new)
+            (λ _. A.acts at.old (call.Priority self.now.id) answer.ClosedStream at.new)) (λ _. A.stays at.old at.new) }
+    {
+        match at.act(Call::Priority(self.id), None)? {
+            Reply::Priority(priority) => Ok(Ok(priority)),
+            Reply::ClosedStream => Ok(Err(ClosedStream)),
+            _ => unreachable!(),
+        }
+    }
+
+    /// Waits until the peer stops the stream or all of it is acknowledged: a call.
+    pub fn stopped(&self) -> Stopped
+        ensures { result.id ≡ self.now.id }
+    {
+        Stopped { id: self.id }
+    }
+
+    /// The id of the stream.
+    pub fn id(&self) -> StreamId
+        ensures { result ≡ self.now.id }
+    {
+        self.id
+    }
+
+    /// Ends the handle. The stream is finished, or reset with the peer's code if the peer stopped it, unless the connection is lost.
+    pub fn end<A: At>(self, at: &mut A)
+        ensures { A.acts at.old (call.EndSend self.id) answer.Done at.new ⊎ A.stays at.old at.new }
+    {
+        match at.act(Call::EndSend(self.id), None) {
+            Ok(Reply::Done) | Err(Memory) => {}
+            Ok(_) => unreachable!(),
+        }
+    }
+}
+
+// Writes a copy of bytes, as many as the limits permit.
+fn write_from<A: At>(
+    id: StreamId,
+    at: &mut A,
+    alloc: Global,
+    buf: &[u8],
+    cx: &mut Context<'_>,
+) -> Poll<Result<usize, WriteError>>
+    ensures value { MatchAnswer result (λ count. A.acts at.old (call.Write id buf.now) (answer.Count count) at.new)
+        (λ e. IsFrom (write_origin e) (λ r. A.acts at.old (call.Write id buf.now) r at.new) (A.stays at.old at.new))
+        (A.acts at.old (call.Write id buf.now) answer.Pending at.new) }
+    ensures armed { OnPending result (IsArmed cx.new) }
+    ensures kept { Keeps cx.old cx.new }
+{
+    let Ok(payload) = Bytes::copy_from_slice(alloc, buf) else {
+        return Poll::Ready(Err(WriteError::Memory));
+    };
+    write_bytes(id, at, payload, cx)
+}
+
+// Writes bytes, as many as the limits permit.
+fn write_bytes<A: At>(
+    id: StreamId,
+    at: &mut A,
+    payload: Bytes,
+    cx: &mut Context<'_>,
+) -> Poll<Result<usize, WriteError>>
+    ensures value { MatchAnswer result (λ count. A.acts at.old (call.Write id payload) (answer.Count count) at.new)
+        (λ e. IsFrom (write_origin e) (λ r. A.acts at.old (call.Write id payload) r at.new) (A.stays at.old at.new))
+        (A.acts at.old (call.Write id payload) answer.Pending at.new) }
+    ensures armed { OnPending result (IsArmed cx.new) }
+    ensures kept { Keeps cx.old cx.new }
+{
+    match at.act(Call::Write { id, payload }, Some(cx)) {
+        Ok(Reply::Count(count)) => Poll::Ready(Ok(count)),
+        Ok(Reply::Pending) => Poll::Pending,
+        Ok(Reply::Stopped(code)) => Poll::Ready(Err(WriteError::Stopped(code))),
+        Ok(Reply::ConnectionLost(error)) => Poll::Ready(Err(WriteError::ConnectionLost(error))),
+        Ok(Reply::ClosedStream) => Poll::Ready(Err(WriteError::ClosedStream)),
+        Ok(_) => unreachable!(),
+        Err(Memory) => Poll::Ready(Err(WriteError::Memory)),
+    }
+}
+
+/// Waits until bytes are written (quinn: the future of `SendStream::write`).
+#[derive(Drop)]
+pub struct Write<'a> {
+    id: StreamId,
+    buf: &'a [u8],
+}
+
+impl Write<'_> {
+    /// How many bytes of the buffer's front were written. If it waits, none were.
+    pub fn poll<A: At>(
+        &mut self,
+        at: &mut A,
+        alloc: Global,
+        cx: &mut Context<'_>,
+    ) -> Poll<Result<usize, WriteError>>
+        ensures same { self.new.id ≡ self.old.id }
+        ensures bytes { self.new.buf.now ≡ self.old.buf.now }
+        ensures value { MatchAnswer result (λ count. A.acts at.old (call.Write self.old.id self.old.buf.now) (answer.Count count) at.new)
+            (λ e. IsFrom (write_origin e) (λ r. A.acts at.old (call.Write self.old.id self.old.buf.now) r at.new) (A.stays at.old at.new))
+            (A.acts at.old (call.Write self.old.id self.old.buf.now) answer.Pending at.new) }
+        ensures armed { OnPending result (IsArmed cx.new) }
+        ensures kept { Keeps cx.old cx.new }
+    {
+        write_from(self.id, at, alloc, self.buf, cx)
+    }
+}
+
+/// Waits until the peer stops a stream, or all of it is acknowledged (quinn: the future of `SendStream::stopped`).
+#[derive(Drop)]
+pub struct Stopped {
+    id: StreamId,
+}
+
+impl Stopped {
+    /// The code with which the peer stopped the stream. None once its reset, or its end and all bytes before it, were acknowledged.
+    pub fn poll<A: At>(
+        &mut self,
+        at: &mut A,
+        cx: &mut Context<'_>,
+    ) -> Poll<Result<Option<VarInt>, StoppedError>>
+        ensures same { self.new ≡ self.old }
+        ensures value { MatchAnswer result (λ code. A.acts at.old (call.Stopped self.old.id) (answer.Code code) at.new)
+            (λ e. IsFrom (stopped_origin e) (λ r. A.acts at.old (call.Stopped self.old.id) r at.new) (A.stays at.old at.new))
+            (A.acts at.old (call.Stopped self.old.id) answer.Pending at.new) }
+        ensures armed { OnPending result (IsArmed cx.new) }
+        ensures kept { Keeps cx.old cx.new }
+    {
+        match at.act(Call::Stopped(self.id), Some(cx)) {
+            Ok(Reply::Code(code)) => Poll::Ready(Ok(code)),
+            Ok(Reply::ConnectionLost(error)) => Poll::Ready(Err(StoppedError::ConnectionLost(error))),
+            Ok(Reply::Pending) => Poll::Pending,
+            Ok(_) => unreachable!(),
+            Err(Memory) => Poll::Ready(Err(StoppedError::Memory)),
+        }
+    }
+}
