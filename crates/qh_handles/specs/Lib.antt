@@ -1,3 +1,4 @@
+pub mod Chains
 pub mod Contexts
 pub mod Kinds
 pub mod Origins

@@ -9,6 +9,7 @@ ghost use Rattle.qh_handles.specs.Polls.{MatchAnswer};
 ghost use Rattle.qh_handles.specs.declared.told.Told.TheVariants as tells;
 ghost use Rattle.std.specs.Prelude.{Some};
 
+use crate::ask::ask;
 use crate::{At, Connection, Told};
 use futures::task::{Context, Poll};
 use qh_base::{ConnectionError, Memory};
@@ -41,12 +42,14 @@ impl Connecting {
         ensures armed { OnPending result (IsArmed cx.new) }
         ensures kept { Keeps cx.old cx.new }
     {
-        match at.act(Call::Connecting, Some(cx)) {
-            Ok(Reply::Done) => Poll::Ready(Ok(Connection::of_state())),
-            Ok(Reply::ConnectionLost(error)) => Poll::Ready(Err(error)),
-            Ok(Reply::Pending) => Poll::Pending,
-            Ok(_) => unreachable!(),
-            Err(Memory) => Poll::Ready(Err(ConnectionError::Memory)),
+        let Ok(reply) = ask(at, Call::Connecting, cx) else {
+            return Poll::Ready(Err(ConnectionError::Memory));
+        };
+        match reply {
+            Reply::Done => Poll::Ready(Ok(Connection::of_state())),
+            Reply::ConnectionLost(error) => Poll::Ready(Err(error)),
+            Reply::Pending => Poll::Pending,
+            _ => unreachable!(),
         }
     }
 
@@ -106,12 +109,14 @@ impl HandshakeData {
         ensures armed { OnPending result (IsArmed cx.new) }
         ensures kept { Keeps cx.old cx.new }
     {
-        match at.act(Call::HandshakeData, Some(cx)) {
-            Ok(Reply::Told(Told::HandshakeData(Some(told)))) => Poll::Ready(Ok(told)),
-            Ok(Reply::ConnectionLost(error)) => Poll::Ready(Err(error)),
-            Ok(Reply::Pending) => Poll::Pending,
-            Ok(_) => unreachable!(),
-            Err(Memory) => Poll::Ready(Err(ConnectionError::Memory)),
+        let Ok(reply) = ask(at, Call::HandshakeData, cx) else {
+            return Poll::Ready(Err(ConnectionError::Memory));
+        };
+        match reply {
+            Reply::Told(Told::HandshakeData(Some(told))) => Poll::Ready(Ok(told)),
+            Reply::ConnectionLost(error) => Poll::Ready(Err(error)),
+            Reply::Pending => Poll::Pending,
+            _ => unreachable!(),
         }
     }
 }

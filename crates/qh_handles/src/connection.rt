@@ -9,6 +9,7 @@ ghost use Rattle.qh_handles.specs.Origins.{IsFrom, IsLostBy, datagram_origin};
 ghost use Rattle.qh_handles.specs.Polls.{MatchAnswer, MatchPoll};
 ghost use Rattle.qh_handles.specs.declared.told.Told.TheVariants as tells;
 
+use crate::ask::ask;
 use crate::{At, RecvStream, SendDatagramError, SendStream, Told};
 use bytes::Bytes;
 use futures::task::{Context, Poll};
@@ -76,14 +77,16 @@ impl Connection {
             payload,
             wait: false,
         };
-        match at.act(call, None) {
-            Ok(Reply::Done) => Ok(()),
-            Ok(Reply::ConnectionLost(error)) => Err(SendDatagramError::ConnectionLost(error)),
-            Ok(Reply::Disabled) => Err(SendDatagramError::Disabled),
-            Ok(Reply::UnsupportedByPeer) => Err(SendDatagramError::UnsupportedByPeer),
-            Ok(Reply::TooLarge) => Err(SendDatagramError::TooLarge),
-            Ok(_) => unreachable!(),
-            Err(Memory) => Err(SendDatagramError::Memory),
+        let Ok(reply) = at.act(call, None) else {
+            return Err(SendDatagramError::Memory);
+        };
+        match reply {
+            Reply::Done => Ok(()),
+            Reply::ConnectionLost(error) => Err(SendDatagramError::ConnectionLost(error)),
+            Reply::Disabled => Err(SendDatagramError::Disabled),
+            Reply::UnsupportedByPeer => Err(SendDatagramError::UnsupportedByPeer),
+            Reply::TooLarge => Err(SendDatagramError::TooLarge),
+            _ => unreachable!(),
         }
     }
 
@@ -426,12 +429,14 @@ fn poll_open<A: At>(
     ensures armed { OnPending result (IsArmed cx.new) }
     ensures kept { Keeps cx.old cx.new }
 {
-    match at.act(Call::Open(dir), Some(cx)) {
-        Ok(Reply::Opened(id)) => Poll::Ready(Ok(id)),
-        Ok(Reply::ConnectionLost(error)) => Poll::Ready(Err(error)),
-        Ok(Reply::Pending) => Poll::Pending,
-        Ok(_) => unreachable!(),
-        Err(Memory) => Poll::Ready(Err(ConnectionError::Memory)),
+    let Ok(reply) = ask(at, Call::Open(dir), cx) else {
+        return Poll::Ready(Err(ConnectionError::Memory));
+    };
+    match reply {
+        Reply::Opened(id) => Poll::Ready(Ok(id)),
+        Reply::ConnectionLost(error) => Poll::Ready(Err(error)),
+        Reply::Pending => Poll::Pending,
+        _ => unreachable!(),
     }
 }
 
@@ -447,12 +452,14 @@ fn poll_accept<A: At>(
     ensures armed { OnPending result (IsArmed cx.new) }
     ensures kept { Keeps cx.old cx.new }
 {
-    match at.act(Call::Accept(dir), Some(cx)) {
-        Ok(Reply::Opened(id)) => Poll::Ready(Ok(id)),
-        Ok(Reply::ConnectionLost(error)) => Poll::Ready(Err(error)),
-        Ok(Reply::Pending) => Poll::Pending,
-        Ok(_) => unreachable!(),
-        Err(Memory) => Poll::Ready(Err(ConnectionError::Memory)),
+    let Ok(reply) = ask(at, Call::Accept(dir), cx) else {
+        return Poll::Ready(Err(ConnectionError::Memory));
+    };
+    match reply {
+        Reply::Opened(id) => Poll::Ready(Ok(id)),
+        Reply::ConnectionLost(error) => Poll::Ready(Err(error)),
+        Reply::Pending => Poll::Pending,
+        _ => unreachable!(),
     }
 }
 
@@ -476,12 +483,14 @@ impl ReadDatagram {
         ensures armed { OnPending result (IsArmed cx.new) }
         ensures kept { Keeps cx.old cx.new }
     {
-        match at.act(Call::ReadDatagram, Some(cx)) {
-            Ok(Reply::Datagram(payload)) => Poll::Ready(Ok(payload)),
-            Ok(Reply::ConnectionLost(error)) => Poll::Ready(Err(error)),
-            Ok(Reply::Pending) => Poll::Pending,
-            Ok(_) => unreachable!(),
-            Err(Memory) => Poll::Ready(Err(ConnectionError::Memory)),
+        let Ok(reply) = ask(at, Call::ReadDatagram, cx) else {
+            return Poll::Ready(Err(ConnectionError::Memory));
+        };
+        match reply {
+            Reply::Datagram(payload) => Poll::Ready(Ok(payload)),
+            Reply::ConnectionLost(error) => Poll::Ready(Err(error)),
+            Reply::Pending => Poll::Pending,
+            _ => unreachable!(),
         }
     }
 }
@@ -513,17 +522,19 @@ impl SendDatagram {
             payload,
             wait: true,
         };
-        match at.act(call, Some(cx)) {
-            Ok(Reply::Done) => Poll::Ready(Ok(())),
-            Ok(Reply::ConnectionLost(error)) => {
+        let Ok(reply) = ask(at, call, cx) else {
+            return Poll::Ready(Err(SendDatagramError::Memory));
+        };
+        match reply {
+            Reply::Done => Poll::Ready(Ok(())),
+            Reply::ConnectionLost(error) => {
                 Poll::Ready(Err(SendDatagramError::ConnectionLost(error)))
             }
-            Ok(Reply::Disabled) => Poll::Ready(Err(SendDatagramError::Disabled)),
-            Ok(Reply::UnsupportedByPeer) => Poll::Ready(Err(SendDatagramError::UnsupportedByPeer)),
-            Ok(Reply::TooLarge) => Poll::Ready(Err(SendDatagramError::TooLarge)),
-            Ok(Reply::Pending) => Poll::Pending,
-            Ok(_) => unreachable!(),
-            Err(Memory) => Poll::Ready(Err(SendDatagramError::Memory)),
+            Reply::Disabled => Poll::Ready(Err(SendDatagramError::Disabled)),
+            Reply::UnsupportedByPeer => Poll::Ready(Err(SendDatagramError::UnsupportedByPeer)),
+            Reply::TooLarge => Poll::Ready(Err(SendDatagramError::TooLarge)),
+            Reply::Pending => Poll::Pending,
+            _ => unreachable!(),
         }
     }
 }
@@ -541,11 +552,13 @@ impl Closed {
         ensures armed { OnPending result (IsArmed cx.new) }
         ensures kept { Keeps cx.old cx.new }
     {
-        match at.act(Call::Closed, Some(cx)) {
-            Ok(Reply::ConnectionLost(error)) => Poll::Ready(error),
-            Ok(Reply::Pending) => Poll::Pending,
-            Ok(_) => unreachable!(),
-            Err(Memory) => Poll::Ready(ConnectionError::Memory),
+        let Ok(reply) = ask(at, Call::Closed, cx) else {
+            return Poll::Ready(ConnectionError::Memory);
+        };
+        match reply {
+            Reply::ConnectionLost(error) => Poll::Ready(error),
+            Reply::Pending => Poll::Pending,
+            _ => unreachable!(),
         }
     }
 }

@@ -2,6 +2,7 @@
 //! made at a connection's state, which is handed in, or at one that is shared (the trait `At`), and is one step of a book that can be read (`qh_book`).
 #![tactic(auto)]
 
+mod ask;
 mod at;
 mod connecting;
 mod connection;
@@ -21,6 +22,6 @@ pub use error::{
     ReadError, ReadExactError, ReadToEndError, ResetError, SendDatagramError, StoppedError,
     WriteError,
 };
-pub use recv_stream::{Read, ReadChunk, ReceivedReset, RecvStream};
-pub use send_stream::{SendStream, Stopped, Write};
+pub use recv_stream::{Read, ReadChunk, ReadExact, ReceivedReset, RecvStream};
+pub use send_stream::{SendStream, Stopped, Write, WriteAll};
 pub use told::Told;

@@ -1,15 +1,17 @@
-ghost use Rattle.std.specs.Prelude.{◌≡◌, ◌⊎◌, List, MatchResult, true, false, length, ⊤};
+ghost use Rattle.std.specs.Prelude.{◌≡◌, ◌⊎◌, ◌<◌, ◌≤◌, ◌-◌, List, IfSome, MatchResult, true, false, length, ⊤};
 ghost use Rattle.futures.specs.Poll.{OnPending};
 ghost use Rattle.futures.specs.Task.{IsArmed, Keeps};
 ghost use Rattle.qh_book.specs.declared.call.Call.TheVariants as call;
 ghost use Rattle.qh_book.specs.declared.reply.Reply.{Reply as AReply};
 ghost use Rattle.qh_book.specs.declared.reply.Reply.TheVariants as answer;
+ghost use Rattle.qh_handles.specs.Chains.{IsExactError, IsFilled};
 ghost use Rattle.qh_handles.specs.Origins.{IsFrom, read_origin, reset_origin};
 ghost use Rattle.qh_handles.specs.Polls.{MatchAnswer};
 ghost use Rattle.qh_handles.specs.Streams.{IsReadInto, IsReadOrEnded, chunk_reply};
 ghost use Rattle.qh_handles.specs.declared.told.Told.{Told as AToldValue};
 
-use crate::{At, ReadError, ResetError};
+use crate::ask::ask;
+use crate::{At, ReadError, ReadExactError, ResetError};
 use futures::task::{Context, Poll};
 use qh_base::{Memory, StreamId, VarInt};
 use qh_book::{Call, Reply};
@@ -62,6 +64,21 @@ impl RecvStream {
         ensures bytes { result.buf.now ≡ buf.old }
     {
         Read { id: self.id, buf }
+    }
+
+    /// Reads as many bytes as a buffer that is lent has room for: a call that waits for all of them.
+    pub fn read_exact<'a>(&mut self, buf: &'a mut [u8]) -> ReadExact<'a>
+        ensures same { self.new ≡ self.old }
+        ensures stream { result.id ≡ self.old.id }
+        ensures lent { result.buf.ghost_name ≡ buf.entry.ghost_name }
+        ensures bytes { result.buf.now ≡ buf.old }
+        ensures none { result.filled ≡ 0 }
+    {
+        ReadExact {
+            id: self.id,
+            buf,
+            filled: 0,
+        }
     }
 
     /// Reads a piece of at most `max_length` bytes, the next one or any that came: a call that waits for one.
@@ -137,6 +154,7 @@ fn read_into<A: At>(
         (λ count. (r : AReply (AToldValue A.HandshakeData)) × A.acts at.old (call.Read id (length buf.old) true) r at.new × IsReadInto r count buf.old buf.new)
         (λ e. IsFrom (read_origin e) (λ r. A.acts at.old (call.Read id (length buf.old) true) r at.new) (A.stays at.old at.new))
         (A.acts at.old (call.Read id (length buf.old) true) answer.Pending at.new) }
+    ensures counts { MatchAnswer result (λ count. IfSome count (λ n. (n ≤ length buf.old) × ((length buf.old ≡ 0) ⊎ (0 < n)))) (λ _. ⊤) ⊤ }
     ensures unread { MatchAnswer result (λ _. ⊤) (λ _. buf.new ≡ buf.old) (buf.new ≡ buf.old) }
     ensures armed { OnPending result (IsArmed cx.new) }
     ensures kept { Keeps cx.old cx.new }
@@ -146,20 +164,22 @@ fn read_into<A: At>(
         max_length: buf.len(),
         is_ordered: true,
     };
-    match at.act(call, Some(cx)) {
-        Ok(Reply::Bytes { payload, .. }) => {
+    let Ok(reply) = ask(at, call, cx) else {
+        return Poll::Ready(Err(ReadError::Memory));
+    };
+    match reply {
+        Reply::Bytes { payload, .. } => {
             let count = payload.len();
             buf[..count].copy_from_slice(payload.as_slice());
             Poll::Ready(Ok(Some(count)))
         }
-        Ok(Reply::Ended) => Poll::Ready(Ok(None)),
-        Ok(Reply::Pending) => Poll::Pending,
-        Ok(Reply::Reset(code)) => Poll::Ready(Err(ReadError::Reset(code))),
-        Ok(Reply::ConnectionLost(error)) => Poll::Ready(Err(ReadError::ConnectionLost(error))),
-        Ok(Reply::ClosedStream) => Poll::Ready(Err(ReadError::ClosedStream)),
-        Ok(Reply::IllegalOrderedRead) => Poll::Ready(Err(ReadError::IllegalOrderedRead)),
-        Ok(_) => unreachable!(),
-        Err(Memory) => Poll::Ready(Err(ReadError::Memory)),
+        Reply::Ended => Poll::Ready(Ok(None)),
+        Reply::Pending => Poll::Pending,
+        Reply::Reset(code) => Poll::Ready(Err(ReadError::Reset(code))),
+        Reply::ConnectionLost(error) => Poll::Ready(Err(ReadError::ConnectionLost(error))),
+        Reply::ClosedStream => Poll::Ready(Err(ReadError::ClosedStream)),
+        Reply::IllegalOrderedRead => Poll::Ready(Err(ReadError::IllegalOrderedRead)),
+        _ => unreachable!(),
     }
 }
 
@@ -182,19 +202,21 @@ fn poll_chunk<A: At>(
         max_length,
         is_ordered,
     };
-    match at.act(call, Some(cx)) {
-        Ok(Reply::Bytes { offset, payload }) => Poll::Ready(Ok(Some(Chunk {
+    let Ok(reply) = ask(at, call, cx) else {
+        return Poll::Ready(Err(ReadError::Memory));
+    };
+    match reply {
+        Reply::Bytes { offset, payload } => Poll::Ready(Ok(Some(Chunk {
             offset,
             bytes: payload,
         }))),
-        Ok(Reply::Ended) => Poll::Ready(Ok(None)),
-        Ok(Reply::Pending) => Poll::Pending,
-        Ok(Reply::Reset(code)) => Poll::Ready(Err(ReadError::Reset(code))),
-        Ok(Reply::ConnectionLost(error)) => Poll::Ready(Err(ReadError::ConnectionLost(error))),
-        Ok(Reply::ClosedStream) => Poll::Ready(Err(ReadError::ClosedStream)),
-        Ok(Reply::IllegalOrderedRead) => Poll::Ready(Err(ReadError::IllegalOrderedRead)),
-        Ok(_) => unreachable!(),
-        Err(Memory) => Poll::Ready(Err(ReadError::Memory)),
+        Reply::Ended => Poll::Ready(Ok(None)),
+        Reply::Pending => Poll::Pending,
+        Reply::Reset(code) => Poll::Ready(Err(ReadError::Reset(code))),
+        Reply::ConnectionLost(error) => Poll::Ready(Err(ReadError::ConnectionLost(error))),
+        Reply::ClosedStream => Poll::Ready(Err(ReadError::ClosedStream)),
+        Reply::IllegalOrderedRead => Poll::Ready(Err(ReadError::IllegalOrderedRead)),
+        _ => unreachable!(),
     }
 }
 
@@ -225,6 +247,67 @@ impl Read<'_> {
         let buf = &mut *self.buf;
         read_into(self.id, at, buf, cx)
     }
+}
+
+/// Waits until a buffer is full of the bytes of a stream (quinn, `ReadExact`).
+#[derive(Drop)]
+pub struct ReadExact<'a> {
+    id: StreamId,
+    buf: &'a mut [u8],
+    // How many bytes of the buffer's front were read.
+    filled: usize,
+}
+
+impl ReadExact<'_> {
+    /// Done once the buffer is full. If it waits, what was read stands in the buffer's front, and a further poll goes on behind it. If the stream ends before,
+    /// `FinishedEarly` says how many bytes were read.
+    pub fn poll<A: At>(
+        &mut self,
+        at: &mut A,
+        cx: &mut Context<'_>,
+    ) -> Poll<Result<(), ReadExactError>>
+        ensures same { self.new.id ≡ self.old.id }
+        ensures lent { self.new.buf.ghost_name ≡ self.old.buf.ghost_name }
+        ensures value { (mid : A) × IsFilled A.acts self.old.id self.old.buf.now self.old.filled at.old self.new.buf.now self.new.filled mid
+            × MatchAnswer result (λ _. (length self.old.buf.now ≤ self.new.filled) × (mid ≡ at.new))
+            (λ e. IsExactError e self.new.filled (λ r. A.acts mid (call.Read self.old.id (length self.old.buf.now - self.new.filled) true) r at.new) (A.stays mid at.new))
+            (A.acts mid (call.Read self.old.id (length self.old.buf.now - self.new.filled) true) answer.Pending at.new) }
+        ensures armed { OnPending result (IsArmed cx.new) }
+        ensures kept { Keeps cx.old cx.new }
+    {
+        let buf = &mut *self.buf;
+        let filled = &mut self.filled;
+        fill(self.id, at, buf, filled, cx)
+    }
+}
+
+// Reads behind the front of a buffer that is filled until all of it is.
+fn fill<A: At>(
+    id: StreamId,
+    at: &mut A,
+    buf: &mut [u8],
+    filled: &mut usize,
+    cx: &mut Context<'_>,
+) -> Poll<Result<(), ReadExactError>>
+    ensures value { (mid : A) × IsFilled A.acts id buf.old filled.old at.old buf.new filled.new mid
+        × MatchAnswer result (λ _. (length buf.old ≤ filled.new) × (mid ≡ at.new))
+        (λ e. IsExactError e filled.new (λ r. A.acts mid (call.Read id (length buf.old - filled.new) true) r at.new) (A.stays mid at.new))
+        (A.acts mid (call.Read id (length buf.old - filled.new) true) answer.Pending at.new) }
+    ensures armed { OnPending result (IsArmed cx.new) }
+    ensures kept { Keeps cx.old cx.new }
+{
+    while *filled < buf.len() {
+        let rest = &mut buf[*filled..];
+        match read_into(id, at, rest, cx) {
+            Poll::Ready(Ok(Some(count))) => *filled += count,
+            Poll::Ready(Ok(None)) => {
+                return Poll::Ready(Err(ReadExactError::FinishedEarly(*filled)));
+            }
+            Poll::Ready(Err(error)) => return Poll::Ready(Err(ReadExactError::ReadError(error))),
+            Poll::Pending => return Poll::Pending,
+        }
+    }
+    Poll::Ready(Ok(()))
 }
 
 /// Waits for a piece of a stream (quinn, `ReadChunk`).
@@ -273,12 +356,14 @@ impl ReceivedReset {
         ensures armed { OnPending result (IsArmed cx.new) }
         ensures kept { Keeps cx.old cx.new }
     {
-        match at.act(Call::ReceivedReset(self.id), Some(cx)) {
-            Ok(Reply::Code(code)) => Poll::Ready(Ok(code)),
-            Ok(Reply::ConnectionLost(error)) => Poll::Ready(Err(ResetError::ConnectionLost(error))),
-            Ok(Reply::Pending) => Poll::Pending,
-            Ok(_) => unreachable!(),
-            Err(Memory) => Poll::Ready(Err(ResetError::Memory)),
+        let Ok(reply) = ask(at, Call::ReceivedReset(self.id), cx) else {
+            return Poll::Ready(Err(ResetError::Memory));
+        };
+        match reply {
+            Reply::Code(code) => Poll::Ready(Ok(code)),
+            Reply::ConnectionLost(error) => Poll::Ready(Err(ResetError::ConnectionLost(error))),
+            Reply::Pending => Poll::Pending,
+            _ => unreachable!(),
         }
     }
 }

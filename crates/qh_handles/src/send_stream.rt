@@ -1,11 +1,13 @@
-ghost use Rattle.std.specs.Prelude.{◌≡◌, ◌⊎◌, MatchResult};
-ghost use Rattle.futures.specs.Poll.{OnPending};
+ghost use Rattle.std.specs.Prelude.{◌≡◌, ◌⊎◌, ◌<◌, ◌≤◌, [], IfOk, MatchResult, drop, length};
+ghost use Rattle.futures.specs.Poll.{IfReady, OnPending};
 ghost use Rattle.futures.specs.Task.{IsArmed, Keeps};
 ghost use Rattle.qh_book.specs.declared.call.Call.TheVariants as call;
 ghost use Rattle.qh_book.specs.declared.reply.Reply.TheVariants as answer;
+ghost use Rattle.qh_handles.specs.Chains.{IsWritten};
 ghost use Rattle.qh_handles.specs.Origins.{IsFrom, stopped_origin, write_origin};
 ghost use Rattle.qh_handles.specs.Polls.{MatchAnswer};
 
+use crate::ask::ask;
 use crate::{At, StoppedError, WriteError};
 use bytes::Bytes;
 use futures::task::{Context, Poll};
@@ -54,6 +56,20 @@ impl SendStream {
         ensures bytes { result.buf.now ≡ buf.now }
     {
         Write { id: self.id, buf }
+    }
+
+    /// Writes all bytes of a buffer that is lent: a call that waits until all are written.
+    pub fn write_all<'a>(&mut self, buf: &'a [u8]) -> WriteAll<'a>
+        ensures same { self.new ≡ self.old }
+        ensures stream { result.id ≡ self.old.id }
+        ensures bytes { result.buf.now ≡ buf.now }
+        ensures none { result.written ≡ 0 }
+    {
+        WriteAll {
+            id: self.id,
+            buf,
+            written: 0,
+        }
     }
 
     /// Ends the stream behind the bytes that were written (RFC 9000, section 3.1). If the peer asked to stop it, it stays as it is.
@@ -154,6 +170,7 @@ fn write_from<A: At>(
     ensures value { MatchAnswer result (λ count. A.acts at.old (call.Write id buf.now) (answer.Count count) at.new)
         (λ e. IsFrom (write_origin e) (λ r. A.acts at.old (call.Write id buf.now) r at.new) (A.stays at.old at.new))
         (A.acts at.old (call.Write id buf.now) answer.Pending at.new) }
+    ensures counts { IfReady result (λ r. IfOk r (λ n. (n ≤ length buf.now) × ((buf.now ≡ []) ⊎ (0 < n)))) }
     ensures armed { OnPending result (IsArmed cx.new) }
     ensures kept { Keeps cx.old cx.new }
 {
@@ -173,17 +190,20 @@ fn write_bytes<A: At>(
     ensures value { MatchAnswer result (λ count. A.acts at.old (call.Write id payload) (answer.Count count) at.new)
         (λ e. IsFrom (write_origin e) (λ r. A.acts at.old (call.Write id payload) r at.new) (A.stays at.old at.new))
         (A.acts at.old (call.Write id payload) answer.Pending at.new) }
+    ensures counts { IfReady result (λ r. IfOk r (λ n. (n ≤ length payload) × ((payload ≡ []) ⊎ (0 < n)))) }
     ensures armed { OnPending result (IsArmed cx.new) }
     ensures kept { Keeps cx.old cx.new }
 {
-    match at.act(Call::Write { id, payload }, Some(cx)) {
-        Ok(Reply::Count(count)) => Poll::Ready(Ok(count)),
-        Ok(Reply::Pending) => Poll::Pending,
-        Ok(Reply::Stopped(code)) => Poll::Ready(Err(WriteError::Stopped(code))),
-        Ok(Reply::ConnectionLost(error)) => Poll::Ready(Err(WriteError::ConnectionLost(error))),
-        Ok(Reply::ClosedStream) => Poll::Ready(Err(WriteError::ClosedStream)),
-        Ok(_) => unreachable!(),
-        Err(Memory) => Poll::Ready(Err(WriteError::Memory)),
+    let Ok(reply) = ask(at, Call::Write { id, payload }, cx) else {
+        return Poll::Ready(Err(WriteError::Memory));
+    };
+    match reply {
+        Reply::Count(count) => Poll::Ready(Ok(count)),
+        Reply::Pending => Poll::Pending,
+        Reply::Stopped(code) => Poll::Ready(Err(WriteError::Stopped(code))),
+        Reply::ConnectionLost(error) => Poll::Ready(Err(WriteError::ConnectionLost(error))),
+        Reply::ClosedStream => Poll::Ready(Err(WriteError::ClosedStream)),
+        _ => unreachable!(),
     }
 }
 
@@ -214,6 +234,63 @@ impl Write<'_> {
     }
 }
 
+/// Waits until all bytes of a buffer are written (quinn: the future of `SendStream::write_all`).
+#[derive(Drop)]
+pub struct WriteAll<'a> {
+    id: StreamId,
+    buf: &'a [u8],
+    // How many bytes of the buffer's front were written.
+    written: usize,
+}
+
+impl WriteAll<'_> {
+    /// Done once all bytes are written. If it waits, some may be, and a further poll goes on behind them.
+    pub fn poll<A: At>(
+        &mut self,
+        at: &mut A,
+        alloc: Global,
+        cx: &mut Context<'_>,
+    ) -> Poll<Result<(), WriteError>>
+        ensures same { self.new.id ≡ self.old.id }
+        ensures bytes { self.new.buf.now ≡ self.old.buf.now }
+        ensures value { (mid : A) × IsWritten A.acts self.old.id (drop self.old.written self.old.buf.now) at.old (drop self.new.written self.old.buf.now) mid
+            × MatchAnswer result (λ _. (length self.old.buf.now ≤ self.new.written) × (mid ≡ at.new))
+            (λ e. IsFrom (write_origin e) (λ r. A.acts mid (call.Write self.old.id (drop self.new.written self.old.buf.now)) r at.new) (A.stays mid at.new))
+            (A.acts mid (call.Write self.old.id (drop self.new.written self.old.buf.now)) answer.Pending at.new) }
+        ensures armed { OnPending result (IsArmed cx.new) }
+        ensures kept { Keeps cx.old cx.new }
+    {
+        let written = &mut self.written;
+        write_rest(self.id, at, alloc, self.buf, written, cx)
+    }
+}
+
+// Writes the bytes of a buffer behind those that were written.
+fn write_rest<A: At>(
+    id: StreamId,
+    at: &mut A,
+    alloc: Global,
+    buf: &[u8],
+    written: &mut usize,
+    cx: &mut Context<'_>,
+) -> Poll<Result<(), WriteError>>
+    ensures value { (mid : A) × IsWritten A.acts id (drop written.old buf.now) at.old (drop written.new buf.now) mid
+        × MatchAnswer result (λ _. (length buf.now ≤ written.new) × (mid ≡ at.new))
+        (λ e. IsFrom (write_origin e) (λ r. A.acts mid (call.Write id (drop written.new buf.now)) r at.new) (A.stays mid at.new))
+        (A.acts mid (call.Write id (drop written.new buf.now)) answer.Pending at.new) }
+    ensures armed { OnPending result (IsArmed cx.new) }
+    ensures kept { Keeps cx.old cx.new }
+{
+    while *written < buf.len() {
+        match write_from(id, at, alloc, &buf[*written..], cx) {
+            Poll::Ready(Ok(count)) => *written += count,
+            Poll::Ready(Err(error)) => return Poll::Ready(Err(error)),
+            Poll::Pending => return Poll::Pending,
+        }
+    }
+    Poll::Ready(Ok(()))
+}
+
 /// Waits until the peer stops a stream, or all of it is acknowledged (quinn: the future of `SendStream::stopped`).
 #[derive(Drop)]
 pub struct Stopped {
@@ -234,12 +311,14 @@ impl Stopped {
         ensures armed { OnPending result (IsArmed cx.new) }
         ensures kept { Keeps cx.old cx.new }
     {
-        match at.act(Call::Stopped(self.id), Some(cx)) {
-            Ok(Reply::Code(code)) => Poll::Ready(Ok(code)),
-            Ok(Reply::ConnectionLost(error)) => Poll::Ready(Err(StoppedError::ConnectionLost(error))),
-            Ok(Reply::Pending) => Poll::Pending,
-            Ok(_) => unreachable!(),
-            Err(Memory) => Poll::Ready(Err(StoppedError::Memory)),
+        let Ok(reply) = ask(at, Call::Stopped(self.id), cx) else {
+            return Poll::Ready(Err(StoppedError::Memory));
+        };
+        match reply {
+            Reply::Code(code) => Poll::Ready(Ok(code)),
+            Reply::ConnectionLost(error) => Poll::Ready(Err(StoppedError::ConnectionLost(error))),
+            Reply::Pending => Poll::Pending,
+            _ => unreachable!(),
         }
     }
 }
