@@ -1,14 +1,12 @@
-ghost use Rattle.std.specs.Prelude.{◌≡◌, ◌⊎◌, ◌<◌, ◌≤◌, ◌-◌, List, IfSome, MatchResult, true, false, length, ⊤};
+ghost use Rattle.std.specs.Prelude.{◌≡◌, ◌⊎◌, ◌<◌, ◌≤◌, ◌-◌, IfSome, MatchResult, true, false, length, ⊤};
 ghost use Rattle.futures.specs.Poll.{OnPending};
 ghost use Rattle.futures.specs.Task.{IsArmed, Keeps};
 ghost use Rattle.qh_book.specs.declared.call.Call.TheVariants as call;
-ghost use Rattle.qh_book.specs.declared.reply.Reply.{Reply as AReply};
 ghost use Rattle.qh_book.specs.declared.reply.Reply.TheVariants as answer;
 ghost use Rattle.qh_handles.specs.Chains.{IsExactError, IsFilled};
 ghost use Rattle.qh_handles.specs.Origins.{IsFrom, read_origin, reset_origin};
 ghost use Rattle.qh_handles.specs.Polls.{MatchAnswer};
 ghost use Rattle.qh_handles.specs.Streams.{IsReadInto, IsReadOrEnded, chunk_reply};
-ghost use Rattle.qh_handles.specs.declared.told.Told.{Told as AToldValue};
 
 use crate::ask::ask;
 use crate::{At, ReadError, ReadExactError, ResetError};
@@ -41,7 +39,7 @@ impl RecvStream {
     ) -> Poll<Result<usize, ReadError>>
         ensures same { self.new ≡ self.old }
         ensures value { MatchAnswer result
-            (λ count. (r : AReply (AToldValue A.HandshakeData)) × A.acts at.old (call.Read self.old.id (length buf.old) true) r at.new × IsReadOrEnded r count buf.old buf.new)
+            (λ count. IsReadOrEnded (λ r. A.acts at.old (call.Read self.old.id (length buf.old) true) r at.new) count buf.old buf.new)
             (λ e. IsFrom (read_origin e) (λ r. A.acts at.old (call.Read self.old.id (length buf.old) true) r at.new) (A.stays at.old at.new))
             (A.acts at.old (call.Read self.old.id (length buf.old) true) answer.Pending at.new) }
         ensures unread { MatchAnswer result (λ _. ⊤) (λ _. buf.new ≡ buf.old) (buf.new ≡ buf.old) }
@@ -151,7 +149,7 @@ fn read_into<A: At>(
     cx: &mut Context<'_>,
 ) -> Poll<Result<Option<usize>, ReadError>>
     ensures value { MatchAnswer result
-        (λ count. (r : AReply (AToldValue A.HandshakeData)) × A.acts at.old (call.Read id (length buf.old) true) r at.new × IsReadInto r count buf.old buf.new)
+        (λ count. IsReadInto (λ r. A.acts at.old (call.Read id (length buf.old) true) r at.new) count buf.old buf.new)
         (λ e. IsFrom (read_origin e) (λ r. A.acts at.old (call.Read id (length buf.old) true) r at.new) (A.stays at.old at.new))
         (A.acts at.old (call.Read id (length buf.old) true) answer.Pending at.new) }
     ensures counts { MatchAnswer result (λ count. IfSome count (λ n. (n ≤ length buf.old) × ((length buf.old ≡ 0) ⊎ (0 < n)))) (λ _. ⊤) ⊤ }
@@ -237,7 +235,7 @@ impl Read<'_> {
         ensures same { self.new.id ≡ self.old.id }
         ensures lent { self.new.buf.ghost_name ≡ self.old.buf.ghost_name }
         ensures value { MatchAnswer result
-            (λ count. (r : AReply (AToldValue A.HandshakeData)) × A.acts at.old (call.Read self.old.id (length self.old.buf.now) true) r at.new × IsReadInto r count self.old.buf.now self.new.buf.now)
+            (λ count. IsReadInto (λ r. A.acts at.old (call.Read self.old.id (length self.old.buf.now) true) r at.new) count self.old.buf.now self.new.buf.now)
             (λ e. IsFrom (read_origin e) (λ r. A.acts at.old (call.Read self.old.id (length self.old.buf.now) true) r at.new) (A.stays at.old at.new))
             (A.acts at.old (call.Read self.old.id (length self.old.buf.now) true) answer.Pending at.new) }
         ensures unread { MatchAnswer result (λ _. ⊤) (λ _. self.new.buf.now ≡ self.old.buf.now) (self.new.buf.now ≡ self.old.buf.now) }
