@@ -1,5 +1,6 @@
 -- Calls that are made one after another, as the loops of reads and writes make them.
-use Rattle.std.specs.Prelude.{◌≡◌, ◌⊎◌, ℕ, ◌+◌, ◌-◌, ◌<◌, ◌≤◌, true, false, List, [], ◌∷◌, ◌++◌, length, take, drop}
+use Rattle.std.specs.Prelude.{◌≡◌, ◌⊎◌, ℕ, ◌+◌, ◌-◌, ◌^◌, ◌<◌, ◌≤◌, Bool, true, false, List, [], ◌∷◌, ◌++◌, length, map, take, drop, slice_get, slice_index, EachIndex, Option, Some, None}
+use Rattle.std.specs.List.{concat}
 use Rattle.qh_base.specs.declared.stream_id.StreamId.{StreamId}
 use Rattle.qh_book.specs.declared.call.Call.{Call}
 use Rattle.qh_book.specs.declared.call.Call.TheVariants as call
@@ -7,8 +8,14 @@ use Rattle.qh_book.specs.declared.reply.Reply.{Reply}
 use Rattle.qh_book.specs.declared.reply.Reply.TheVariants as reply
 use Rattle.qh_buffers.specs.declared.assembler.Chunk.{Chunk}
 use Rattle.qh_handles.specs.Origins.{IsFrom, read_origin}
+use Rattle.qh_handles.specs.declared.error.ReadError.{ReadError}
+use Rattle.qh_handles.specs.declared.error.ReadError.TheVariants as read
 use Rattle.qh_handles.specs.declared.error.ReadExactError.{ReadExactError}
 use Rattle.qh_handles.specs.declared.error.ReadExactError.TheVariants as exact
+use Rattle.qh_handles.specs.declared.error.ReadToEndError.{ReadToEndError}
+use Rattle.qh_handles.specs.declared.error.ReadToEndError.TheVariants as to_end
+use Rattle.qh_parts.specs.ReadToEndBuffer.{PlainBuffer, byte_at, end_of, len_of, len_or_zero, start_or_zero, widened}
+use Rattle.qh_parts.specs.declared.read_to_end.Extent.{Extent}
 
 -- these calls were made, each at the state that the one before it left, and replied so
 abbrev pub Acts : {S C R : Type 0} (acts : S → C → R → S → Type 0) → S → List (C × R) → S → Type 0
@@ -74,3 +81,82 @@ pub record IsWritten {S T : Type 0} (acts : S → Call → Reply T → S → Typ
   pub are : AreWrites id text writes
   pub made : Acts acts s writes mid
   pub left_is : left ≡ drop (all_counts writes) text
+
+-- ---- chunks
+
+-- what is left of chunks of which so many are written whole
+abbrev pub text_left : List (List ℕ) → (done : ℕ) → List ℕ
+text_left bufs done = concat (drop done bufs)
+
+-- this holds of the chunk at an index
+abbrev pub OfChunk : List (List ℕ) → (index : ℕ) → (List ℕ → Type 0) → Type 0
+OfChunk bufs index P = (chunk : List ℕ) × (slice_get bufs index ≡ Some chunk) × P chunk
+
+-- the reply to a read of a piece
+abbrev pub piece_read : {T : Type 0} → StreamId → (is_ordered : Bool) → Chunk → Call × Reply T
+piece_read id is_ordered c = (call.Read id (2 ^ 64 - 1) is_ordered, reply.Bytes c.offset c.bytes)
+
+-- The front of the chunks holds now what reads gave, one after another; the others are as they were.
+pub record IsPlaced {S T : Type 0} (acts : S → Call → Reply T → S → Type 0) (id : StreamId) (old : List (List ℕ)) (s : S) (new : List (List ℕ)) (mid : S) (count : ℕ) : Type 0 where
+  pub pieces : List Chunk
+  pub made : Acts acts s (map (piece_read id true) pieces) mid
+  pub counted : count ≡ length pieces
+  pub placed : new ≡ map (λ (c : Chunk). c.bytes) pieces ++ drop count old
+
+abbrev pub IsReset : ReadError → Type 0
+IsReset (read.Reset code) = Unit {0}
+IsReset other = ⊥
+
+-- a reply that ends reads behind some that gave bytes; a reset doesn't, since it is told once
+abbrev pub EndsReads : {T : Type 0} → Reply T → Type 0
+EndsReads reply.Pending = Unit {0}
+EndsReads reply.Ended = Unit {0}
+EndsReads (reply.ConnectionLost e) = Unit {0}
+EndsReads reply.ClosedStream = Unit {0}
+EndsReads reply.IllegalOrderedRead = Unit {0}
+EndsReads other = ⊥
+
+-- a reply that ends writes behind some that wrote bytes
+abbrev pub EndsWrites : {T : Type 0} → Reply T → Type 0
+EndsWrites reply.Pending = Unit {0}
+EndsWrites (reply.Stopped code) = Unit {0}
+EndsWrites (reply.ConnectionLost e) = Unit {0}
+EndsWrites reply.ClosedStream = Unit {0}
+EndsWrites other = ⊥
+
+-- ---- all of a stream
+
+abbrev pub widened_all : Option Extent → List Chunk → Option Extent
+widened_all extent [] = extent
+widened_all extent (c ∷ cs) = widened_all (Some (widened extent c)) cs
+
+-- the buffer of a call that reads a stream to its end, before its first poll too
+abbrev pub buffer_or : Option PlainBuffer → (size_limit : ℕ) → PlainBuffer
+buffer_or None size_limit = record { kept = []; extent = None; size_limit = size_limit }
+buffer_or (Some b) size_limit = b
+
+-- the buffer took all pieces that reads gave, one after another, in whatever order they came
+pub record IsGathered {S T : Type 0} (acts : S → Call → Reply T → S → Type 0) (id : StreamId) (old : PlainBuffer) (s : S) (new : PlainBuffer) (mid : S) : Type 0 where
+  pub pieces : List Chunk
+  pub made : Acts acts s (map (piece_read id false) pieces) mid
+  pub kept : new ≡ record { kept = old.kept ++ pieces; extent = widened_all old.extent pieces; size_limit = old.size_limit }
+
+-- the bytes of a buffer, from the least offset to the greatest end
+pub record AreAll (b : PlainBuffer) (bytes : List ℕ) : Type 0 where
+  pub len : length bytes ≡ len_or_zero b.extent
+  pub each : EachIndex bytes (λ i. slice_index bytes i ≡ byte_at b.kept (start_or_zero b.extent + i))
+
+-- a piece that makes what came longer than the limit, or that ends where no stream does
+abbrev pub IsTooLong : PlainBuffer → Chunk → Type 0
+IsTooLong b c = (b.size_limit < len_of (widened b.extent c)) ⊎ (2 ^ 64 ≤ end_of c)
+
+abbrev pub IsKeepError : ReadToEndError → PlainBuffer → Chunk → Type 0
+IsKeepError to_end.TooLong b c = IsTooLong b c
+IsKeepError (to_end.Read read.Memory) b c = Unit {0}
+IsKeepError other b c = ⊥
+
+-- Want of memory: no call was made, or the last piece isn't kept, or the bytes aren't put together. What is too long: the last piece makes it so.
+abbrev pub IsToEndError : {T : Type 0} → ReadToEndError → PlainBuffer → (Reply T → Type 0) → Type 0 → Type 0
+IsToEndError (to_end.Read read.Memory) b P Q = Q ⊎ (P reply.Ended ⊎ ((c : Chunk) × P (reply.Bytes c.offset c.bytes)))
+IsToEndError (to_end.Read e) b P Q = IsFrom (read_origin e) P ⊥
+IsToEndError to_end.TooLong b P Q = ((c : Chunk) × P (reply.Bytes c.offset c.bytes) × IsTooLong b c) ⊎ (2 ^ 64 - 1 ≤ length b.kept)

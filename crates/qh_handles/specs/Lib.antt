@@ -1,3 +1,4 @@
+pub mod Bufs
 pub mod Chains
 pub mod Contexts
 pub mod Kinds

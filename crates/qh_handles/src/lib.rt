@@ -22,6 +22,8 @@ pub use error::{
     ReadError, ReadExactError, ReadToEndError, ResetError, SendDatagramError, StoppedError,
     WriteError,
 };
-pub use recv_stream::{Read, ReadChunk, ReadExact, ReceivedReset, RecvStream};
-pub use send_stream::{SendStream, Stopped, Write, WriteAll};
+pub use recv_stream::{
+    Read, ReadChunk, ReadChunks, ReadExact, ReadToEnd, ReceivedReset, RecvStream,
+};
+pub use send_stream::{SendStream, Stopped, Write, WriteAll, WriteAllChunks, WriteChunks};
 pub use told::Told;

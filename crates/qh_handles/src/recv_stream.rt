@@ -1,19 +1,25 @@
-ghost use Rattle.std.specs.Prelude.{◌≡◌, ◌⊎◌, ◌<◌, ◌≤◌, ◌-◌, IfSome, MatchResult, true, false, length, ⊤};
+ghost use Rattle.std.specs.Prelude.{◌≡◌, ◌⊎◌, ◌<◌, ◌≤◌, ◌-◌, ◌++◌, ◌∷◌, ℕ, [], None, Some, IfErr, IfSome, MatchOption, MatchResult, OnOk, true, false, length, ⊤};
 ghost use Rattle.futures.specs.Poll.{OnPending};
 ghost use Rattle.futures.specs.Task.{IsArmed, Keeps};
 ghost use Rattle.qh_book.specs.declared.call.Call.TheVariants as call;
+ghost use Rattle.qh_book.specs.declared.reply.Reply.{Reply as AReply};
 ghost use Rattle.qh_book.specs.declared.reply.Reply.TheVariants as answer;
-ghost use Rattle.qh_handles.specs.Chains.{IsExactError, IsFilled};
+ghost use Rattle.qh_parts.specs.ReadToEndBuffer.{PlainBuffer as ABuffer, widened};
+ghost use Rattle.qh_handles.specs.declared.told.Told.{Told as AToldValue};
+ghost use Rattle.qh_handles.specs.Chains.{AreAll, EndsReads, IsExactError, IsFilled, IsGathered, IsKeepError, IsPlaced, IsReset, IsToEndError, buffer_or};
 ghost use Rattle.qh_handles.specs.Origins.{IsFrom, read_origin, reset_origin};
 ghost use Rattle.qh_handles.specs.Polls.{MatchAnswer};
 ghost use Rattle.qh_handles.specs.Streams.{IsReadInto, IsReadOrEnded, chunk_reply};
 
 use crate::ask::ask;
-use crate::{At, ReadError, ReadExactError, ResetError};
+use crate::{At, ReadError, ReadExactError, ReadToEndError, ResetError};
+use bytes::Bytes;
 use futures::task::{Context, Poll};
 use qh_base::{Memory, StreamId, VarInt};
 use qh_book::{Call, Reply};
 use qh_conn::{Chunk, ClosedStream};
+use qh_parts::{PushFault, ReadToEndBuffer};
+use std::alloc::Global;
 
 /// The receiving half of a stream (quinn, `RecvStream`). It is one of the handles that the connection's state counts. One that is dropped without `end` stays
 /// counted, so the connection isn't closed for want of handles, and the stream isn't stopped.
@@ -88,6 +94,30 @@ impl RecvStream {
             id: self.id,
             max_length,
             is_ordered: ordered,
+        }
+    }
+
+    /// Reads the next pieces into the front of a list that is lent: a call that waits for one, and takes what else came.
+    pub fn read_chunks<'a>(&mut self, bufs: &'a mut [Bytes]) -> ReadChunks<'a>
+        ensures same { self.new ≡ self.old }
+        ensures stream { result.id ≡ self.old.id }
+        ensures lent { result.bufs.ghost_name ≡ bufs.entry.ghost_name }
+        ensures chunks { result.bufs.now ≡ bufs.old }
+    {
+        ReadChunks { id: self.id, bufs }
+    }
+
+    /// Reads all of the stream, which may be so many bytes long: a call that waits for its end. Its reads are in no order.
+    pub fn read_to_end(&mut self, size_limit: usize) -> ReadToEnd
+        ensures same { self.new ≡ self.old }
+        ensures stream { result.id ≡ self.old.id }
+        ensures limit { result.size_limit ≡ size_limit }
+        ensures none { result.buffer ≡ None }
+    {
+        ReadToEnd {
+            id: self.id,
+            size_limit,
+            buffer: None,
         }
     }
 
@@ -331,6 +361,165 @@ impl ReadChunk {
         ensures kept { Keeps cx.old cx.new }
     {
         poll_chunk(self.id, at, self.max_length, self.is_ordered, cx)
+    }
+}
+
+/// Waits for pieces of a stream (quinn, `ReadChunks`).
+#[derive(Drop)]
+pub struct ReadChunks<'a> {
+    id: StreamId,
+    bufs: &'a mut [Bytes],
+}
+
+impl ReadChunks<'_> {
+    /// How many pieces were read into the front of the list. None at the end, and 0 if the list is empty. The first piece is waited for; then what came is
+    /// taken. If a later read gives none, what was read is answered, and the next call tells why; but a reset, which is told once, is answered at once.
+    pub fn poll<A: At>(
+        &mut self,
+        at: &mut A,
+        cx: &mut Context<'_>,
+    ) -> Poll<Result<Option<usize>, ReadError>>
+        ensures same { self.new.id ≡ self.old.id }
+        ensures lent { self.new.bufs.ghost_name ≡ self.old.bufs.ghost_name }
+        ensures value { (mid : A) × (count : ℕ) × IsPlaced A.acts self.old.id self.old.bufs.now at.old self.new.bufs.now mid count
+            × MatchAnswer result
+            (λ answered. MatchOption answered ((count ≡ 0) × A.acts mid (call.Read self.old.id usize.MAX true) answer.Ended at.new)
+                (λ n. (n ≡ count) × (((n ≡ length self.old.bufs.now) × (mid ≡ at.new))
+                    ⊎ ((0 < n) × (A.stays mid at.new ⊎ ((r : AReply (AToldValue A.HandshakeData)) × A.acts mid (call.Read self.old.id usize.MAX true) r at.new × EndsReads r))))))
+            (λ e. IsFrom (read_origin e) (λ r. A.acts mid (call.Read self.old.id usize.MAX true) r at.new × ((count ≡ 0) ⊎ IsReset e)) (A.stays mid at.new × (count ≡ 0)))
+            (A.acts mid (call.Read self.old.id usize.MAX true) answer.Pending at.new × (count ≡ 0)) }
+        ensures armed { OnPending result (IsArmed cx.new) }
+        ensures kept { Keeps cx.old cx.new }
+    {
+        let bufs = &mut *self.bufs;
+        read_each(self.id, at, bufs, cx)
+    }
+}
+
+// Reads pieces into the front of a list until there is none.
+fn read_each<A: At>(
+    id: StreamId,
+    at: &mut A,
+    bufs: &mut [Bytes],
+    cx: &mut Context<'_>,
+) -> Poll<Result<Option<usize>, ReadError>>
+    ensures value { (mid : A) × (count : ℕ) × IsPlaced A.acts id bufs.old at.old bufs.new mid count
+        × MatchAnswer result
+        (λ answered. MatchOption answered ((count ≡ 0) × A.acts mid (call.Read id usize.MAX true) answer.Ended at.new)
+            (λ n. (n ≡ count) × (((n ≡ length bufs.old) × (mid ≡ at.new))
+                ⊎ ((0 < n) × (A.stays mid at.new ⊎ ((r : AReply (AToldValue A.HandshakeData)) × A.acts mid (call.Read id usize.MAX true) r at.new × EndsReads r))))))
+        (λ e. IsFrom (read_origin e) (λ r. A.acts mid (call.Read id usize.MAX true) r at.new × ((count ≡ 0) ⊎ IsReset e)) (A.stays mid at.new × (count ≡ 0)))
+        (A.acts mid (call.Read id usize.MAX true) answer.Pending at.new × (count ≡ 0)) }
+    ensures armed { OnPending result (IsArmed cx.new) }
+    ensures kept { Keeps cx.old cx.new }
+{
+    let mut count = 0;
+    while count < bufs.len() {
+        match poll_chunk(id, at, usize::MAX, true, cx) {
+            Poll::Ready(Ok(Some(chunk))) => {
+                bufs[count] = chunk.bytes;
+                count += 1;
+            }
+            Poll::Ready(Err(ReadError::Reset(code))) => {
+                return Poll::Ready(Err(ReadError::Reset(code)));
+            }
+            _ if count > 0 => return Poll::Ready(Ok(Some(count))),
+            Poll::Ready(Ok(None)) => return Poll::Ready(Ok(None)),
+            Poll::Ready(Err(error)) => return Poll::Ready(Err(error)),
+            Poll::Pending => return Poll::Pending,
+        }
+    }
+    Poll::Ready(Ok(Some(count)))
+}
+
+/// Waits for all of a stream (quinn, `ReadToEnd`).
+#[derive(Drop)]
+pub struct ReadToEnd {
+    id: StreamId,
+    size_limit: usize,
+    // What was read; None before the first poll, and once it was answered.
+    buffer: Option<ReadToEndBuffer>,
+}
+
+impl ReadToEnd {
+    /// The bytes of the stream, from the least offset that wasn't read yet to its end; where a byte was read before, there is a 0. If it waits, what was
+    /// read is kept, and a further poll goes on. An error drops it. Want of memory may lose a piece that was read.
+    pub fn poll<A: At>(
+        &mut self,
+        at: &mut A,
+        alloc: Global,
+        cx: &mut Context<'_>,
+    ) -> Poll<Result<Vec<u8>, ReadToEndError>>
+        ensures same { (self.new.id ≡ self.old.id) × (self.new.size_limit ≡ self.old.size_limit) }
+        ensures value { (mid : A) × (b : ABuffer) × IsGathered A.acts self.old.id (buffer_or self.old.buffer self.old.size_limit) at.old b mid
+            × MatchAnswer result (λ bytes. A.acts mid (call.Read self.old.id usize.MAX false) answer.Ended at.new × AreAll b bytes.items)
+            (λ e. IsToEndError e b (λ r. A.acts mid (call.Read self.old.id usize.MAX false) r at.new) (A.stays mid at.new))
+            (A.acts mid (call.Read self.old.id usize.MAX false) answer.Pending at.new × (self.new.buffer ≡ Some b)) }
+        ensures armed { OnPending result (IsArmed cx.new) }
+        ensures kept { Keeps cx.old cx.new }
+    {
+        let mut buffer = match self.buffer.take() {
+            Some(buffer) => buffer,
+            None => ReadToEndBuffer::new(alloc, self.size_limit),
+        };
+        match gather(self.id, at, &mut buffer, cx) {
+            Poll::Ready(Ok(())) => match buffer.finish() {
+                Ok(bytes) => Poll::Ready(Ok(bytes)),
+                Err(Memory) => Poll::Ready(Err(ReadToEndError::Read(ReadError::Memory))),
+            },
+            Poll::Ready(Err(error)) => Poll::Ready(Err(error)),
+            Poll::Pending => {
+                self.buffer = Some(buffer);
+                Poll::Pending
+            }
+        }
+    }
+}
+
+// Reads pieces until the end.
+fn gather<A: At>(
+    id: StreamId,
+    at: &mut A,
+    buffer: &mut ReadToEndBuffer,
+    cx: &mut Context<'_>,
+) -> Poll<Result<(), ReadToEndError>>
+    ensures value { (mid : A) × (b : ABuffer) × IsGathered A.acts id buffer.old at.old b mid
+        × MatchAnswer result (λ _. A.acts mid (call.Read id usize.MAX false) answer.Ended at.new × (buffer.new ≡ b))
+        (λ e. IsToEndError e b (λ r. A.acts mid (call.Read id usize.MAX false) r at.new) (A.stays mid at.new))
+        (A.acts mid (call.Read id usize.MAX false) answer.Pending at.new × (buffer.new ≡ b)) }
+    ensures armed { OnPending result (IsArmed cx.new) }
+    ensures kept { Keeps cx.old cx.new }
+{
+    for _ in 0..u64::MAX {
+        match poll_chunk(id, at, usize::MAX, false, cx) {
+            Poll::Ready(Ok(Some(chunk))) => match keep(buffer, chunk) {
+                Ok(()) => {}
+                Err(error) => return Poll::Ready(Err(error)),
+            },
+            Poll::Ready(Ok(None)) => return Poll::Ready(Ok(())),
+            Poll::Ready(Err(error)) => return Poll::Ready(Err(ReadToEndError::Read(error))),
+            Poll::Pending => return Poll::Pending,
+        }
+    }
+    Poll::Ready(Err(ReadToEndError::TooLong))
+}
+
+// Keeps a piece, if what came isn't too long with it.
+fn keep(buffer: &mut ReadToEndBuffer, chunk: Chunk) -> Result<(), ReadToEndError>
+    ensures ok { OnOk result (buffer.new ≡ record {
+      kept = buffer.old.kept ++ chunk ∷ [];
+      extent = Some (widened buffer.old.extent chunk);
+      size_limit = buffer.old.size_limit;
+    }) }
+    ensures err { IfErr result (λ e. IsKeepError e buffer.old chunk) }
+{
+    if chunk.bytes.len() as u64 > u64::MAX - chunk.offset {
+        return Err(ReadToEndError::TooLong);
+    }
+    match buffer.push(chunk) {
+        Ok(()) => Ok(()),
+        Err(PushFault::TooLong) => Err(ReadToEndError::TooLong),
+        Err(PushFault::Memory) => Err(ReadToEndError::Read(ReadError::Memory)),
     }
 }
 

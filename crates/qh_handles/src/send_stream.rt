@@ -1,9 +1,10 @@
-ghost use Rattle.std.specs.Prelude.{◌≡◌, ◌⊎◌, ◌<◌, ◌≤◌, [], IfOk, MatchResult, drop, length};
+ghost use Rattle.std.specs.Prelude.{◌≡◌, ◌⊎◌, ◌<◌, ◌≤◌, [], ◌∷◌, IfOk, MatchResult, drop, length};
 ghost use Rattle.futures.specs.Poll.{IfReady, OnPending};
 ghost use Rattle.futures.specs.Task.{IsArmed, Keeps};
 ghost use Rattle.qh_book.specs.declared.call.Call.TheVariants as call;
 ghost use Rattle.qh_book.specs.declared.reply.Reply.TheVariants as answer;
-ghost use Rattle.qh_handles.specs.Chains.{IsWritten};
+ghost use Rattle.qh_handles.specs.Chains.{IsWritten, OfChunk, text_left};
+ghost use Rattle.qh_handles.specs.Bufs.{chunks_of};
 ghost use Rattle.qh_handles.specs.Origins.{IsFrom, stopped_origin, write_origin};
 ghost use Rattle.qh_handles.specs.Polls.{MatchAnswer};
 
@@ -69,6 +70,44 @@ impl SendStream {
             id: self.id,
             buf,
             written: 0,
+        }
+    }
+
+    /// Writes chunks that are lent, as many of their bytes as the limits permit: a call that waits until some are written.
+    pub fn write_chunks<'a>(&mut self, bufs: &'a mut [Bytes]) -> WriteChunks<'a>
+        ensures same { self.new ≡ self.old }
+        ensures stream { result.id ≡ self.old.id }
+        ensures lent { result.bufs.ghost_name ≡ bufs.entry.ghost_name }
+        ensures chunks { result.bufs.now ≡ bufs.old }
+    {
+        WriteChunks { id: self.id, bufs }
+    }
+
+    /// Writes all of a chunk: a call that waits until all of it is written.
+    pub fn write_chunk(&mut self, payload: Bytes) -> WriteAllChunks<'static>
+        ensures same { self.new ≡ self.old }
+        ensures stream { result.id ≡ self.old.id }
+        ensures none { result.done ≡ 0 }
+        ensures chunk { chunks_of result.bufs ≡ payload ∷ [] }
+    {
+        WriteAllChunks {
+            id: self.id,
+            bufs: Bufs::Own([payload]),
+            done: 0,
+        }
+    }
+
+    /// Writes all of chunks that are lent: a call that waits until all are written.
+    pub fn write_all_chunks<'a>(&mut self, bufs: &'a mut [Bytes]) -> WriteAllChunks<'a>
+        ensures same { self.new ≡ self.old }
+        ensures stream { result.id ≡ self.old.id }
+        ensures none { result.done ≡ 0 }
+        ensures chunks { chunks_of result.bufs ≡ bufs.old }
+    {
+        WriteAllChunks {
+            id: self.id,
+            bufs: Bufs::Lent(bufs),
+            done: 0,
         }
     }
 
@@ -284,6 +323,106 @@ fn write_rest<A: At>(
     while *written < buf.len() {
         match write_from(id, at, alloc, &buf[*written..], cx) {
             Poll::Ready(Ok(count)) => *written += count,
+            Poll::Ready(Err(error)) => return Poll::Ready(Err(error)),
+            Poll::Pending => return Poll::Pending,
+        }
+    }
+    Poll::Ready(Ok(()))
+}
+
+// Writes the front of a chunk, as much as the limits permit, and leaves the rest of it.
+fn write_front<A: At>(
+    id: StreamId,
+    at: &mut A,
+    chunk: &mut Bytes,
+    cx: &mut Context<'_>,
+) -> Poll<Result<usize, WriteError>>
+    ensures value { MatchAnswer result (λ count. A.acts at.old (call.Write id chunk.old) (answer.Count count) at.new)
+        (λ e. IsFrom (write_origin e) (λ r. A.acts at.old (call.Write id chunk.old) r at.new) (A.stays at.old at.new))
+        (A.acts at.old (call.Write id chunk.old) answer.Pending at.new) }
+    ensures left { MatchAnswer result (λ count. chunk.new ≡ drop count chunk.old) (λ _. chunk.new ≡ chunk.old) (chunk.new ≡ chunk.old) }
+    ensures counts { IfReady result (λ r. IfOk r (λ n. (n ≤ length chunk.old) × ((chunk.old ≡ []) ⊎ (0 < n)))) }
+    ensures armed { OnPending result (IsArmed cx.new) }
+    ensures kept { Keeps cx.old cx.new }
+{
+    let Ok(payload) = chunk.clone() else {
+        return Poll::Ready(Err(WriteError::Memory));
+    };
+    match write_bytes(id, at, payload, cx) {
+        Poll::Ready(Ok(count)) => {
+            chunk.advance(count);
+            Poll::Ready(Ok(count))
+        }
+        Poll::Ready(Err(error)) => Poll::Ready(Err(error)),
+        Poll::Pending => Poll::Pending,
+    }
+}
+
+/// Waits until bytes of chunks are written (quinn: the future of `SendStream::write_chunks`).
+#[derive(Drop)]
+pub struct WriteChunks<'a> {
+    id: StreamId,
+    bufs: &'a mut [Bytes],
+}
+
+// The chunks of a call: its own, or those that are lent to it.
+#[derive(Drop)]
+pub enum Bufs<'a> {
+    Own([Bytes; 1]),
+    Lent(&'a mut [Bytes]),
+}
+
+/// Waits until chunks are written whole (quinn: the futures of `SendStream::write_chunk` and `write_all_chunks`).
+#[derive(Drop)]
+pub struct WriteAllChunks<'a> {
+    id: StreamId,
+    bufs: Bufs<'a>,
+    // How many chunks are written whole.
+    done: usize,
+}
+
+impl WriteAllChunks<'_> {
+    /// Done once all chunks are written; they are empty then. If it waits, some may be written, and a further poll goes on behind them.
+    pub fn poll<A: At>(&mut self, at: &mut A, cx: &mut Context<'_>) -> Poll<Result<(), WriteError>>
+        ensures same { self.new.id ≡ self.old.id }
+        ensures value { (mid : A) × IsWritten A.acts self.old.id (text_left (chunks_of self.old.bufs) self.old.done) at.old (text_left (chunks_of self.new.bufs) self.new.done) mid
+            × MatchAnswer result (λ _. (length (chunks_of self.old.bufs) ≤ self.new.done) × (mid ≡ at.new))
+            (λ e. IsFrom (write_origin e) (λ r. OfChunk (chunks_of self.new.bufs) self.new.done (λ chunk. A.acts mid (call.Write self.old.id chunk) r at.new)) (A.stays mid at.new))
+            (OfChunk (chunks_of self.new.bufs) self.new.done (λ chunk. A.acts mid (call.Write self.old.id chunk) answer.Pending at.new)) }
+        ensures armed { OnPending result (IsArmed cx.new) }
+        ensures kept { Keeps cx.old cx.new }
+    {
+        let done = &mut self.done;
+        match &mut self.bufs {
+            Bufs::Own(bufs) => write_each(self.id, at, bufs, done, cx),
+            Bufs::Lent(bufs) => write_each(self.id, at, bufs, done, cx),
+        }
+    }
+}
+
+// Writes chunks whole, one after another, behind those that are.
+fn write_each<A: At>(
+    id: StreamId,
+    at: &mut A,
+    bufs: &mut [Bytes],
+    done: &mut usize,
+    cx: &mut Context<'_>,
+) -> Poll<Result<(), WriteError>>
+    ensures value { (mid : A) × IsWritten A.acts id (text_left bufs.old done.old) at.old (text_left bufs.new done.new) mid
+        × MatchAnswer result (λ _. (length bufs.old ≤ done.new) × (mid ≡ at.new))
+        (λ e. IsFrom (write_origin e) (λ r. OfChunk bufs.new done.new (λ chunk. A.acts mid (call.Write id chunk) r at.new)) (A.stays mid at.new))
+        (OfChunk bufs.new done.new (λ chunk. A.acts mid (call.Write id chunk) answer.Pending at.new)) }
+    ensures armed { OnPending result (IsArmed cx.new) }
+    ensures kept { Keeps cx.old cx.new }
+{
+    while *done < bufs.len() {
+        let chunk = &mut bufs[*done];
+        match write_front(id, at, chunk, cx) {
+            Poll::Ready(Ok(_)) => {
+                if bufs[*done].is_empty() {
+                    *done += 1;
+                }
+            }
             Poll::Ready(Err(error)) => return Poll::Ready(Err(error)),
             Poll::Pending => return Poll::Pending,
         }
