@@ -1,15 +1,26 @@
 -- Chains of calls grow by a call at their end.
-use Rattle.std.proofs.Common.{◌≡◌, ℕ, ◌+◌, ◌-◌, ◌<◌, ◌≤◌, true, List, [], ◌∷◌, ◌++◌, length, take, drop, refl, sym, ap, ◌∙◌, subst, append_assoc, append-nil, add_assoc, arith, length-append, drop_of_length-le}
-use Rattle.std.proofs.lemmas.List.{drop-drop, drop_at, take_at, take_all, length-drop, length-take-le, take-append-drop}
+use Rattle.std.proofs.Common.{◌≡◌, ℕ, ◌+◌, ◌-◌, ◌<◌, ◌≤◌, true, false, ◌^◌, List, [], ◌∷◌, ◌++◌, length, take, drop, refl, sym, ap, ◌∙◌, subst, append_assoc, append-nil, add_assoc, map, Option, Some, inl, inr, zero, suc, add-one, arith, length-append, drop_of_length-le}
+use Rattle.std.specs.List.{concat, slice_get}
+use Rattle.std.proofs.Math.Seq.{drop-cons}
+use Rattle.std.proofs.lemmas.Option.{slice_get-get_or}
+use Rattle.std.proofs.Math.ListN.{set, get_or}
+use Rattle.std.proofs.lemmas.List.{drop-drop, drop_at, take_at, take_all, set_at, set-get_or, length-set, get_or-set_same, drop-set, drop-set-lt, drop-append-le, length-drop, length-take-le, take-append-drop}
 use borrow.Rule.Slice.PartMut.{mid_of, post_of, put_mid}
-use Rattle.std.specs.Prelude.{Some}
 use Rattle.qh_handles.specs.Streams.{IsReadInto}
 use Rattle.qh_base.specs.declared.stream_id.StreamId.{StreamId}
 use Rattle.qh_book.specs.declared.call.Call.{Call}
 use Rattle.qh_book.specs.declared.call.Call.TheVariants as call
 use Rattle.qh_book.specs.declared.reply.Reply.{Reply}
 use Rattle.qh_book.specs.declared.reply.Reply.TheVariants as reply
-use Rattle.qh_handles.specs.Chains.{Acts, bytes_of, IsBytes, AreReads, all_bytes, IsFilled, count_of, IsWrite, AreWrites, all_counts, IsWritten}
+use Rattle.qh_buffers.specs.declared.assembler.Chunk.{Chunk}
+use Rattle.qh_parts.specs.ReadToEndBuffer.{PlainBuffer, widened}
+use Rattle.qh_parts.specs.declared.read_to_end.Extent.{Extent}
+use Rattle.qh_handles.specs.declared.error.ReadError.TheVariants as read
+use Rattle.qh_handles.specs.declared.error.ReadToEndError.{ReadToEndError}
+use Rattle.qh_handles.specs.declared.error.ReadToEndError.TheVariants as to_end
+use Rattle.qh_handles.specs.Origins.{Origin, replied, wanting, nowhere, IsFrom, write_origin}
+use Rattle.qh_handles.specs.declared.error.WriteError.{WriteError}
+use Rattle.qh_handles.specs.Chains.{OfChunk, IsGathered, IsPlaced, text_left, IsKeepError, IsToEndError, piece_read, widened_all, Acts, bytes_of, IsBytes, AreReads, all_bytes, IsFilled, count_of, IsWrite, AreWrites, all_counts, IsWritten}
 
 pub Acts-more : {S C R : Type 0} (acts : S → C → R → S → Type 0) (s m t : S) (es : List (C × R)) (e : C × R) → Acts acts s es m → acts m e.0 e.1 t → Acts acts s (es ++ e ∷ []) t
 Acts-more acts s m t [] e made last = (t, subst (λ x. acts x e.0 e.1 t) (sym made) last, refl)
@@ -115,3 +126,142 @@ module _ {S T : Type 0} (acts : S → Call → Reply T → S → Type 0) (id : S
       IsFilled-more old filled s buf f m (put_mid f (length buf - f) buf part) n (length (mid_of f (length buf - f) buf)) read.0 read.1 t was (subst (λ (k : ℕ). f < k) same short)
         (ap (λ (l : List ℕ). length l) mid ∙ length-drop f buf ∙ ap (λ (k : ℕ). k - f) same) read.2 read.3
         (ap (λ (l : List ℕ). take f buf ++ (part ++ l)) none ∙ ap (λ (l : List ℕ). take f buf ++ l) (append-nil part ∙ read.4 ∙ ap (λ (l : List ℕ). read.1 ++ drop n l) mid))
+
+-- ---- all of a stream
+
+widened-more : (extent : Option Extent) (cs : List Chunk) (c : Chunk) → widened_all extent (cs ++ c ∷ []) ≡ Some (widened (widened_all extent cs) c)
+widened-more extent [] c = refl
+widened-more extent (d ∷ cs) c = widened-more (Some (widened extent d)) cs c
+
+map-more : {A B : Type 0} (f : A → B) (xs : List A) (x : A) → map f (xs ++ x ∷ []) ≡ map f xs ++ f x ∷ []
+map-more f [] x = refl
+map-more f (y ∷ ys) x = ap (λ l. f y ∷ l) (map-more f ys x)
+
+-- one more piece was read, and is kept
+pub IsGathered-more : {S T : Type 0} (acts : S → Call → Reply T → S → Type 0) (id : StreamId) (old : PlainBuffer) (s : S) (b : PlainBuffer) (m : S) (c : Chunk) (new : PlainBuffer) (t : S) →
+    IsGathered acts id old s b m → acts m (call.Read id (2 ^ 64 - 1) false) (reply.Bytes c.offset c.bytes) t →
+    new ≡ record { kept = b.kept ++ c ∷ []; extent = Some (widened b.extent c); size_limit = b.size_limit } → IsGathered acts id old s new t
+IsGathered-more {S} {T} acts id old s b m c new t was this grown =
+    let made : Acts acts s (map (piece_read {T = T} id false) was.pieces ++ piece_read id false c ∷ []) t =
+      Acts-more acts s m t (map (piece_read id false) was.pieces) (piece_read id false c) was.made this in
+    record {
+      pieces = was.pieces ++ c ∷ [];
+      made = subst (λ es. Acts acts s es t) (sym (map-more (piece_read id false) was.pieces c)) made;
+      kept = grown
+        ∙ ap (λ (p : PlainBuffer). let q : PlainBuffer = record { kept = p.kept ++ c ∷ []; extent = Some (widened p.extent c); size_limit = p.size_limit } in q) was.kept
+        ∙ ap (λ (l : List Chunk). let q : PlainBuffer = record { kept = l; extent = Some (widened (widened_all old.extent was.pieces) c); size_limit = old.size_limit } in q) (append_assoc old.kept was.pieces (c ∷ []))
+        ∙ ap (λ (x : Option Extent). let q : PlainBuffer = record { kept = old.kept ++ (was.pieces ++ c ∷ []); extent = x; size_limit = old.size_limit } in q) (sym (widened-more old.extent was.pieces c));
+    }
+
+pub IsGathered-none : {S T : Type 0} (acts : S → Call → Reply T → S → Type 0) (id : StreamId) (old : PlainBuffer) (s : S) → IsGathered acts id old s old s
+IsGathered-none acts id old s = record {
+  pieces = [];
+  made = refl;
+  kept = ap (λ (l : List Chunk). let q : PlainBuffer = record { kept = l; extent = old.extent; size_limit = old.size_limit } in q) (sym (append-nil old.kept));
+}
+
+-- a piece that isn't kept
+pub keep_failed : {T : Type 0} (e : ReadToEndError) (b : PlainBuffer) (c : Chunk) (P : Reply T → Type 0) (Q : Type 0) → IsKeepError e b c → P (reply.Bytes c.offset c.bytes) → IsToEndError e b P Q
+keep_failed to_end.TooLong b c P Q long this = inl (c, this, long)
+keep_failed (to_end.Read read.Memory) b c P Q memory this = inr (inr (c, this))
+keep_failed (to_end.Read (read.Reset code)) b c P Q never this = absurd never
+keep_failed (to_end.Read (read.ConnectionLost e)) b c P Q never this = absurd never
+keep_failed (to_end.Read read.ClosedStream) b c P Q never this = absurd never
+keep_failed (to_end.Read read.IllegalOrderedRead) b c P Q never this = absurd never
+keep_failed (to_end.Read read.ZeroRttRejected) b c P Q never this = absurd never
+
+-- ---- chunks
+
+drop_next : {A : Type 0} (l : List A) (j : ℕ) (d : A) → j < length l → drop j l ≡ get_or l j d ∷ drop (j + 1) l
+drop_next l j d short = drop-cons l j d short ∙ ap (λ (k : ℕ). get_or l j d ∷ drop k l) (sym (add-one j))
+
+chunks_are : (bufs : List (List ℕ)) (i : ℕ) (d : List ℕ) → i < length bufs → drop i bufs ≡ get_or bufs i d ∷ drop (i + 1) bufs
+chunks_are bufs i d short = drop_next bufs i d short
+
+-- setting what is there changes nothing
+pub set_same : (bufs : List (List ℕ)) (i : ℕ) (d y : List ℕ) → y ≡ get_or bufs i d → set bufs i y ≡ bufs
+set_same bufs i d y same = ap (λ (z : List ℕ). set bufs i z) same ∙ set-get_or bufs i d
+
+map_length : {A B : Type 0} (f : A → B) (xs : List A) → length (map f xs) ≡ length xs
+map_length f [] = refl
+map_length f (x ∷ xs) = ap (λ (k : ℕ). suc k) (map_length f xs)
+
+pub IsFrom-map : {T : Type 0} (o : Origin T) (P R : Reply T → Type 0) (Q U : Type 0) → ((r : Reply T) → P r → R r) → (Q → U) → IsFrom o P Q → IsFrom o R U
+IsFrom-map (replied r) P R Q U on_reply on_want h = on_reply r h
+IsFrom-map wanting P R Q U on_reply on_want h = on_want h
+IsFrom-map nowhere P R Q U on_reply on_want h = h
+
+-- an empty chunk has no text
+text_passed : (bufs : List (List ℕ)) (i : ℕ) (y : List ℕ) → i < length bufs → y ≡ [] → text_left (set bufs i y) i ≡ text_left (set bufs i y) (i + 1)
+text_passed bufs i y short none =
+    ap (λ (l : List (List ℕ)). concat l) (drop-set bufs i y short) ∙ ap (λ (l : List ℕ). l ++ concat (drop (i + 1) bufs)) none
+    ∙ sym (ap (λ (l : List (List ℕ)). concat l) (drop-set-lt (i + 1) bufs i y (omega arith)))
+
+-- a chunk that is set is there
+pub set_is_there : (bufs : List (List ℕ)) (i : ℕ) (y : List ℕ) → i < length bufs → slice_get (set bufs i y) i ≡ Some y
+set_is_there bufs i y short =
+    slice_get-get_or (set bufs i y) i y (subst (λ (k : ℕ). i < k) (sym (length-set bufs i y)) short) ∙ ap (λ (z : List ℕ). let o : Option (List ℕ) = Some z in o) (get_or-set_same bufs i y y short)
+
+-- how long the text is that is left: behind a chunk, and behind one that was set
+pub text_length : (bufs : List (List ℕ)) (i : ℕ) (d : List ℕ) → i < length bufs → length (text_left bufs i) ≡ length (get_or bufs i d) + length (concat (drop (i + 1) bufs))
+text_length bufs i d short = ap (λ (l : List (List ℕ)). length (concat l)) (chunks_are bufs i d short) ∙ length-append (get_or bufs i d) (concat (drop (i + 1) bufs))
+
+pub text_length-set : (bufs : List (List ℕ)) (i : ℕ) (y : List ℕ) → i < length bufs → length (text_left (set bufs i y) i) ≡ length y + length (concat (drop (i + 1) bufs))
+text_length-set bufs i y short = ap (λ (l : List (List ℕ)). length (concat l)) (drop-set bufs i y short) ∙ length-append y (concat (drop (i + 1) bufs))
+
+pub text_length-passed : (bufs : List (List ℕ)) (i : ℕ) (y : List ℕ) → length (text_left (set bufs i y) (i + 1)) ≡ length (concat (drop (i + 1) bufs))
+text_length-passed bufs i y = ap (λ (l : List (List ℕ)). length (concat l)) (drop-set-lt (i + 1) bufs i y (omega arith))
+
+module _ {S T : Type 0} (acts : S → Call → Reply T → S → Type 0) (id : StreamId) where
+  -- the front of a chunk was written, and the rest of it is left
+  pub chunk_written : (text : List ℕ) (s m t : S) (bufs : List (List ℕ)) (i n : ℕ) (d y : List ℕ) →
+      IsWritten acts id text s (text_left bufs i) m → i < length bufs → n ≤ length (get_or bufs i d) → acts m (call.Write id (get_or bufs i d)) (reply.Count n) t → y ≡ drop n (get_or bufs i d) →
+      IsWritten acts id text s (text_left (set bufs i y) i) t
+  chunk_written text s m t bufs i n d y was short few this left =
+      let x : List ℕ = get_or bufs i d in
+      let rest : List ℕ = concat (drop (i + 1) bufs) in
+      let front : text_left bufs i ≡ x ++ rest = ap (λ (l : List (List ℕ)). concat l) (chunks_are bufs i d short) in
+      let behind : drop n (text_left bufs i) ≡ text_left (set bufs i y) i =
+        ap (λ (l : List ℕ). drop n l) front ∙ drop-append-le n x rest few ∙ ap (λ (l : List ℕ). l ++ rest) (sym left) ∙ sym (ap (λ (l : List (List ℕ)). concat l) (drop-set bufs i y short)) in
+      subst (λ (l : List ℕ). IsWritten acts id text s l t) behind (IsWritten-more acts id text s m t (text_left bufs i) x rest n was front few this)
+
+  -- a chunk that is left as it was: the call with it was made, and replied so
+  pub chunk_kept : (text : List ℕ) (s m t : S) (bufs : List (List ℕ)) (i : ℕ) (d y : List ℕ) (r : Reply T) →
+      IsWritten acts id text s (text_left bufs i) m → i < length bufs → acts m (call.Write id (get_or bufs i d)) r t → y ≡ get_or bufs i d →
+      (x : S) × IsWritten acts id text s (text_left (set bufs i y) i) x × OfChunk (set bufs i y) i (λ chunk. acts x (call.Write id chunk) r t)
+  chunk_kept text s m t bufs i d y r was short this same =
+      (m, subst (λ (l : List (List ℕ)). IsWritten acts id text s (text_left l i) m) (sym (set_same bufs i d y same)) was,
+       (y, set_is_there bufs i y short, subst (λ (l : List ℕ). acts m (call.Write id l) r t) (sym same) this))
+
+  pub chunk_failed : (stays : S → S → Type 0) (e : WriteError) (text : List ℕ) (s m t : S) (bufs : List (List ℕ)) (i : ℕ) (d y : List ℕ) →
+      IsWritten acts id text s (text_left bufs i) m → i < length bufs → IsFrom (write_origin e) (λ (r : Reply T). acts m (call.Write id (get_or bufs i d)) r t) (stays m t) → y ≡ get_or bufs i d →
+      (x : S) × IsWritten acts id text s (text_left (set bufs i y) i) x × IsFrom (write_origin e) (λ (r : Reply T). OfChunk (set bufs i y) i (λ chunk. acts x (call.Write id chunk) r t)) (stays x t)
+  chunk_failed stays e text s m t bufs i d y was short this same =
+      (m, subst (λ (l : List (List ℕ)). IsWritten acts id text s (text_left l i) m) (sym (set_same bufs i d y same)) was,
+       IsFrom-map (write_origin e) (λ (r : Reply T). acts m (call.Write id (get_or bufs i d)) r t) (λ (r : Reply T). OfChunk (set bufs i y) i (λ chunk. acts m (call.Write id chunk) r t)) (stays m t) (stays m t)
+         (λ r made. (y, set_is_there bufs i y short, subst (λ (l : List ℕ). acts m (call.Write id l) r t) (sym same) made)) (λ q. q) this)
+
+  -- a chunk of which nothing is left is behind what is done
+  pub chunk_done : (text : List ℕ) (s t : S) (bufs : List (List ℕ)) (i : ℕ) (y : List ℕ) → i < length bufs → y ≡ [] →
+      IsWritten acts id text s (text_left (set bufs i y) i) t → IsWritten acts id text s (text_left (set bufs i y) (i + 1)) t
+  chunk_done text s t bufs i y short none was = subst (λ (l : List ℕ). IsWritten acts id text s l t) (text_passed bufs i y short none) was
+
+  -- one more piece is placed
+  pub IsPlaced-more : (old : List (List ℕ)) (s : S) (bufs : List (List ℕ)) (m : S) (count : ℕ) (c : Chunk) (t : S) →
+      IsPlaced acts id old s bufs m count → count < length bufs → length bufs ≡ length old → acts m (call.Read id (2 ^ 64 - 1) true) (reply.Bytes c.offset c.bytes) t →
+      IsPlaced acts id old s (set bufs count c.bytes) t (count + 1)
+  IsPlaced-more old s bufs m count c t was short same this =
+      let front : List (List ℕ) = map (λ (d : Chunk). d.bytes) was.pieces in
+      let sized : length front ≡ count = map_length (λ (d : Chunk). d.bytes) was.pieces ∙ sym was.counted in
+      let next : drop count old ≡ get_or old count [] ∷ drop (count + 1) old = drop_next old count [] (subst (λ (k : ℕ). count < k) same short) in
+      let made : Acts acts s (map (piece_read {T = T} id true) was.pieces ++ piece_read id true c ∷ []) t =
+        Acts-more acts s m t (map (piece_read id true) was.pieces) (piece_read id true c) was.made this in
+      record {
+        pieces = was.pieces ++ c ∷ [];
+        made = subst (λ es. Acts acts s es t) (sym (map-more (piece_read id true) was.pieces c)) made;
+        counted = ap (λ (k : ℕ). k + 1) was.counted ∙ sym (length-append was.pieces (c ∷ []));
+        placed = ap (λ (l : List (List ℕ)). set l count c.bytes) (was.placed ∙ ap (λ (l : List (List ℕ)). front ++ l) next)
+          ∙ set_at front (get_or old count []) (drop (count + 1) old) c.bytes count sized
+          ∙ sym (append_assoc front (c.bytes ∷ []) (drop (count + 1) old))
+          ∙ ap (λ (l : List (List ℕ)). l ++ drop (count + 1) old) (sym (map-more (λ (d : Chunk). d.bytes) was.pieces c));
+      }

@@ -103,9 +103,9 @@ pub record IsPlaced {S T : Type 0} (acts : S → Call → Reply T → S → Type
   pub counted : count ≡ length pieces
   pub placed : new ≡ map (λ (c : Chunk). c.bytes) pieces ++ drop count old
 
-abbrev pub IsReset : ReadError → Type 0
-IsReset (read.Reset code) = Unit {0}
-IsReset other = ⊥
+abbrev pub is_reset : ReadError → Bool
+is_reset (read.Reset code) = true
+is_reset other = false
 
 -- a reply that ends reads behind some that gave bytes; a reset doesn't, since it is told once
 abbrev pub EndsReads : {T : Type 0} → Reply T → Type 0

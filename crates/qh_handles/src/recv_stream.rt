@@ -6,7 +6,7 @@ ghost use Rattle.qh_book.specs.declared.reply.Reply.{Reply as AReply};
 ghost use Rattle.qh_book.specs.declared.reply.Reply.TheVariants as answer;
 ghost use Rattle.qh_parts.specs.ReadToEndBuffer.{PlainBuffer as ABuffer, widened};
 ghost use Rattle.qh_handles.specs.declared.told.Told.{Told as AToldValue};
-ghost use Rattle.qh_handles.specs.Chains.{AreAll, EndsReads, IsExactError, IsFilled, IsGathered, IsKeepError, IsPlaced, IsReset, IsToEndError, buffer_or};
+ghost use Rattle.qh_handles.specs.Chains.{AreAll, EndsReads, IsExactError, IsFilled, IsGathered, IsKeepError, IsPlaced, IsToEndError, buffer_or, is_reset};
 ghost use Rattle.qh_handles.specs.Origins.{IsFrom, read_origin, reset_origin};
 ghost use Rattle.qh_handles.specs.Polls.{MatchAnswer};
 ghost use Rattle.qh_handles.specs.Streams.{IsReadInto, IsReadOrEnded, chunk_reply};
@@ -386,7 +386,7 @@ impl ReadChunks<'_> {
             (λ answered. MatchOption answered ((count ≡ 0) × A.acts mid (call.Read self.old.id usize.MAX true) answer.Ended at.new)
                 (λ n. (n ≡ count) × (((n ≡ length self.old.bufs.now) × (mid ≡ at.new))
                     ⊎ ((0 < n) × (A.stays mid at.new ⊎ ((r : AReply (AToldValue A.HandshakeData)) × A.acts mid (call.Read self.old.id usize.MAX true) r at.new × EndsReads r))))))
-            (λ e. IsFrom (read_origin e) (λ r. A.acts mid (call.Read self.old.id usize.MAX true) r at.new × ((count ≡ 0) ⊎ IsReset e)) (A.stays mid at.new × (count ≡ 0)))
+            (λ e. IsFrom (read_origin e) (λ r. A.acts mid (call.Read self.old.id usize.MAX true) r at.new × ((count ≡ 0) ⊎ (is_reset e ≡ true))) (A.stays mid at.new × (count ≡ 0)))
             (A.acts mid (call.Read self.old.id usize.MAX true) answer.Pending at.new × (count ≡ 0)) }
         ensures armed { OnPending result (IsArmed cx.new) }
         ensures kept { Keeps cx.old cx.new }
@@ -408,7 +408,7 @@ fn read_each<A: At>(
         (λ answered. MatchOption answered ((count ≡ 0) × A.acts mid (call.Read id usize.MAX true) answer.Ended at.new)
             (λ n. (n ≡ count) × (((n ≡ length bufs.old) × (mid ≡ at.new))
                 ⊎ ((0 < n) × (A.stays mid at.new ⊎ ((r : AReply (AToldValue A.HandshakeData)) × A.acts mid (call.Read id usize.MAX true) r at.new × EndsReads r))))))
-        (λ e. IsFrom (read_origin e) (λ r. A.acts mid (call.Read id usize.MAX true) r at.new × ((count ≡ 0) ⊎ IsReset e)) (A.stays mid at.new × (count ≡ 0)))
+        (λ e. IsFrom (read_origin e) (λ r. A.acts mid (call.Read id usize.MAX true) r at.new × ((count ≡ 0) ⊎ (is_reset e ≡ true))) (A.stays mid at.new × (count ≡ 0)))
         (A.acts mid (call.Read id usize.MAX true) answer.Pending at.new × (count ≡ 0)) }
     ensures armed { OnPending result (IsArmed cx.new) }
     ensures kept { Keeps cx.old cx.new }
@@ -420,16 +420,24 @@ fn read_each<A: At>(
                 bufs[count] = chunk.bytes;
                 count += 1;
             }
-            Poll::Ready(Err(ReadError::Reset(code))) => {
-                return Poll::Ready(Err(ReadError::Reset(code)));
-            }
-            _ if count > 0 => return Poll::Ready(Ok(Some(count))),
-            Poll::Ready(Ok(None)) => return Poll::Ready(Ok(None)),
-            Poll::Ready(Err(error)) => return Poll::Ready(Err(error)),
-            Poll::Pending => return Poll::Pending,
+            Poll::Ready(Err(error)) => return Poll::Ready(after_error(count, error)),
+            Poll::Ready(Ok(None)) if count == 0 => return Poll::Ready(Ok(None)),
+            Poll::Pending if count == 0 => return Poll::Pending,
+            _ => return Poll::Ready(Ok(Some(count))),
         }
     }
     Poll::Ready(Ok(Some(count)))
+}
+
+// What is answered if a read fails behind so many that gave pieces.
+fn after_error(count: usize, error: ReadError) -> Result<Option<usize>, ReadError>
+    ensures { MatchResult result (λ answered. (answered ≡ Some count) × (0 < count) × (is_reset error ≡ false)) (λ e. (e ≡ error) × ((count ≡ 0) ⊎ (is_reset error ≡ true))) }
+{
+    if count == 0 || matches!(error, ReadError::Reset(_)) {
+        Err(error)
+    } else {
+        Ok(Some(count))
+    }
 }
 
 /// Waits for all of a stream (quinn, `ReadToEnd`).
