@@ -2,9 +2,11 @@
 use Rattle.std.proofs.Common.{◌≡◌, ℕ, ◌+◌, ◌-◌, ◌<◌, ◌≤◌, true, false, ◌^◌, List, [], ◌∷◌, ◌++◌, length, take, drop, refl, sym, ap, ◌∙◌, subst, append_assoc, append-nil, add_assoc, map, Option, Some, inl, inr, zero, suc, add-one, arith, length-append, drop_of_length-le}
 use Rattle.std.specs.List.{concat, slice_get}
 use Rattle.std.proofs.Math.Seq.{drop-cons}
+use Rattle.std.proofs.lemmas.Bool.{eqb-true}
 use Rattle.std.proofs.lemmas.Option.{slice_get-get_or}
+use Rattle.std.specs.Prelude.{◌==◌}
 use Rattle.std.proofs.Math.ListN.{set, get_or}
-use Rattle.std.proofs.lemmas.List.{drop-drop, drop_at, take_at, take_all, set_at, set-get_or, length-set, get_or-set_same, drop-set, drop-set-lt, drop-append-le, length-drop, length-take-le, take-append-drop}
+use Rattle.std.proofs.lemmas.List.{drop-drop, drop_at, take_at, take_all, set_at, set-get_or, length-set, get_or-set_same, nil_from_length, drop-set, drop-set-lt, drop-append-le, length-drop, length-take-le, take-append-drop}
 use borrow.Rule.Slice.PartMut.{mid_of, post_of, put_mid}
 use Rattle.qh_handles.specs.Streams.{IsReadInto}
 use Rattle.qh_base.specs.declared.stream_id.StreamId.{StreamId}
@@ -181,6 +183,11 @@ chunks_are bufs i d short = drop_next bufs i d short
 -- setting what is there changes nothing
 pub set_same : (bufs : List (List ℕ)) (i : ℕ) (d y : List ℕ) → y ≡ get_or bufs i d → set bufs i y ≡ bufs
 set_same bufs i d y same = ap (λ (z : List ℕ). set bufs i z) same ∙ set-get_or bufs i d
+
+-- a chunk that was found empty
+pub empty_is : (bufs : List (List ℕ)) (i : ℕ) (d y : List ℕ) → i < length bufs → true ≡ (length (get_or (set bufs i y) i d) == 0) → y ≡ []
+empty_is bufs i d y short e =
+    nil_from_length y (ap (λ (l : List ℕ). length l) (sym (get_or-set_same bufs i y d short)) ∙ eqb-true (length (get_or (set bufs i y) i d)) 0 (sym e))
 
 map_length : {A B : Type 0} (f : A → B) (xs : List A) → length (map f xs) ≡ length xs
 map_length f [] = refl

@@ -124,6 +124,21 @@ EndsWrites (reply.ConnectionLost e) = Unit {0}
 EndsWrites reply.ClosedStream = Unit {0}
 EndsWrites other = ⊥
 
+-- Why no more is written: all chunks are; the last write took less than its chunk, or as much as can be counted; or one behind others wrote nothing.
+abbrev pub StopsWriting : {S T : Type 0} → (S → Call → Reply T → S → Type 0) → (S → S → Type 0) → StreamId → List (List ℕ) → (chunks : ℕ) → S → S → Type 0
+StopsWriting {S} {T} acts stays id bufs chunks mid t =
+    ((chunks ≡ length bufs) × (mid ≡ t))
+    ⊎ ((OfChunk bufs chunks (λ chunk. 0 < length chunk) × (mid ≡ t))
+    ⊎ ((0 < chunks) × (stays mid t ⊎ ((r : Reply T) × OfChunk bufs chunks (λ chunk. acts mid (call.Write id chunk) r t) × EndsWrites r))))
+
+-- So many chunks were written whole, and are empty now, and so many bytes altogether.
+pub record IsPartly {S T : Type 0} (acts : S → Call → Reply T → S → Type 0) (stays : S → S → Type 0) (id : StreamId) (old : List (List ℕ)) (s : S) (new : List (List ℕ)) (t : S) (bytes chunks : ℕ) : Type 0 where
+  pub mid : S
+  pub written : IsWritten acts id (concat old) s (text_left new chunks) mid
+  pub emptied : concat (take chunks new) ≡ []
+  pub counted : length (concat old) ≡ bytes + length (text_left new chunks)
+  pub stopped : StopsWriting acts stays id new chunks mid t
+
 -- ---- all of a stream
 
 abbrev pub widened_all : Option Extent → List Chunk → Option Extent

@@ -3,7 +3,7 @@ ghost use Rattle.futures.specs.Poll.{IfReady, OnPending};
 ghost use Rattle.futures.specs.Task.{IsArmed, Keeps};
 ghost use Rattle.qh_book.specs.declared.call.Call.TheVariants as call;
 ghost use Rattle.qh_book.specs.declared.reply.Reply.TheVariants as answer;
-ghost use Rattle.qh_handles.specs.Chains.{IsWritten, OfChunk, text_left};
+ghost use Rattle.qh_handles.specs.Chains.{IsPartly, IsWritten, OfChunk, text_left};
 ghost use Rattle.qh_handles.specs.Bufs.{chunks_of};
 ghost use Rattle.qh_handles.specs.Origins.{IsFrom, stopped_origin, write_origin};
 ghost use Rattle.qh_handles.specs.Polls.{MatchAnswer};
@@ -14,7 +14,7 @@ use bytes::Bytes;
 use futures::task::{Context, Poll};
 use qh_base::{Memory, StreamId, VarInt};
 use qh_book::{Call, Reply};
-use qh_conn::ClosedStream;
+use qh_conn::{ClosedStream, Written};
 use std::alloc::Global;
 
 /// The sending half of a stream (quinn, `SendStream`). It is one of the handles that the connection's state counts. One that is dropped without `end` stays
@@ -363,6 +363,70 @@ fn write_front<A: At>(
 pub struct WriteChunks<'a> {
     id: StreamId,
     bufs: &'a mut [Bytes],
+}
+
+impl WriteChunks<'_> {
+    /// How many bytes were written, and how many chunks whole. Those are empty then, and of one that was written in part the rest is left. It waits until some
+    /// are written. If a later write gives none, what was written is answered, and the next call tells why.
+    pub fn poll<A: At>(
+        &mut self,
+        at: &mut A,
+        cx: &mut Context<'_>,
+    ) -> Poll<Result<Written, WriteError>>
+        ensures same { self.new.id ≡ self.old.id }
+        ensures lent { self.new.bufs.ghost_name ≡ self.old.bufs.ghost_name }
+        ensures value { MatchAnswer result (λ w. IsPartly A.acts A.stays self.old.id self.old.bufs.now at.old self.new.bufs.now at.new w.bytes w.chunks)
+            (λ e. (self.new.bufs.now ≡ self.old.bufs.now) × IsFrom (write_origin e) (λ r. OfChunk self.old.bufs.now 0 (λ chunk. A.acts at.old (call.Write self.old.id chunk) r at.new)) (A.stays at.old at.new))
+            ((self.new.bufs.now ≡ self.old.bufs.now) × OfChunk self.old.bufs.now 0 (λ chunk. A.acts at.old (call.Write self.old.id chunk) answer.Pending at.new)) }
+        ensures armed { OnPending result (IsArmed cx.new) }
+        ensures kept { Keeps cx.old cx.new }
+    {
+        let bufs = &mut *self.bufs;
+        write_some(self.id, at, bufs, cx)
+    }
+}
+
+// Writes chunks, one after another, until a write takes less than a whole one.
+fn write_some<A: At>(
+    id: StreamId,
+    at: &mut A,
+    bufs: &mut [Bytes],
+    cx: &mut Context<'_>,
+) -> Poll<Result<Written, WriteError>>
+    ensures value { MatchAnswer result (λ w. IsPartly A.acts A.stays id bufs.old at.old bufs.new at.new w.bytes w.chunks)
+        (λ e. (bufs.new ≡ bufs.old) × IsFrom (write_origin e) (λ r. OfChunk bufs.old 0 (λ chunk. A.acts at.old (call.Write id chunk) r at.new)) (A.stays at.old at.new))
+        ((bufs.new ≡ bufs.old) × OfChunk bufs.old 0 (λ chunk. A.acts at.old (call.Write id chunk) answer.Pending at.new)) }
+    ensures armed { OnPending result (IsArmed cx.new) }
+    ensures kept { Keeps cx.old cx.new }
+{
+    let mut bytes = 0;
+    let mut chunks = 0;
+    while chunks < bufs.len() {
+        let chunk = &mut bufs[chunks];
+        let size = chunk.len();
+        if size > usize::MAX - bytes {
+            return Poll::Ready(Ok(Written { bytes, chunks }));
+        }
+        match write_front(id, at, chunk, cx) {
+            Poll::Ready(Ok(count)) => {
+                bytes += count;
+                if count < size {
+                    return Poll::Ready(Ok(Written { bytes, chunks }));
+                }
+                chunks += 1;
+            }
+            Poll::Ready(Err(error)) => {
+                return Poll::Ready(if chunks == 0 {
+                    Err(error)
+                } else {
+                    Ok(Written { bytes, chunks })
+                });
+            }
+            Poll::Pending if chunks == 0 => return Poll::Pending,
+            Poll::Pending => return Poll::Ready(Ok(Written { bytes, chunks })),
+        }
+    }
+    Poll::Ready(Ok(Written { bytes, chunks }))
 }
 
 // The chunks of a call: its own, or those that are lent to it.
