@@ -1,12 +1,12 @@
 -- Chains of calls grow by a call at their end.
-use Rattle.std.proofs.Common.{◌≡◌, ℕ, ◌+◌, ◌-◌, ◌<◌, ◌≤◌, true, false, ◌^◌, List, [], ◌∷◌, ◌++◌, length, take, drop, refl, sym, ap, ◌∙◌, subst, append_assoc, append-nil, add_assoc, map, Option, Some, inl, inr, zero, suc, add-one, arith, length-append, drop_of_length-le}
+use Rattle.std.proofs.Common.{◌≡◌, ◌⊎◌, ℕ, ◌+◌, ◌-◌, ◌<◌, ◌≤◌, true, false, ◌^◌, List, [], ◌∷◌, ◌++◌, length, take, drop, refl, sym, ap, ◌∙◌, subst, append_assoc, append-nil, add_assoc, map, Option, Some, inl, inr, zero, suc, add-one, arith, length-append, drop_of_length-le}
 use Rattle.std.specs.List.{concat, slice_get}
 use Rattle.std.proofs.Math.Seq.{drop-cons}
 use Rattle.std.proofs.lemmas.Bool.{eqb-true}
 use Rattle.std.proofs.lemmas.Option.{slice_get-get_or}
 use Rattle.std.specs.Prelude.{◌==◌}
 use Rattle.std.proofs.Math.ListN.{set, get_or}
-use Rattle.std.proofs.lemmas.List.{drop-drop, drop_at, take_at, take_all, set_at, set-get_or, length-set, get_or-set_same, nil_from_length, drop-set, drop-set-lt, drop-append-le, length-drop, length-take-le, take-append-drop}
+use Rattle.std.proofs.lemmas.List.{drop-drop, drop_at, take_at, take_all, set_at, set-get_or, length-set, get_or-set_same, nil_from_length, take-set, drop-set, drop-set-lt, drop-append-le, length-drop, length-take-le, take-append-drop}
 use borrow.Rule.Slice.PartMut.{mid_of, post_of, put_mid}
 use Rattle.qh_handles.specs.Streams.{IsReadInto}
 use Rattle.qh_base.specs.declared.stream_id.StreamId.{StreamId}
@@ -22,7 +22,9 @@ use Rattle.qh_handles.specs.declared.error.ReadToEndError.{ReadToEndError}
 use Rattle.qh_handles.specs.declared.error.ReadToEndError.TheVariants as to_end
 use Rattle.qh_handles.specs.Origins.{Origin, replied, wanting, nowhere, IsFrom, write_origin}
 use Rattle.qh_handles.specs.declared.error.WriteError.{WriteError}
-use Rattle.qh_handles.specs.Chains.{OfChunk, IsGathered, IsPlaced, text_left, IsKeepError, IsToEndError, piece_read, widened_all, Acts, bytes_of, IsBytes, AreReads, all_bytes, IsFilled, count_of, IsWrite, AreWrites, all_counts, IsWritten}
+use Rattle.qh_handles.specs.declared.error.WriteError.TheVariants as write
+use Rattle.std.proofs.lemmas.Grind.{take-set_at}
+use Rattle.qh_handles.specs.Chains.{EndsWrites, IsPartly, OfChunk, IsGathered, IsPlaced, text_left, IsKeepError, IsToEndError, piece_read, widened_all, Acts, bytes_of, IsBytes, AreReads, all_bytes, IsFilled, count_of, IsWrite, AreWrites, all_counts, IsWritten}
 
 pub Acts-more : {S C R : Type 0} (acts : S → C → R → S → Type 0) (s m t : S) (es : List (C × R)) (e : C × R) → Acts acts s es m → acts m e.0 e.1 t → Acts acts s (es ++ e ∷ []) t
 Acts-more acts s m t [] e made last = (t, subst (λ x. acts x e.0 e.1 t) (sym made) last, refl)
@@ -272,3 +274,105 @@ module _ {S T : Type 0} (acts : S → Call → Reply T → S → Type 0) (id : S
           ∙ sym (append_assoc front (c.bytes ∷ []) (drop (count + 1) old))
           ∙ ap (λ (l : List (List ℕ)). l ++ drop (count + 1) old) (sym (map-more (λ (d : Chunk). d.bytes) was.pieces c));
       }
+
+-- an error that comes behind others has a reply that ends writes, or memory was wanting
+quiet_write : {T : Type 0} (e : WriteError) (P : Reply T → Type 0) (Q : Type 0) → IsFrom (write_origin e) P Q → Q ⊎ ((r : Reply T) × P r × EndsWrites r)
+quiet_write (write.Stopped code) P Q this = inr (reply.Stopped code, this, tt)
+quiet_write (write.ConnectionLost e) P Q this = inr (reply.ConnectionLost e, this, tt)
+quiet_write write.ClosedStream P Q this = inr (reply.ClosedStream, this, tt)
+quiet_write write.ZeroRttRejected P Q this = absurd this
+quiet_write write.Memory P Q this = inl this
+
+-- chunks in front of one that is set
+front_kept : (bufs : List (List ℕ)) (i : ℕ) (y : List ℕ) → concat (take i bufs) ≡ [] → concat (take i (set bufs i y)) ≡ []
+front_kept bufs i y none = ap (λ (l : List (List ℕ)). concat l) (take-set bufs i y) ∙ none
+
+concat-more : (xs : List (List ℕ)) (y : List ℕ) → concat (xs ++ y ∷ []) ≡ concat xs ++ y
+concat-more [] y = append-nil y
+concat-more (x ∷ xs) y = ap (λ (l : List ℕ). x ++ l) (concat-more xs y) ∙ sym (append_assoc x (concat xs) y)
+
+pub front_grown : (bufs : List (List ℕ)) (i : ℕ) (y : List ℕ) → i < length bufs → y ≡ [] → concat (take i bufs) ≡ [] → concat (take (i + 1) (set bufs i y)) ≡ []
+front_grown bufs i y short empty none =
+    ap (λ (l : List (List ℕ)). concat l) (take-set_at bufs i (i + 1) y refl short) ∙ concat-more (take i bufs) y ∙ ap (λ (l : List ℕ). l ++ y) none ∙ empty
+
+-- nothing is left of a chunk that was written whole
+pub all_taken : (x y : List ℕ) (n size : ℕ) → y ≡ drop n x → size ≡ length x → size ≤ n → y ≡ []
+all_taken x y n size left is all = left ∙ drop_of_length-le x (omega (arith, is, all))
+
+left_length : (x y : List ℕ) (n : ℕ) → y ≡ drop n x → length y ≡ length x - n
+left_length x y n left = ap (λ (l : List ℕ). length l) left ∙ length-drop n x
+
+sums : (all b n x y rest before after : ℕ) → all ≡ b + before → before ≡ x + rest → after ≡ y + rest → y ≡ x - n → n ≤ x → all ≡ (b + n) + after
+sums all b n x y rest before after e was now left few = omega (arith, e, was, now, left, few)
+
+-- so many bytes were written of a chunk, and so many altogether
+pub counted_on : (all b n : ℕ) (bufs : List (List ℕ)) (i : ℕ) (d y : List ℕ) → all ≡ b + length (text_left bufs i) → i < length bufs → n ≤ length (get_or bufs i d) → y ≡ drop n (get_or bufs i d) →
+    all ≡ (b + n) + length (text_left (set bufs i y) i)
+counted_on all b n bufs i d y was short few left =
+    sums all b n (length (get_or bufs i d)) (length y) (length (concat (drop (i + 1) bufs))) (length (text_left bufs i)) (length (text_left (set bufs i y) i)) was
+      (text_length bufs i d short) (text_length-set bufs i y short) (left_length (get_or bufs i d) y n left) few
+
+pub counted_whole : (all b n : ℕ) (bufs : List (List ℕ)) (i : ℕ) (d y : List ℕ) → all ≡ b + length (text_left bufs i) → i < length bufs → n ≤ length (get_or bufs i d) → y ≡ drop n (get_or bufs i d) → y ≡ [] →
+    all ≡ (b + n) + length (text_left (set bufs i y) (i + 1))
+counted_whole all b n bufs i d y was short few left empty =
+    counted_on all b n bufs i d y was short few left ∙ ap (λ (l : List ℕ). (b + n) + length l) (text_passed bufs i y short empty)
+
+module _ {S T : Type 0} (acts : S → Call → Reply T → S → Type 0) (stays : S → S → Type 0) (id : StreamId) where
+  -- the last write took less than its chunk
+  pub partly_written : (old : List (List ℕ)) (s m t : S) (bufs : List (List ℕ)) (i n b : ℕ) (d y : List ℕ) →
+      IsWritten acts id (concat old) s (text_left bufs i) m → concat (take i bufs) ≡ [] → length (concat old) ≡ b + length (text_left bufs i) → i < length bufs →
+      n < length (get_or bufs i d) → acts m (call.Write id (get_or bufs i d)) (reply.Count n) t → y ≡ drop n (get_or bufs i d) →
+      IsPartly acts stays id old s (set bufs i y) t (b + n) i
+  partly_written old s m t bufs i n b d y was none counted short fewer this left =
+      let few : n ≤ length (get_or bufs i d) = omega (arith, fewer) in
+      let some : 0 < length y = omega (arith, left_length (get_or bufs i d) y n left, fewer) in
+      record {
+        mid = t;
+        written = chunk_written acts id (concat old) s m t bufs i n d y was short few this left;
+        emptied = front_kept bufs i y none;
+        counted = counted_on (length (concat old)) b n bufs i d y counted short few left;
+        stopped = inr (inl ((y, set_is_there bufs i y short, some), refl));
+      }
+
+  -- the last write wrote nothing, or wasn't made
+  pub partly_kept : (old : List (List ℕ)) (s m t : S) (bufs : List (List ℕ)) (i b : ℕ) (d y : List ℕ) →
+      IsWritten acts id (concat old) s (text_left bufs i) m → concat (take i bufs) ≡ [] → length (concat old) ≡ b + length (text_left bufs i) → i < length bufs → 0 < i →
+      (stays m t ⊎ ((r : Reply T) × acts m (call.Write id (get_or bufs i d)) r t × EndsWrites r)) → y ≡ get_or bufs i d →
+      IsPartly acts stays id old s (set bufs i y) t b i
+  partly_kept old s m t bufs i b d y was none counted short some last same =
+      let whole : bufs ≡ set bufs i y = sym (set_same bufs i d y same) in
+      record {
+        mid = m;
+        written = subst (λ (l : List (List ℕ)). IsWritten acts id (concat old) s (text_left l i) m) whole was;
+        emptied = front_kept bufs i y none;
+        counted = subst (λ (l : List (List ℕ)). length (concat old) ≡ b + length (text_left l i)) whole counted;
+        stopped = inr (inr (some, last_of m t bufs i d y short same last));
+      } where
+    last_of : (m t : S) (bufs : List (List ℕ)) (i : ℕ) (d y : List ℕ) → i < length bufs → y ≡ get_or bufs i d →
+        (stays m t ⊎ ((r : Reply T) × acts m (call.Write id (get_or bufs i d)) r t × EndsWrites r)) →
+        stays m t ⊎ ((r : Reply T) × OfChunk (set bufs i y) i (λ chunk. acts m (call.Write id chunk) r t) × EndsWrites r)
+    last_of m t bufs i d y short same (inl h) = inl h
+    last_of m t bufs i d y short same (inr h) = inr (h.0, (y, set_is_there bufs i y short, subst (λ (l : List ℕ). acts m (call.Write id l) h.0 t) (sym same) h.1), h.2)
+
+  pub partly_failed : (old : List (List ℕ)) (s m t : S) (bufs : List (List ℕ)) (i b : ℕ) (d y : List ℕ) (e : WriteError) →
+      IsWritten acts id (concat old) s (text_left bufs i) m → concat (take i bufs) ≡ [] → length (concat old) ≡ b + length (text_left bufs i) → i < length bufs → 0 < i →
+      IsFrom (write_origin e) (λ (r : Reply T). acts m (call.Write id (get_or bufs i d)) r t) (stays m t) → y ≡ get_or bufs i d →
+      IsPartly acts stays id old s (set bufs i y) t b i
+  partly_failed old s m t bufs i b d y e was none counted short some this same =
+      partly_kept old s m t bufs i b d y was none counted short some (quiet_write e (λ (r : Reply T). acts m (call.Write id (get_or bufs i d)) r t) (stays m t) this) same
+
+  -- nothing was written yet, and the write failed
+  pub first_failed : (old : List (List ℕ)) (s m t : S) (bufs : List (List ℕ)) (i : ℕ) (d y : List ℕ) (e : WriteError) →
+      (i ≡ 0 → (m ≡ s) × (bufs ≡ old)) → i < length bufs → i ≡ 0 →
+      IsFrom (write_origin e) (λ (r : Reply T). acts m (call.Write id (get_or bufs i d)) r t) (stays m t) → y ≡ get_or bufs i d →
+      (set bufs i y ≡ old) × IsFrom (write_origin e) (λ (r : Reply T). OfChunk old 0 (λ chunk. acts s (call.Write id chunk) r t)) (stays s t)
+  first_failed old s m t bufs i d y e first short none this same =
+      let at_first = first none in
+      let there : slice_get old 0 ≡ Some (get_or bufs i d) =
+        subst (λ (k : ℕ). slice_get old k ≡ Some (get_or bufs i d)) none (subst (λ (l : List (List ℕ)). slice_get l i ≡ Some (get_or bufs i d)) at_first.1 (slice_get-get_or bufs i d short)) in
+      (set_same bufs i d y same ∙ at_first.1,
+       IsFrom-map (write_origin e) (λ (r : Reply T). acts m (call.Write id (get_or bufs i d)) r t) (λ (r : Reply T). OfChunk old 0 (λ chunk. acts s (call.Write id chunk) r t)) (stays m t) (stays s t)
+         (λ r made. (get_or bufs i d, there, subst (λ x. acts x (call.Write id (get_or bufs i d)) r t) at_first.0 made)) (λ q. subst (λ x. stays x t) at_first.0 q) this)
+
+pub not_none : (n : ℕ) → n + 1 ≡ 0 → ⊥
+not_none n e = omega (arith, e)

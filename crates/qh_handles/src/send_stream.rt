@@ -416,11 +416,10 @@ fn write_some<A: At>(
                 chunks += 1;
             }
             Poll::Ready(Err(error)) => {
-                return Poll::Ready(if chunks == 0 {
-                    Err(error)
-                } else {
-                    Ok(Written { bytes, chunks })
-                });
+                if chunks > 0 {
+                    return Poll::Ready(Ok(Written { bytes, chunks }));
+                }
+                return Poll::Ready(Err(error));
             }
             Poll::Pending if chunks == 0 => return Poll::Pending,
             Poll::Pending => return Poll::Ready(Ok(Written { bytes, chunks })),
