@@ -284,7 +284,7 @@ quiet_write write.ZeroRttRejected P Q this = absurd this
 quiet_write write.Memory P Q this = inl this
 
 -- chunks in front of one that is set
-front_kept : (bufs : List (List ℕ)) (i : ℕ) (y : List ℕ) → concat (take i bufs) ≡ [] → concat (take i (set bufs i y)) ≡ []
+pub front_kept : (bufs : List (List ℕ)) (i : ℕ) (y : List ℕ) → concat (take i bufs) ≡ [] → concat (take i (set bufs i y)) ≡ []
 front_kept bufs i y none = ap (λ (l : List (List ℕ)). concat l) (take-set bufs i y) ∙ none
 
 concat-more : (xs : List (List ℕ)) (y : List ℕ) → concat (xs ++ y ∷ []) ≡ concat xs ++ y

@@ -1,5 +1,5 @@
 ghost use Rattle.std.specs.Prelude.{◌≡◌, ◌⊎◌, ◌<◌, ◌≤◌, ◌-◌, ◌++◌, ◌∷◌, ℕ, [], None, Some, IfErr, IfSome, MatchOption, MatchResult, OnOk, true, false, length, ⊤};
-ghost use Rattle.futures.specs.Poll.{OnPending};
+ghost use Rattle.futures.specs.Poll.{IfReady, OnPending};
 ghost use Rattle.futures.specs.Task.{IsArmed, Keeps};
 ghost use Rattle.qh_book.specs.declared.call.Call.TheVariants as call;
 ghost use Rattle.qh_book.specs.declared.reply.Reply.{Reply as AReply};
@@ -463,6 +463,7 @@ impl ReadToEnd {
             × MatchAnswer result (λ bytes. A.acts mid (call.Read self.old.id usize.MAX false) answer.Ended at.new × AreAll b bytes.items)
             (λ e. IsToEndError e b (λ r. A.acts mid (call.Read self.old.id usize.MAX false) r at.new) (A.stays mid at.new))
             (A.acts mid (call.Read self.old.id usize.MAX false) answer.Pending at.new × (self.new.buffer ≡ Some b)) }
+        ensures dropped { IfReady result (λ _. self.new.buffer ≡ None) }
         ensures armed { OnPending result (IsArmed cx.new) }
         ensures kept { Keeps cx.old cx.new }
     {

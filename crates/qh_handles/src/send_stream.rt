@@ -1,10 +1,11 @@
-ghost use Rattle.std.specs.Prelude.{◌≡◌, ◌⊎◌, ◌<◌, ◌≤◌, [], ◌∷◌, IfOk, MatchResult, drop, length};
+ghost use Rattle.std.specs.Prelude.{◌≡◌, ◌⊎◌, ◌<◌, ◌≤◌, [], ◌∷◌, IfOk, MatchResult, drop, length, take};
+ghost use Rattle.std.specs.List.{concat};
 ghost use Rattle.futures.specs.Poll.{IfReady, OnPending};
 ghost use Rattle.futures.specs.Task.{IsArmed, Keeps};
 ghost use Rattle.qh_book.specs.declared.call.Call.TheVariants as call;
 ghost use Rattle.qh_book.specs.declared.reply.Reply.TheVariants as answer;
 ghost use Rattle.qh_handles.specs.Chains.{IsPartly, IsWritten, OfChunk, text_left};
-ghost use Rattle.qh_handles.specs.Bufs.{chunks_of};
+ghost use Rattle.qh_handles.specs.Bufs.{AreLent, SameBufs, chunks_of};
 ghost use Rattle.qh_handles.specs.Origins.{IsFrom, stopped_origin, write_origin};
 ghost use Rattle.qh_handles.specs.Polls.{MatchAnswer};
 
@@ -102,6 +103,7 @@ impl SendStream {
         ensures same { self.new ≡ self.old }
         ensures stream { result.id ≡ self.old.id }
         ensures none { result.done ≡ 0 }
+        ensures lent { AreLent bufs.entry result.bufs }
         ensures chunks { chunks_of result.bufs ≡ bufs.old }
     {
         WriteAllChunks {
@@ -448,10 +450,12 @@ impl WriteAllChunks<'_> {
     /// Done once all chunks are written; they are empty then. If it waits, some may be written, and a further poll goes on behind them.
     pub fn poll<A: At>(&mut self, at: &mut A, cx: &mut Context<'_>) -> Poll<Result<(), WriteError>>
         ensures same { self.new.id ≡ self.old.id }
+        ensures lent { SameBufs self.old.bufs self.new.bufs }
         ensures value { (mid : A) × IsWritten A.acts self.old.id (text_left (chunks_of self.old.bufs) self.old.done) at.old (text_left (chunks_of self.new.bufs) self.new.done) mid
             × MatchAnswer result (λ _. (length (chunks_of self.old.bufs) ≤ self.new.done) × (mid ≡ at.new))
             (λ e. IsFrom (write_origin e) (λ r. OfChunk (chunks_of self.new.bufs) self.new.done (λ chunk. A.acts mid (call.Write self.old.id chunk) r at.new)) (A.stays mid at.new))
             (OfChunk (chunks_of self.new.bufs) self.new.done (λ chunk. A.acts mid (call.Write self.old.id chunk) answer.Pending at.new)) }
+        ensures emptied { concat (take self.old.done (chunks_of self.old.bufs)) ≡ [] → concat (take self.new.done (chunks_of self.new.bufs)) ≡ [] }
         ensures armed { OnPending result (IsArmed cx.new) }
         ensures kept { Keeps cx.old cx.new }
     {
@@ -475,6 +479,7 @@ fn write_each<A: At>(
         × MatchAnswer result (λ _. (length bufs.old ≤ done.new) × (mid ≡ at.new))
         (λ e. IsFrom (write_origin e) (λ r. OfChunk bufs.new done.new (λ chunk. A.acts mid (call.Write id chunk) r at.new)) (A.stays mid at.new))
         (OfChunk bufs.new done.new (λ chunk. A.acts mid (call.Write id chunk) answer.Pending at.new)) }
+    ensures emptied { concat (take done.old bufs.old) ≡ [] → concat (take done.new bufs.new) ≡ [] }
     ensures armed { OnPending result (IsArmed cx.new) }
     ensures kept { Keeps cx.old cx.new }
 {
