@@ -1,5 +1,5 @@
 -- Chains of calls grow by a call at their end.
-use Rattle.std.proofs.Common.{◌≡◌, ◌⊎◌, ℕ, ◌+◌, ◌-◌, ◌<◌, ◌≤◌, true, false, ◌^◌, List, [], ◌∷◌, ◌++◌, length, take, drop, refl, sym, ap, ◌∙◌, subst, append_assoc, append-nil, add_assoc, map, Option, Some, inl, inr, zero, suc, add-one, arith, length-append, drop_of_length-le}
+use Rattle.std.proofs.Common.{◌≡◌, ◌⊎◌, ℕ, ◌+◌, ◌-◌, ◌<◌, ◌≤◌, true, false, ◌^◌, List, [], ◌∷◌, ◌++◌, length, take, drop, refl, sym, ap, ◌∙◌, subst, append_assoc, append-nil, add_assoc, map, Option, Some, inl, inr, suc, add-one, arith, length-append, drop_of_length-le}
 use Rattle.std.specs.List.{concat, slice_get}
 use Rattle.std.proofs.Math.Seq.{drop-cons}
 use Rattle.std.proofs.lemmas.Bool.{eqb-true}
@@ -66,7 +66,7 @@ pub IsWritten-part : {S T : Type 0} (acts : S → Call → Reply T → S → Typ
 IsWritten-part acts id text s m t buf w n was few this =
     let whole : mid_of w (length buf - w) buf ≡ drop w buf = mid_is (length buf - w) w buf refl in
     subst (λ (l : List ℕ). IsWritten acts id text s l t) (drop-drop n w buf)
-      (IsWritten-more acts id text s m t (drop w buf) (mid_of w (length buf - w) buf) [] n was (sym whole ∙ sym (append-nil (mid_of w (length buf - w) buf))) few this)
+    (IsWritten-more acts id text s m t (drop w buf) (mid_of w (length buf - w) buf) [] n was (sym whole ∙ sym (append-nil (mid_of w (length buf - w) buf))) few this)
 
 -- ---- reads
 
@@ -86,7 +86,7 @@ pub AreReads-more : {T : Type 0} (id : StreamId) (wanted : ℕ) (es : List (Call
 AreReads-more id wanted [] e are is gives = (is ∙ ap (λ (k : ℕ). call.Read id k true) (minus_none wanted), gives, tt)
 AreReads-more id wanted (d ∷ es) e are is gives =
     let left : wanted - length (all_bytes (d ∷ es)) ≡ (wanted - length (bytes_of d.1)) - length (all_bytes es) =
-      ap (λ (k : ℕ). wanted - k) (length-append (bytes_of d.1) (all_bytes es)) ∙ sym (less wanted (length (bytes_of d.1)) (length (all_bytes es))) in
+    ap (λ (k : ℕ). wanted - k) (length-append (bytes_of d.1) (all_bytes es)) ∙ sym (less wanted (length (bytes_of d.1)) (length (all_bytes es))) in
     (are.0, are.1, AreReads-more id (wanted - length (bytes_of d.1)) es e are.2 (is ∙ ap (λ (k : ℕ). call.Read id k true) left) gives)
 
 -- before the first read the buffer is as it was
@@ -102,7 +102,7 @@ module _ {S T : Type 0} (acts : S → Call → Reply T → S → Type 0) (id : S
       let e : Call × Reply T = (call.Read id wanted true, reply.Bytes offset bytes) in
       let front : List ℕ = take filled old ++ all_bytes was.reads in
       let sized : length front ≡ f =
-        length-append (take filled old) (all_bytes was.reads) ∙ ap (λ (k : ℕ). k + length (all_bytes was.reads)) (length-take-le filled old (omega (arith, was.counted, short))) ∙ sym was.counted in
+      length-append (take filled old) (all_bytes was.reads) ∙ ap (λ (k : ℕ). k + length (all_bytes was.reads)) (length-take-le filled old (omega (arith, was.counted, short))) ∙ sym was.counted in
       let kept : take f buf ≡ front = ap (λ (l : List ℕ). take f l) was.buffer ∙ take_at front (drop f old) f sized in
       let behind : drop f buf ≡ drop f old = ap (λ (l : List ℕ). drop f l) was.buffer ∙ drop_at front (drop f old) f sized in
       let left : drop n (drop f buf) ≡ drop (f + n) old = ap (λ (l : List ℕ). drop n l) behind ∙ drop-drop n f old in
@@ -110,13 +110,13 @@ module _ {S T : Type 0} (acts : S → Call → Reply T → S → Type 0) (id : S
       record {
         reads = was.reads ++ e ∷ [];
         are = AreReads-more id (length old - filled) was.reads e was.are
-          (ap (λ (k : ℕ). call.Read id k true) (w ∙ ap (λ (k : ℕ). length old - k) was.counted ∙ sym (less (length old) filled (length (all_bytes was.reads))))) tt;
+            (ap (λ (k : ℕ). call.Read id k true) (w ∙ ap (λ (k : ℕ). length old - k) was.counted ∙ sym (less (length old) filled (length (all_bytes was.reads))))) tt;
         made = Acts-more acts s m t was.reads e was.made this;
         counted = ap (λ (k : ℕ). k + n) was.counted ∙ add_assoc filled (length (all_bytes was.reads)) n
-          ∙ ap (λ (k : ℕ). filled + k) (ap (λ (k : ℕ). length (all_bytes was.reads) + k) count ∙ sym (length-append (all_bytes was.reads) bytes) ∙ sym (ap (λ (l : List ℕ). length l) grown));
+            ∙ ap (λ (k : ℕ). filled + k) (ap (λ (k : ℕ). length (all_bytes was.reads) + k) count ∙ sym (length-append (all_bytes was.reads) bytes) ∙ sym (ap (λ (l : List ℕ). length l) grown));
         buffer = spliced ∙ ap (λ (l : List ℕ). l ++ (bytes ++ drop n (drop f buf))) kept ∙ ap (λ (l : List ℕ). front ++ (bytes ++ l)) left
-          ∙ sym (append_assoc front bytes (drop (f + n) old))
-          ∙ ap (λ (l : List ℕ). l ++ drop (f + n) old) (append_assoc (take filled old) (all_bytes was.reads) bytes ∙ ap (λ (l : List ℕ). take filled old ++ l) (sym grown));
+            ∙ sym (append_assoc front bytes (drop (f + n) old))
+            ∙ ap (λ (l : List ℕ). l ++ drop (f + n) old) (append_assoc (take filled old) (all_bytes was.reads) bytes ∙ ap (λ (l : List ℕ). take filled old ++ l) (sym grown));
       }
 
   -- the same as a loop makes it, in the part of the buffer behind the front
@@ -128,8 +128,8 @@ module _ {S T : Type 0} (acts : S → Call → Reply T → S → Type 0) (id : S
       let mid : mid_of f (length buf - f) buf ≡ drop f buf = mid_is (length buf - f) f buf refl in
       let none : post_of f (length buf - f) buf ≡ [] = drop_of_length-le (drop f buf) (omega (arith, length-drop f buf)) in
       IsFilled-more old filled s buf f m (put_mid f (length buf - f) buf part) n (length (mid_of f (length buf - f) buf)) read.0 read.1 t was (subst (λ (k : ℕ). f < k) same short)
-        (ap (λ (l : List ℕ). length l) mid ∙ length-drop f buf ∙ ap (λ (k : ℕ). k - f) same) read.2 read.3
-        (ap (λ (l : List ℕ). take f buf ++ (part ++ l)) none ∙ ap (λ (l : List ℕ). take f buf ++ l) (append-nil part ∙ read.4 ∙ ap (λ (l : List ℕ). read.1 ++ drop n l) mid))
+      (ap (λ (l : List ℕ). length l) mid ∙ length-drop f buf ∙ ap (λ (k : ℕ). k - f) same) read.2 read.3
+      (ap (λ (l : List ℕ). take f buf ++ (part ++ l)) none ∙ ap (λ (l : List ℕ). take f buf ++ l) (append-nil part ∙ read.4 ∙ ap (λ (l : List ℕ). read.1 ++ drop n l) mid))
 
 -- ---- all of a stream
 
@@ -147,14 +147,14 @@ pub IsGathered-more : {S T : Type 0} (acts : S → Call → Reply T → S → Ty
     new ≡ record { kept = b.kept ++ c ∷ []; extent = Some (widened b.extent c); size_limit = b.size_limit } → IsGathered acts id old s new t
 IsGathered-more {S} {T} acts id old s b m c new t was this grown =
     let made : Acts acts s (map (piece_read {T = T} id false) was.pieces ++ piece_read id false c ∷ []) t =
-      Acts-more acts s m t (map (piece_read id false) was.pieces) (piece_read id false c) was.made this in
+    Acts-more acts s m t (map (piece_read id false) was.pieces) (piece_read id false c) was.made this in
     record {
       pieces = was.pieces ++ c ∷ [];
       made = subst (λ es. Acts acts s es t) (sym (map-more (piece_read id false) was.pieces c)) made;
       kept = grown
-        ∙ ap (λ (p : PlainBuffer). let q : PlainBuffer = record { kept = p.kept ++ c ∷ []; extent = Some (widened p.extent c); size_limit = p.size_limit } in q) was.kept
-        ∙ ap (λ (l : List Chunk). let q : PlainBuffer = record { kept = l; extent = Some (widened (widened_all old.extent was.pieces) c); size_limit = old.size_limit } in q) (append_assoc old.kept was.pieces (c ∷ []))
-        ∙ ap (λ (x : Option Extent). let q : PlainBuffer = record { kept = old.kept ++ (was.pieces ++ c ∷ []); extent = x; size_limit = old.size_limit } in q) (sym (widened-more old.extent was.pieces c));
+          ∙ ap (λ (p : PlainBuffer). let q : PlainBuffer = record { kept = p.kept ++ c ∷ []; extent = Some (widened p.extent c); size_limit = p.size_limit } in q) was.kept
+          ∙ ap (λ (l : List Chunk). let q : PlainBuffer = record { kept = l; extent = Some (widened (widened_all old.extent was.pieces) c); size_limit = old.size_limit } in q) (append_assoc old.kept was.pieces (c ∷ []))
+          ∙ ap (λ (x : Option Extent). let q : PlainBuffer = record { kept = old.kept ++ (was.pieces ++ c ∷ []); extent = x; size_limit = old.size_limit } in q) (sym (widened-more old.extent was.pieces c));
     }
 
 pub IsGathered-none : {S T : Type 0} (acts : S → Call → Reply T → S → Type 0) (id : StreamId) (old : PlainBuffer) (s : S) → IsGathered acts id old s old s
@@ -231,24 +231,28 @@ module _ {S T : Type 0} (acts : S → Call → Reply T → S → Type 0) (id : S
       let rest : List ℕ = concat (drop (i + 1) bufs) in
       let front : text_left bufs i ≡ x ++ rest = ap (λ (l : List (List ℕ)). concat l) (chunks_are bufs i d short) in
       let behind : drop n (text_left bufs i) ≡ text_left (set bufs i y) i =
-        ap (λ (l : List ℕ). drop n l) front ∙ drop-append-le n x rest few ∙ ap (λ (l : List ℕ). l ++ rest) (sym left) ∙ sym (ap (λ (l : List (List ℕ)). concat l) (drop-set bufs i y short)) in
+      ap (λ (l : List ℕ). drop n l) front ∙ drop-append-le n x rest few ∙ ap (λ (l : List ℕ). l ++ rest) (sym left) ∙ sym (ap (λ (l : List (List ℕ)). concat l) (drop-set bufs i y short)) in
       subst (λ (l : List ℕ). IsWritten acts id text s l t) behind (IsWritten-more acts id text s m t (text_left bufs i) x rest n was front few this)
 
   -- a chunk that is left as it was: the call with it was made, and replied so
   pub chunk_kept : (text : List ℕ) (s m t : S) (bufs : List (List ℕ)) (i : ℕ) (d y : List ℕ) (r : Reply T) →
       IsWritten acts id text s (text_left bufs i) m → i < length bufs → acts m (call.Write id (get_or bufs i d)) r t → y ≡ get_or bufs i d →
       (x : S) × IsWritten acts id text s (text_left (set bufs i y) i) x × OfChunk (set bufs i y) i (λ chunk. acts x (call.Write id chunk) r t)
-  chunk_kept text s m t bufs i d y r was short this same =
-      (m, subst (λ (l : List (List ℕ)). IsWritten acts id text s (text_left l i) m) (sym (set_same bufs i d y same)) was,
-       (y, set_is_there bufs i y short, subst (λ (l : List ℕ). acts m (call.Write id l) r t) (sym same) this))
+  chunk_kept text s m t bufs i d y r was short this same = (
+    m,
+    subst (λ (l : List (List ℕ)). IsWritten acts id text s (text_left l i) m) (sym (set_same bufs i d y same)) was,
+    (y, set_is_there bufs i y short, subst (λ (l : List ℕ). acts m (call.Write id l) r t) (sym same) this),
+  )
 
   pub chunk_failed : (stays : S → S → Type 0) (e : WriteError) (text : List ℕ) (s m t : S) (bufs : List (List ℕ)) (i : ℕ) (d y : List ℕ) →
       IsWritten acts id text s (text_left bufs i) m → i < length bufs → IsFrom (write_origin e) (λ (r : Reply T). acts m (call.Write id (get_or bufs i d)) r t) (stays m t) → y ≡ get_or bufs i d →
       (x : S) × IsWritten acts id text s (text_left (set bufs i y) i) x × IsFrom (write_origin e) (λ (r : Reply T). OfChunk (set bufs i y) i (λ chunk. acts x (call.Write id chunk) r t)) (stays x t)
-  chunk_failed stays e text s m t bufs i d y was short this same =
-      (m, subst (λ (l : List (List ℕ)). IsWritten acts id text s (text_left l i) m) (sym (set_same bufs i d y same)) was,
-       IsFrom-map (write_origin e) (λ (r : Reply T). acts m (call.Write id (get_or bufs i d)) r t) (λ (r : Reply T). OfChunk (set bufs i y) i (λ chunk. acts m (call.Write id chunk) r t)) (stays m t) (stays m t)
-         (λ r made. (y, set_is_there bufs i y short, subst (λ (l : List ℕ). acts m (call.Write id l) r t) (sym same) made)) (λ q. q) this)
+  chunk_failed stays e text s m t bufs i d y was short this same = (
+    m,
+    subst (λ (l : List (List ℕ)). IsWritten acts id text s (text_left l i) m) (sym (set_same bufs i d y same)) was,
+    IsFrom-map (write_origin e) (λ (r : Reply T). acts m (call.Write id (get_or bufs i d)) r t) (λ (r : Reply T). OfChunk (set bufs i y) i (λ chunk. acts m (call.Write id chunk) r t)) (stays m t) (stays m t)
+        (λ r made. (y, set_is_there bufs i y short, subst (λ (l : List ℕ). acts m (call.Write id l) r t) (sym same) made)) (λ q. q) this,
+  )
 
   -- a chunk of which nothing is left is behind what is done
   pub chunk_done : (text : List ℕ) (s t : S) (bufs : List (List ℕ)) (i : ℕ) (y : List ℕ) → i < length bufs → y ≡ [] →
@@ -264,15 +268,15 @@ module _ {S T : Type 0} (acts : S → Call → Reply T → S → Type 0) (id : S
       let sized : length front ≡ count = map_length (λ (d : Chunk). d.bytes) was.pieces ∙ sym was.counted in
       let next : drop count old ≡ get_or old count [] ∷ drop (count + 1) old = drop_next old count [] (subst (λ (k : ℕ). count < k) same short) in
       let made : Acts acts s (map (piece_read {T = T} id true) was.pieces ++ piece_read id true c ∷ []) t =
-        Acts-more acts s m t (map (piece_read id true) was.pieces) (piece_read id true c) was.made this in
+      Acts-more acts s m t (map (piece_read id true) was.pieces) (piece_read id true c) was.made this in
       record {
         pieces = was.pieces ++ c ∷ [];
         made = subst (λ es. Acts acts s es t) (sym (map-more (piece_read id true) was.pieces c)) made;
         counted = ap (λ (k : ℕ). k + 1) was.counted ∙ sym (length-append was.pieces (c ∷ []));
         placed = ap (λ (l : List (List ℕ)). set l count c.bytes) (was.placed ∙ ap (λ (l : List (List ℕ)). front ++ l) next)
-          ∙ set_at front (get_or old count []) (drop (count + 1) old) c.bytes count sized
-          ∙ sym (append_assoc front (c.bytes ∷ []) (drop (count + 1) old))
-          ∙ ap (λ (l : List (List ℕ)). l ++ drop (count + 1) old) (sym (map-more (λ (d : Chunk). d.bytes) was.pieces c));
+            ∙ set_at front (get_or old count []) (drop (count + 1) old) c.bytes count sized
+            ∙ sym (append_assoc front (c.bytes ∷ []) (drop (count + 1) old))
+            ∙ ap (λ (l : List (List ℕ)). l ++ drop (count + 1) old) (sym (map-more (λ (d : Chunk). d.bytes) was.pieces c));
       }
 
 -- an error that comes behind others has a reply that ends writes, or memory was wanting
@@ -310,7 +314,7 @@ pub counted_on : (all b n : ℕ) (bufs : List (List ℕ)) (i : ℕ) (d y : List 
     all ≡ (b + n) + length (text_left (set bufs i y) i)
 counted_on all b n bufs i d y was short few left =
     sums all b n (length (get_or bufs i d)) (length y) (length (concat (drop (i + 1) bufs))) (length (text_left bufs i)) (length (text_left (set bufs i y) i)) was
-      (text_length bufs i d short) (text_length-set bufs i y short) (left_length (get_or bufs i d) y n left) few
+    (text_length bufs i d short) (text_length-set bufs i y short) (left_length (get_or bufs i d) y n left) few
 
 pub counted_whole : (all b n : ℕ) (bufs : List (List ℕ)) (i : ℕ) (d y : List ℕ) → all ≡ b + length (text_left bufs i) → i < length bufs → n ≤ length (get_or bufs i d) → y ≡ drop n (get_or bufs i d) → y ≡ [] →
     all ≡ (b + n) + length (text_left (set bufs i y) (i + 1))
@@ -348,11 +352,11 @@ module _ {S T : Type 0} (acts : S → Call → Reply T → S → Type 0) (stays 
         counted = subst (λ (l : List (List ℕ)). length (concat old) ≡ b + length (text_left l i)) whole counted;
         stopped = inr (inr (some, last_of m t bufs i d y short same last));
       } where
-    last_of : (m t : S) (bufs : List (List ℕ)) (i : ℕ) (d y : List ℕ) → i < length bufs → y ≡ get_or bufs i d →
-        (stays m t ⊎ ((r : Reply T) × acts m (call.Write id (get_or bufs i d)) r t × EndsWrites r)) →
-        stays m t ⊎ ((r : Reply T) × OfChunk (set bufs i y) i (λ chunk. acts m (call.Write id chunk) r t) × EndsWrites r)
-    last_of m t bufs i d y short same (inl h) = inl h
-    last_of m t bufs i d y short same (inr h) = inr (h.0, (y, set_is_there bufs i y short, subst (λ (l : List ℕ). acts m (call.Write id l) h.0 t) (sym same) h.1), h.2)
+        last_of : (m t : S) (bufs : List (List ℕ)) (i : ℕ) (d y : List ℕ) → i < length bufs → y ≡ get_or bufs i d →
+            (stays m t ⊎ ((r : Reply T) × acts m (call.Write id (get_or bufs i d)) r t × EndsWrites r)) →
+            stays m t ⊎ ((r : Reply T) × OfChunk (set bufs i y) i (λ chunk. acts m (call.Write id chunk) r t) × EndsWrites r)
+        last_of m t bufs i d y short same (inl h) = inl h
+        last_of m t bufs i d y short same (inr h) = inr (h.0, (y, set_is_there bufs i y short, subst (λ (l : List ℕ). acts m (call.Write id l) h.0 t) (sym same) h.1), h.2)
 
   pub partly_failed : (old : List (List ℕ)) (s m t : S) (bufs : List (List ℕ)) (i b : ℕ) (d y : List ℕ) (e : WriteError) →
       IsWritten acts id (concat old) s (text_left bufs i) m → concat (take i bufs) ≡ [] → length (concat old) ≡ b + length (text_left bufs i) → i < length bufs → 0 < i →
@@ -369,10 +373,11 @@ module _ {S T : Type 0} (acts : S → Call → Reply T → S → Type 0) (stays 
   first_failed old s m t bufs i d y e first short none this same =
       let at_first = first none in
       let there : slice_get old 0 ≡ Some (get_or bufs i d) =
-        subst (λ (k : ℕ). slice_get old k ≡ Some (get_or bufs i d)) none (subst (λ (l : List (List ℕ)). slice_get l i ≡ Some (get_or bufs i d)) at_first.1 (slice_get-get_or bufs i d short)) in
-      (set_same bufs i d y same ∙ at_first.1,
-       IsFrom-map (write_origin e) (λ (r : Reply T). acts m (call.Write id (get_or bufs i d)) r t) (λ (r : Reply T). OfChunk old 0 (λ chunk. acts s (call.Write id chunk) r t)) (stays m t) (stays s t)
-         (λ r made. (get_or bufs i d, there, subst (λ x. acts x (call.Write id (get_or bufs i d)) r t) at_first.0 made)) (λ q. subst (λ x. stays x t) at_first.0 q) this)
+      subst (λ (k : ℕ). slice_get old k ≡ Some (get_or bufs i d)) none (subst (λ (l : List (List ℕ)). slice_get l i ≡ Some (get_or bufs i d)) at_first.1 (slice_get-get_or bufs i d short)) in (
+        set_same bufs i d y same ∙ at_first.1,
+        IsFrom-map (write_origin e) (λ (r : Reply T). acts m (call.Write id (get_or bufs i d)) r t) (λ (r : Reply T). OfChunk old 0 (λ chunk. acts s (call.Write id chunk) r t)) (stays m t) (stays s t)
+            (λ r made. (get_or bufs i d, there, subst (λ x. acts x (call.Write id (get_or bufs i d)) r t) at_first.0 made)) (λ q. subst (λ x. stays x t) at_first.0 q) this,
+      )
 
 pub not_none : (n : ℕ) → n + 1 ≡ 0 → ⊥
 not_none n e = omega (arith, e)

@@ -1,7 +1,5 @@
 -- Where an answer comes from: a reply, want of memory before the call was made, or nowhere, if no call answers so.
-use Rattle.std.specs.Prelude.{◌≡◌, ◌⊎◌, ℕ, Option, Result, Ok, Err}
-use Rattle.futures.specs.declared.task.Poll.{Poll}
-use Rattle.futures.specs.declared.task.Poll.TheVariants.{Ready, Pending}
+use Rattle.std.specs.Prelude.{◌≡◌, ◌⊎◌}
 use Rattle.qh_base.specs.declared.connection_error.ConnectionError.{ConnectionError}
 use Rattle.qh_base.specs.declared.connection_error.ConnectionError.TheVariants as lost
 use Rattle.qh_book.specs.declared.reply.Reply.{Reply}

@@ -384,8 +384,8 @@ impl ReadChunks<'_> {
         ensures value { (mid : A) × (count : ℕ) × IsPlaced A.acts self.old.id self.old.bufs.now at.old self.new.bufs.now mid count
             × MatchAnswer result
             (λ answered. MatchOption answered ((count ≡ 0) × A.acts mid (call.Read self.old.id usize.MAX true) answer.Ended at.new)
-                (λ n. (n ≡ count) × (((n ≡ length self.old.bufs.now) × (mid ≡ at.new))
-                    ⊎ ((0 < n) × (A.stays mid at.new ⊎ ((r : AReply (AToldValue A.HandshakeData)) × A.acts mid (call.Read self.old.id usize.MAX true) r at.new × EndsReads r))))))
+            (λ n. (n ≡ count) × (((n ≡ length self.old.bufs.now) × (mid ≡ at.new))
+            ⊎ ((0 < n) × (A.stays mid at.new ⊎ ((r : AReply (AToldValue A.HandshakeData)) × A.acts mid (call.Read self.old.id usize.MAX true) r at.new × EndsReads r))))))
             (λ e. IsFrom (read_origin e) (λ r. A.acts mid (call.Read self.old.id usize.MAX true) r at.new × ((count ≡ 0) ⊎ (is_reset e ≡ true))) (A.stays mid at.new × (count ≡ 0)))
             (A.acts mid (call.Read self.old.id usize.MAX true) answer.Pending at.new × (count ≡ 0)) }
         ensures armed { OnPending result (IsArmed cx.new) }
@@ -406,8 +406,8 @@ fn read_each<A: At>(
     ensures value { (mid : A) × (count : ℕ) × IsPlaced A.acts id bufs.old at.old bufs.new mid count
         × MatchAnswer result
         (λ answered. MatchOption answered ((count ≡ 0) × A.acts mid (call.Read id usize.MAX true) answer.Ended at.new)
-            (λ n. (n ≡ count) × (((n ≡ length bufs.old) × (mid ≡ at.new))
-                ⊎ ((0 < n) × (A.stays mid at.new ⊎ ((r : AReply (AToldValue A.HandshakeData)) × A.acts mid (call.Read id usize.MAX true) r at.new × EndsReads r))))))
+        (λ n. (n ≡ count) × (((n ≡ length bufs.old) × (mid ≡ at.new))
+        ⊎ ((0 < n) × (A.stays mid at.new ⊎ ((r : AReply (AToldValue A.HandshakeData)) × A.acts mid (call.Read id usize.MAX true) r at.new × EndsReads r))))))
         (λ e. IsFrom (read_origin e) (λ r. A.acts mid (call.Read id usize.MAX true) r at.new × ((count ≡ 0) ⊎ (is_reset e ≡ true))) (A.stays mid at.new × (count ≡ 0)))
         (A.acts mid (call.Read id usize.MAX true) answer.Pending at.new × (count ≡ 0)) }
     ensures armed { OnPending result (IsArmed cx.new) }

@@ -1,4 +1,4 @@
-use Rattle.std.proofs.Common.{◌+◌, ◌≤◌, length}
+use Rattle.std.proofs.Common.{◌≤◌, length}
 use Rattle.futures.specs.Task.{Keeps}
 use Rattle.qh_handles.specs.Chains.{IsGathered}
 use Rattle.qh_handles.proofs.recv_stream.gather.Given as goal
