@@ -1,4 +1,9 @@
+pub mod Bufs
+pub mod Chains
 pub mod Contexts
+pub mod Kinds
+pub mod Origins
 pub mod Polls
+pub mod Streams
 pub mod Told
 pub mod Turns

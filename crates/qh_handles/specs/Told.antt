@@ -1,5 +1,5 @@
 -- What is told to a call of values that the book doesn't have.
-use Rattle.std.specs.Prelude.{◌≡◌, Bool, true, false, Option, Some, None, is_some}
+use Rattle.std.specs.Prelude.{◌≡◌, Bool, true, false, is_some}
 use Rattle.qh_book.specs.Forms.{MayReply as MayReplyBy}
 use Rattle.qh_book.specs.declared.call.Call.{Call}
 use Rattle.qh_book.specs.declared.call.Call.TheVariants as call

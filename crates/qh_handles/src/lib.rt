@@ -2,8 +2,28 @@
 //! made at a connection's state, which is handed in, or at one that is shared (the trait `At`), and is one step of a book that can be read (`qh_book`).
 #![tactic(auto)]
 
+mod ask;
 mod at;
+mod connecting;
+mod connection;
+mod driver;
+mod error;
+mod recv_stream;
+mod send_stream;
 mod told;
 
 pub use at::{At, DriverPart};
+pub use connecting::{Connecting, HandshakeData};
+pub use connection::{
+    AcceptBi, AcceptUni, Closed, Connection, OpenBi, OpenUni, ReadDatagram, SendDatagram,
+};
+pub use driver::ConnectionDriver;
+pub use error::{
+    ReadError, ReadExactError, ReadToEndError, ResetError, SendDatagramError, StoppedError,
+    WriteError,
+};
+pub use recv_stream::{
+    Read, ReadChunk, ReadChunks, ReadExact, ReadToEnd, ReceivedReset, RecvStream,
+};
+pub use send_stream::{SendStream, Stopped, Write, WriteAll, WriteAllChunks, WriteChunks};
 pub use told::Told;
