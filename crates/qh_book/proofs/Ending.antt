@@ -6,7 +6,7 @@ use Rattle.qh_book.specs.Book.{Book, with_recv, with_send, with_stream_reset, wi
 use Rattle.qh_book.specs.Closing.{Closes, EndsHandle}
 use Rattle.qh_book.specs.Interests.{registered}
 use Rattle.qh_book.specs.Pages.{SendPage, RecvPage, Finished, is_reset, is_writing, live_send, open_recv}
-use Rattle.qh_book.specs.Receiving.{EndsRecv, recv_ended, with_recv_ended, with_stopped}
+use Rattle.qh_book.specs.Receiving.{EndsRecv, recv_ended, with_recv_ended, with_stopped, without_reader}
 use Rattle.qh_book.specs.Sending.{EndsSend, send_ended, send_ended_by, with_send_ended}
 use Rattle.qh_book.specs.Step.{StepsWith}
 use Rattle.qh_book.specs.declared.call.Call.TheVariants as call
@@ -40,6 +40,9 @@ recv_leaves : (o : Option RecvPage) (b : Book) (id : ℕ) → Leaves b (recv_end
 recv_leaves None b id = leaves_same b
 recv_leaves (Some p) b id = either p.gave_error b (with_recv b id (with_stopped p)) b (leaves_same b) (record { handles = refl; error = refl })
 
+reader_leaves : (b c : Book) (id : ℕ) → Leaves b c → Leaves b (without_reader id c)
+reader_leaves b c id l = record { handles = l.handles; error = l.error }
+
 -- ---- the last handle
 
 last_closes : (b c : Book) → Leaves b c → b.handles ≤ 1 → b.error ≡ None → IsClosed (without_handle c)
@@ -68,8 +71,9 @@ module _ {T : Type 0} where
   last_send b c id r items s few none = send_closes b s.1.made c id r few none s.1.allows s.1.is_after
 
   recv_closes : (b m c : Book) (id : StreamId) (r : Reply T) → b.handles ≤ 1 → b.error ≡ None → EndsRecv b id r m → c ≡ registered (call.EndRecv id) r m → IsClosed c
-  recv_closes b m c id reply.Done few none h is = rw (is ∙ h) (last_closes b (with_recv_ended b id.0) (either (is_some b.error) b (recv_ended (open_recv (b.recvs id.0)) b id.0) b (leaves_same b) (recv_leaves (open_recv (b.recvs id.0)) b id.0)) few none)
+  recv_closes b m c id reply.Done few none h is = rw (is ∙ h) (last_closes b (without_reader id.0 (with_recv_ended b id.0))
+      (reader_leaves b (with_recv_ended b id.0) id.0 (either (is_some b.error) b (recv_ended (open_recv (b.recvs id.0)) b id.0) b (leaves_same b) (recv_leaves (open_recv (b.recvs id.0)) b id.0))) few none)
   recv_closes b m c id r few none h is = absurd h
 
-  pub last_recv : (b c : Book) (id : StreamId) (r : Reply T) (items : List Item) → StepsWith b (call.EndRecv id) r items c → b.handles ≤ 1 → b.error ≡ None → IsClosed c
-  last_recv b c id r items s few none = recv_closes b s.1.made c id r few none s.1.allows s.1.is_after
+  pub last_recv : (b c : Book) (id : StreamId) (r : Reply T) (items : List Item) → b.readers id.0 ≡ true → StepsWith b (call.EndRecv id) r items c → b.handles ≤ 1 → b.error ≡ None → IsClosed c
+  last_recv b c id r items held s few none = recv_closes b s.1.made c id r few none (rw held at s.1.allows) s.1.is_after

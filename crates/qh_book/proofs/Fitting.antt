@@ -1,7 +1,8 @@
 -- An allowed reply has a form that the call may have.
-use Rattle.std.proofs.Common.{◌≡◌, ◌⊎◌, ℕ, ℤ, ◌<◌, min, Bool, List, [], ◌∷◌, length, Option, Some, None, refl, arith, inl, inr}
+use Rattle.std.proofs.Common.{◌≡◌, ◌⊎◌, ℕ, ℤ, ◌<◌, min, Bool, List, [], ◌∷◌, length, Option, Some, None, refl, sym, arith, inl, inr, subst}
 use Rattle.qh_base.specs.declared.stream_id.StreamId.{StreamId}
 use Rattle.qh_base.specs.declared.connection_error.ConnectionError.{ConnectionError}
+use Rattle.qh_book.proofs.Held.{by_held}
 use Rattle.qh_book.specs.Book.{Book, room}
 use Rattle.qh_book.specs.Closing.{ClonesHandle, Closes, EndsHandle, IsLost, TellsCloseReason}
 use Rattle.qh_book.specs.Datagrams.{ReadsDatagram, SendsDatagram}
@@ -204,7 +205,7 @@ module _ {T : Type 0} where
   closed_form : (error : Option ConnectionError) (page : Option RecvPage) (max_length : ℕ) (r : Reply T) → ReadsClosed error page max_length r → MayRead max_length r
   closed_form error page max_length (reply.Bytes offset bytes) h = (rw h.1 (omega arith), inl h.0)
   closed_form error page max_length reply.Ended h = h.0
-  closed_form error page max_length reply.ClosedStream h = h.0
+  closed_form error page max_length reply.ClosedStream h = tt
   closed_form error page max_length (reply.ConnectionLost e) h = h.0
   closed_form error page max_length r h = absurd h
 
@@ -212,18 +213,22 @@ module _ {T : Type 0} where
   reads_form b m id max_length is_ordered r (inl h) = closed_form b.error (b.recvs id.0) max_length r h.1
   reads_form b m id max_length is_ordered r (inr h) = page_form b.error h.page h.left max_length is_ordered r h.reads
 
+  -- the reply of a half that no handle holds
+  unheld_form : (P : Reply T → Type 0) (b m : Book) (r s : Reply T) → P s → (r ≡ s) × (m ≡ b) → P r
+  unheld_form P b m r s form h = subst (λ (x : Reply T). P x) (sym h.0) form
+
   allowed_form : (Is : Call → T → Type 0) (b m : Book) (c : Call) (r : Reply T) → Allows b c r m → IfTold (Is c) r → MayReply Is c r
   allowed_form Is b m call.Connecting r h told = connects_form b m r h
   allowed_form Is b m call.HandshakeData r h told = handshake_form Is b m r h told
   allowed_form Is b m (call.Open dir) r h told = opens_form b m dir r h
   allowed_form Is b m (call.Accept dir) r h told = accepts_form b m dir r h
-  allowed_form Is b m (call.Read id max_length is_ordered) r h told = reads_form b m id max_length is_ordered r h
+  allowed_form Is b m (call.Read id max_length is_ordered) r h told = by_held (b.readers id.0) (reads_form b m id max_length is_ordered r) (unheld_form (MayRead max_length) b m r reply.ClosedStream tt) h
   allowed_form Is b m (call.Write id payload) r h told = writes_form b m id payload r h
   allowed_form Is b m (call.Finish id) r h told = finishes_form b m id r h
   allowed_form Is b m (call.Reset id code) r h told = resets_form b m id code r h
-  allowed_form Is b m (call.Stop id code) r h told = stops_form b m id r h
+  allowed_form Is b m (call.Stop id code) r h told = by_held (b.readers id.0) (stops_form b m id r) (unheld_form MayClose b m r reply.ClosedStream tt) h
   allowed_form Is b m (call.Stopped id) r h told = stop_form b m id r h
-  allowed_form Is b m (call.ReceivedReset id) r h told = reset_form b m id r h
+  allowed_form Is b m (call.ReceivedReset id) r h told = by_held (b.readers id.0) (reset_form b m id r) (unheld_form MayTellCode b m r (reply.Code None) tt) h
   allowed_form Is b m (call.SetPriority id priority) r h told = set_priority_form b m id priority r h
   allowed_form Is b m (call.Priority id) r h told = priority_form b m id r h
   allowed_form Is b m call.ReadDatagram r h told = datagram_form b m r h
@@ -232,7 +237,7 @@ module _ {T : Type 0} where
   allowed_form Is b m call.Closed r h told = lost_form b m r h
   allowed_form Is b m (call.Close now code reason) r h told = closes_form b m r h
   allowed_form Is b m (call.EndSend id) r h told = ends_send_form b m id r h
-  allowed_form Is b m (call.EndRecv id) r h told = ends_recv_form b m id r h
+  allowed_form Is b m (call.EndRecv id) r h told = by_held (b.readers id.0) (ends_recv_form b m id r) (unheld_form IsDone b m r reply.Done tt) h
   allowed_form Is b m call.CloneHandle r h told = clones_form b m r h
   allowed_form Is b m call.EndHandle r h told = ends_form b m r h
   allowed_form Is b m (call.Get g) r h told = gets_form Is b g r h.0 told

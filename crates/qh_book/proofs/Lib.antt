@@ -1,5 +1,6 @@
 mod Ending
 mod Fitting
+mod Held
 mod Pending
 mod Registering
 mod Replies
@@ -9,6 +10,7 @@ mod ShownAcked
 mod ShownArrivals
 mod ShownConfirmed
 mod ShownDatagrams
+mod ShownEmptied
 mod ShownEnds
 mod ShownFirst
 mod ShownFrames

@@ -1,8 +1,9 @@
 -- A call that answers Pending has no other reply, before it and then.
 use Rattle.std.proofs.Common.{◌≡◌, ℕ, zero, suc, Bool, true, false, ◌&&◌, ◌||◌, not, length, Option, Some, None, is_some, if◌then◌else◌, refl, sym, ap, ◌∙◌, inl, inr, subst, eq-eqb}
-use Rattle.std.proofs.lemmas.Bool.{and_from, false≢true}
+use Rattle.std.proofs.lemmas.Bool.{and_from, cases_Bool, false≢true}
 use Rattle.std.proofs.lemmas.Option.{none-some, same_Some}
 use Rattle.qh_base.specs.declared.stream_id.StreamId.{StreamId}
+use Rattle.qh_book.proofs.Held.{by_held, never_pending}
 use Rattle.qh_book.proofs.Registering.{read_interest}
 use Rattle.qh_book.proofs.Replies.{is_waiting}
 use Rattle.qh_book.proofs.Turns.{others_wait}
@@ -15,6 +16,7 @@ use Rattle.qh_book.specs.declared.call.Call.{Call}
 use Rattle.qh_book.specs.declared.call.Call.TheVariants as call
 use Rattle.qh_book.specs.declared.interest.Interest.{Interest}
 use Rattle.qh_book.specs.declared.interest.Interest.TheVariants as waiting
+use Rattle.qh_book.specs.declared.reply.Reply.{Reply}
 use Rattle.qh_book.specs.declared.reply.Reply.TheVariants as reply
 
 -- ---- a reader that waits does so in its mode
@@ -49,14 +51,14 @@ open_put b id q on = rw (eq-eqb id id refl) (rw on refl)
 abbrev Both : (b m : Book) (i : Interest) → Type 0
 Both b m i = (waits b i ≡ true) × (waits m i ≡ true)
 
-reads_wait : (T : Type 0) (b m : Book) (id : StreamId) (max_length : ℕ) (o : Bool) (i : Interest) → Reads {T = T} b id max_length o reply.Pending m → interest_of (call.Read id max_length o) ≡ Some i → Both b m i
-reads_wait T b m id max_length o i (inl closed) is = absurd closed.1
-reads_wait T b m id max_length o i (inr h) is =
+reads_wait : (T : Type 0) (b m : Book) (id : StreamId) (max_length : ℕ) (o : Bool) (i : Interest) → b.readers id.0 ≡ true → Reads {T = T} b id max_length o reply.Pending m → interest_of (call.Read id max_length o) ≡ Some i → Both b m i
+reads_wait T b m id max_length o i held (inl closed) is = absurd closed.1
+reads_wait T b m id max_length o i held (inr h) is =
     let r = h.reads in
     let same : waiting.Read id o ≡ i = same_Some (waiting.Read id o) i (sym (read_interest id max_length o r.1) ∙ is) in
-    let now : waits b (waiting.Read id o) ≡ true = is_waiting b (waiting.Read id o) r.3 (ap (read_waits o) h.is_page ∙ and_from _ _ (ap not r.0) r.2) in
+    let now : waits b (waiting.Read id o) ≡ true = is_waiting b (waiting.Read id o) r.3 (and_from _ _ held (ap (read_waits o) h.is_page ∙ and_from _ _ (ap not r.0) r.2)) in
     let page : open_recv ((with_recv b id.0 (in_mode o h.page)).recvs id.0) ≡ Some (in_mode o h.page) = open_put b id.0 (in_mode o h.page) (open_page (b.recvs id.0) h.page h.is_page) in
-    let later : waits (with_recv b id.0 (in_mode o h.page)) (waiting.Read id o) ≡ true = is_waiting (with_recv b id.0 (in_mode o h.page)) (waiting.Read id o) r.3 (ap (read_waits o) page ∙ waits_in_mode o h.page r.0 r.2) in
+    let later : waits (with_recv b id.0 (in_mode o h.page)) (waiting.Read id o) ≡ true = is_waiting (with_recv b id.0 (in_mode o h.page)) (waiting.Read id o) r.3 (and_from _ _ held (ap (read_waits o) page ∙ waits_in_mode o h.page r.0 r.2)) in
     let then_is : m ≡ with_recv b id.0 (in_mode o h.page) = h.after ∙ ap (with_recv b id.0) r.4 in
     (subst (λ (j : Interest). waits b j ≡ true) same now, subst (λ (j : Interest). waits m j ≡ true) same (rw then_is later))
 
@@ -71,10 +73,15 @@ module _ (T : Type 0) (b m : Book) where
   allowed_waits call.HandshakeData i h is other = absurd (other (sym (same_Some waiting.HandshakeData i is)))
   allowed_waits (call.Open dir) i h is other = stays b m i (waiting.Open dir) is h.0 h.1
   allowed_waits (call.Accept dir) i h is other = stays b m i (waiting.Accept dir) is h.0 h.1
-  allowed_waits (call.Read id max_length o) i h is other = reads_wait T b m id max_length o i h is
+  allowed_waits (call.Read id max_length o) i h is other = elim (cases_Bool (b.readers id.0)) [
+    | inl held ↦ reads_wait T b m id max_length o i held (rw held at h) is
+    | inr off ↦ never_pending {T = T} reply.ClosedStream refl (rw off at h).0
+  ]
   allowed_waits (call.Write id payload) i h is other = stays b m i (waiting.Write id) is h.0 h.1
   allowed_waits (call.Stopped id) i h is other = stays b m i (waiting.Stopped id) is h.0 h.1
-  allowed_waits (call.ReceivedReset id) i h is other = stays b m i (waiting.ReceivedReset id) is h.0 h.1
+  allowed_waits (call.ReceivedReset id) i h is other = by_held (b.readers id.0)
+      (λ (x : (waits b (waiting.ReceivedReset id) ≡ true) × (m ≡ b)). stays b m i (waiting.ReceivedReset id) is x.0 x.1)
+      (λ (x : (◌≡◌ {A = Reply T} reply.Pending (reply.Code None)) × (m ≡ b)). never_pending {T = T} (reply.Code None) refl x.0) h
   allowed_waits call.ReadDatagram i h is other = stays b m i waiting.ReadDatagram is h.0 h.1
   allowed_waits (call.SendDatagram payload wait) i h is other = stays b m i (waiting.SendDatagram (length payload)) (ap (λ (w : Bool). if w then Some (waiting.SendDatagram (length payload)) else None) (sym h.0) ∙ is) h.1 h.2
   allowed_waits call.Closed i h is other = stays b m i waiting.Closed is h.0 h.1

@@ -2,6 +2,7 @@
 use Rattle.std.proofs.Common.{◌≡◌, ℕ, ◌<◌, ◌==◌, Bool, true, false, ◌||◌, length, Option, Some, refl, sym, ap, arith, inl, inr, subst, eq-eqb}
 use Rattle.std.proofs.lemmas.Bool.{and_from, and_parts, eqb-true, false≢true, ne_eqb}
 use Rattle.qh_base.specs.declared.stream_id.StreamId.{StreamId}
+use Rattle.qh_book.proofs.Held.{by_held, is_pending, never_pending}
 use Rattle.qh_book.specs.Book.{Book}
 use Rattle.qh_book.specs.Interests.{interest_of, is_same, is_same_dir, is_same_order, with_interest}
 use Rattle.qh_book.specs.Promises.{IsRegistered}
@@ -14,6 +15,7 @@ use Rattle.qh_book.specs.declared.call.Getter.{Getter}
 use Rattle.qh_book.specs.declared.call.Getter.TheVariants as getter
 use Rattle.qh_book.specs.declared.interest.Interest.{Interest}
 use Rattle.qh_book.specs.declared.interest.Interest.TheVariants as waiting
+use Rattle.qh_book.specs.declared.reply.Reply.{Reply}
 use Rattle.qh_book.specs.declared.reply.Reply.TheVariants as reply
 use Rattle.qh_spec.specs.declared.sides.Dir.{Dir}
 use Rattle.qh_spec.specs.declared.sides.Dir.TheVariants.{Bi, Uni}
@@ -100,15 +102,21 @@ read_waits_on : (T : Type 0) (b m : Book) (id : StreamId) (max_length : ℕ) (is
 read_waits_on T b m id max_length is_ordered (inl closed) = absurd closed.1
 read_waits_on T b m id max_length is_ordered (inr h) = h.reads.1
 
+-- nothing of a half that no handle holds waits
+none_unheld : {T P : Type 0} (b m : Book) (r : Reply T) → is_pending r ≡ false → (reply.Pending ≡ r) × (m ≡ b) → P
+none_unheld b m r other h = never_pending r other h.0
+
 has_interest : (T : Type 0) (b m : Book) (c : Call) → Allows {T = T} b c reply.Pending m → (i : Interest) × (interest_of c ≡ Some i)
 has_interest T b m call.Connecting h = (waiting.Connecting, refl)
 has_interest T b m call.HandshakeData h = (waiting.HandshakeData, refl)
 has_interest T b m (call.Open dir) h = (waiting.Open dir, refl)
 has_interest T b m (call.Accept dir) h = (waiting.Accept dir, refl)
-has_interest T b m (call.Read id max_length is_ordered) h = (waiting.Read id is_ordered, read_interest id max_length is_ordered (read_waits_on T b m id max_length is_ordered h))
+has_interest T b m (call.Read id max_length is_ordered) h = (waiting.Read id is_ordered, read_interest id max_length is_ordered (by_held (b.readers id.0) (read_waits_on T b m id max_length is_ordered) (none_unheld {T = T} b m reply.ClosedStream refl) h))
 has_interest T b m (call.Write id payload) h = (waiting.Write id, refl)
 has_interest T b m (call.Stopped id) h = (waiting.Stopped id, refl)
 has_interest T b m (call.ReceivedReset id) h = (waiting.ReceivedReset id, refl)
+has_interest T b m (call.Stop id code) h = by_held (b.readers id.0) (λ (x : ⊥). absurd x) (none_unheld {T = T} b m reply.ClosedStream refl) h
+has_interest T b m (call.EndRecv id) h = by_held (b.readers id.0) (λ (x : ⊥). absurd x) (none_unheld {T = T} b m reply.Done refl) h
 has_interest T b m call.ReadDatagram h = (waiting.ReadDatagram, refl)
 has_interest T b m (call.SendDatagram payload wait) h = (waiting.SendDatagram (length payload), rw h.0 refl)
 has_interest T b m call.Closed h = (waiting.Closed, refl)

@@ -1,5 +1,5 @@
 -- Each call has an allowed reply in each book.
-use Rattle.std.proofs.Common.{◌≡◌, ℕ, ℤ, zero, suc, ◌+◌, ◌<◌, ◌==◌, nat_le, min, Bool, true, false, List, [], ◌∷◌, length, take, Option, Some, None, is_some, refl, sym, arith, inl, inr, zero-lt-suc}
+use Rattle.std.proofs.Common.{◌≡◌, ◌⊎◌, ℕ, ℤ, zero, suc, ◌+◌, ◌<◌, ◌==◌, nat_le, min, Bool, true, false, ◌&&◌, MatchBool, List, [], ◌∷◌, length, take, Option, Some, None, is_some, refl, sym, arith, inl, inr, zero-lt-suc}
 use Rattle.std.proofs.lemmas.Bool.{cases_Bool, eqb-false, false≢true, leb-false, leb-true}
 use Rattle.qh_base.specs.declared.connection_error.ConnectionError.{ConnectionError}
 use Rattle.qh_base.specs.declared.stream_id.StreamId.{StreamId}
@@ -11,8 +11,8 @@ use Rattle.qh_book.specs.Interests.{has_next, has_room_for, is_at_end, is_blocke
 use Rattle.qh_book.specs.Opening.{Accepts, Connects, Opens, with_accepted, with_opened}
 use Rattle.qh_book.specs.Pages.{RecvPage, Finished, is_open, is_reset, is_writing, live_send, open_recv, open_send, unread_at}
 use Rattle.qh_book.specs.Promises.{HasReply}
-use Rattle.qh_book.specs.Receiving.{Reads, ReadsPage, Stops, TellsReset, in_mode, with_error, with_stopped, with_recv_ended}
-use Rattle.qh_book.specs.Sending.{Finishes, Resets, SetsPriority, TellsPriority, TellsStop, Writes, with_send_ended, with_written}
+use Rattle.qh_book.specs.Receiving.{EndsRecv, Reads, ReadsPage, Stops, TellsReset, in_mode, with_error, with_recv_ended, with_stopped, without_reader}
+use Rattle.qh_book.specs.Sending.{Finishes, Resets, SetsPriority, TellsPriority, TellsStop, Writes, is_gone, with_send_ended, with_written}
 use Rattle.qh_book.specs.Step.{Allows, Steps, StepsWith, driven}
 use Rattle.qh_book.specs.Values.{Gets, with_setting}
 use Rattle.qh_book.specs.declared.call.Call.{Call}
@@ -49,7 +49,21 @@ by_option : {X P : Type 0} (o : Option X) → ((x : X) → o ≡ Some x → P) �
 by_option None some none = none refl
 by_option (Some x) some none = some x refl
 
+-- the book is gone once want of memory ended the connection
+kept_still : (b : Book) → (b.is_emptied ≡ false) ⊎ (b.error ≡ None) → is_gone b ≡ false
+kept_still b (inl kept) = rw kept refl
+kept_still b (inr none) = rw none (off b.is_emptied)
+  where
+    off : (x : Bool) → (x && false) ≡ false
+    off true = refl
+    off false = refl
+
 module _ {T : Type 0} where
+  -- of a half that no handle holds this is the reply
+  or_unheld : (P : Reply T → Book → Type 0) (held : Bool) (b : Book) (s : Reply T) → (held ≡ true → Found P) → Found (λ r c. MatchBool held (P r c) ((r ≡ s) × (c ≡ b)))
+  or_unheld P true b s f = f refl
+  or_unheld P false b s f = (s, b, (refl, refl))
+
   connects : (b : Book) → Found (Connects {T = T} b)
   connects b = elim (cases_Bool b.is_connected) [
     | inl up ↦ (reply.Done, b, (up, refl))
@@ -104,8 +118,13 @@ module _ {T : Type 0} where
   tells_stop b id = by_option (live_send (b.sends id.0))
       (λ p is. by_option p.stop_code
       (λ code stop. (reply.Code (Some code), b, (p, is, stop, refl)))
-      (λ free. by_error b (λ e lost. (reply.ConnectionLost e, b, (p, is, free, lost, refl))) (λ none. (reply.Pending, b, (is_waiting b (waiting.Stopped id) none (rw is (rw free refl)), refl)))))
-      (λ gone. (reply.Code None, b, (gone, refl)))
+      (λ free. by_error b (λ e lost. (reply.ConnectionLost e, b, (inl (p, is, free), lost, refl))) (λ none. (reply.Pending, b, (is_waiting b (waiting.Stopped id) none (rw is (rw free refl)), refl)))))
+      (λ gone. by_error b
+      (λ e lost. elim (cases_Bool b.is_emptied) [
+        | inl up ↦ (reply.ConnectionLost e, b, (inr (gone, rw up (rw lost refl)), lost, refl))
+        | inr kept ↦ (reply.Code None, b, (gone, kept_still b (inl kept), refl))
+      ])
+      (λ none. (reply.Code None, b, (gone, kept_still b (inr none), refl))))
 
   sets_priority : (b : Book) (id : StreamId) (priority : ℤ) → Found (SetsPriority {T = T} b id priority)
   sets_priority b id priority = by_option (live_send (b.sends id.0)) (λ p is. (reply.Done, with_send b id.0 (record p { priority = priority }), (p, is, refl))) (λ gone. (reply.ClosedStream, b, (gone, refl)))
@@ -160,15 +179,15 @@ module _ {T : Type 0} where
   stops : (b : Book) (id : StreamId) → Found (Stops {T = T} b id)
   stops b id = by_option (open_recv (b.recvs id.0)) (λ p is. (reply.Done, with_recv b id.0 (with_stopped p), (p, is, refl))) (λ gone. (reply.ClosedStream, b, (gone, refl)))
 
-  tells_reset : (b : Book) (id : StreamId) → Found (TellsReset {T = T} b id)
-  tells_reset b id = by_option (b.recvs id.0) there (λ gone. (reply.Code None, b, (rw gone refl, rw gone refl, refl)))
+  tells_reset : (b : Book) (id : StreamId) → b.readers id.0 ≡ true → Found (TellsReset {T = T} b id)
+  tells_reset b id held = by_option (b.recvs id.0) there (λ gone. (reply.Code None, b, (rw gone refl, rw gone refl, refl)))
     where
       closed : (p : RecvPage) → b.recvs id.0 ≡ Some p → p.reset_code ≡ None → Found (TellsReset {T = T} b id)
       closed p is free = elim (cases_Bool (is_open p.state)) [
         | inr off ↦ (reply.Code None, b, (rw is free, rw is (rw off refl), refl))
         | inl on ↦ by_error b
             (λ e lost. (reply.ConnectionLost e, b, (p, rw is (rw on refl), free, lost, refl)))
-            (λ none. (reply.Pending, b, (is_waiting b (waiting.ReceivedReset id) none (rw is (rw on (rw free refl))), refl)))
+            (λ none. (reply.Pending, b, (is_waiting b (waiting.ReceivedReset id) none (rw held (rw is (rw on (rw free refl)))), refl)))
       ]
 
       there : (p : RecvPage) → b.recvs id.0 ≡ Some p → Found (TellsReset {T = T} b id)
@@ -229,13 +248,13 @@ module _ {T : Type 0} where
   has_reply told b call.HandshakeData = made b call.HandshakeData (λ r a h. h) (reply.Pending, b, refl)
   has_reply told b (call.Open dir) = made b (call.Open dir) (λ r a h. h) (opens b dir)
   has_reply told b (call.Accept dir) = made b (call.Accept dir) (λ r a h. h) (accepts b dir)
-  has_reply told b (call.Read id max_length is_ordered) = made b (call.Read id max_length is_ordered) (λ r a h. h) (reads b id max_length is_ordered)
+  has_reply told b (call.Read id max_length is_ordered) = made b (call.Read id max_length is_ordered) (λ r a h. h) (or_unheld (Reads b id max_length is_ordered) (b.readers id.0) b reply.ClosedStream (λ held. reads b id max_length is_ordered))
   has_reply told b (call.Write id payload) = made b (call.Write id payload) (λ r a h. h) (writes b id payload)
   has_reply told b (call.Finish id) = made b (call.Finish id) (λ r a h. h) (finishes b id)
   has_reply told b (call.Reset id code) = made b (call.Reset id code) (λ r a h. h) (resets b id code)
-  has_reply told b (call.Stop id code) = made b (call.Stop id code) (λ r a h. h) (stops b id)
+  has_reply told b (call.Stop id code) = made b (call.Stop id code) (λ r a h. h) (or_unheld (Stops b id) (b.readers id.0) b reply.ClosedStream (λ held. stops b id))
   has_reply told b (call.Stopped id) = made b (call.Stopped id) (λ r a h. h) (tells_stop b id)
-  has_reply told b (call.ReceivedReset id) = made b (call.ReceivedReset id) (λ r a h. h) (tells_reset b id)
+  has_reply told b (call.ReceivedReset id) = made b (call.ReceivedReset id) (λ r a h. h) (or_unheld (TellsReset b id) (b.readers id.0) b (reply.Code None) (λ held. tells_reset b id held))
   has_reply told b (call.SetPriority id priority) = made b (call.SetPriority id priority) (λ r a h. h) (sets_priority b id priority)
   has_reply told b (call.Priority id) = made b (call.Priority id) (λ r a h. h) (tells_priority b id)
   has_reply told b call.ReadDatagram = made b call.ReadDatagram (λ r a h. h) (reads_datagram b)
@@ -244,7 +263,8 @@ module _ {T : Type 0} where
   has_reply told b call.Closed = made b call.Closed (λ r a h. h) (is_lost b)
   has_reply told b (call.Close now code reason) = made b (call.Close now code reason) (λ r a h. h) (reply.Done, with_close b, refl)
   has_reply told b (call.EndSend id) = made b (call.EndSend id) (λ r a h. h) (reply.Done, without_handle (with_send_ended b id.0), refl)
-  has_reply told b (call.EndRecv id) = made b (call.EndRecv id) (λ r a h. h) (reply.Done, without_handle (with_recv_ended b id.0), refl)
+  has_reply told b (call.EndRecv id) = made b (call.EndRecv id) (λ r a h. h)
+      (or_unheld (EndsRecv b id) (b.readers id.0) b reply.Done (λ held. (reply.Done, without_handle (without_reader id.0 (with_recv_ended b id.0)), refl)))
   has_reply told b call.CloneHandle = made b call.CloneHandle (λ r a h. h) (reply.Done, record b { handles = b.handles + 1 }, refl)
   has_reply told b call.EndHandle = made b call.EndHandle (λ r a h. h) (reply.Done, without_handle b, refl)
   has_reply told b (call.Get g) = made b (call.Get g) (λ r a h. h) (gets told b g)

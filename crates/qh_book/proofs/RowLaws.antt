@@ -134,19 +134,19 @@ unknown_legal T a = record {
   last = _;
   replays = (
     _,
-    (refl, record { made = _; allows = inl (refl, (omega arith, refl, refl), refl); is_after = refl }),
+    (refl, record { made = _; allows = (refl, refl); is_after = refl }),
     (
       _,
-      (refl, record { made = _; allows = inl (refl, (refl, refl), refl); is_after = refl }),
+      (refl, record { made = _; allows = (refl, refl); is_after = refl }),
       (
         _,
         refl,
         (
           _,
-          (refl, record { made = _; allows = inl (refl, (omega arith, refl, refl), refl); is_after = refl }),
+          (refl, record { made = _; allows = (refl, refl); is_after = refl }),
           (
             _,
-            (refl, record { made = _; allows = inl (refl, (refl, refl), refl); is_after = refl }),
+            (refl, record { made = _; allows = (refl, refl); is_after = refl }),
             refl,
           ),
         ),

@@ -2,7 +2,7 @@
 use Rattle.std.proofs.Common.{◌≡◌, ℕ, ◌+◌, ◌/◌, ◌%◌, ◌<◌, ◌≤◌, ◌==◌, nat_lt, Bool, true, false, ◌&&◌, ◌||◌, not, Option, Some, None, is_some, if◌then◌else◌, refl, sym, ap, ◌∙◌, arith, inl, inr, subst}
 use Rattle.std.proofs.lemmas.Bool.{cases_Bool, cases_order, eqb-false, eqb-true, false≢true, le-leb, le-ltb, lt-ltb}
 use Rattle.qh_base.specs.declared.stream_id.StreamId.{StreamId}
-use Rattle.qh_book.specs.Book.{Book, is_read, tally, was_opened}
+use Rattle.qh_book.specs.Book.{Book, held_with, is_read, tally, was_opened}
 use Rattle.qh_book.specs.Interests.{waits}
 use Rattle.qh_book.specs.declared.interest.Interest.TheVariants as waiting
 use Rattle.qh_base.specs.declared.connection_error.ConnectionError.{ConnectionError}
@@ -266,14 +266,26 @@ pub accept_stepped : {notes : ℕ → Note} (T : Type 0) (old new : PlainStreams
     → id.0 ≡ stream_id (other_side old.side) dir (counts_of old (is_two_way dir)).accepted → (counts_of old (is_two_way dir)).accepted < (counts_of old (is_two_way dir)).arrived → IsStreamStep {T = T} b (call.Accept dir) (reply.Opened id) new notes
 accept_stepped T old new b id dir shown is id_is below = record {
   after = with_accepted dir b;
-  allows = (rw (tally_shown old b dir shown) below, id_is ∙ (rw (tally_shown old b dir shown, shown.side) (ap (λ (side : Side). stream_id side dir (counts_of old (is_two_way dir)).accepted) (sym (same_side old.side)))), refl);
+  allows = (rw (tally_shown old b dir shown) below, number_is, refl);
   shows = accepted old new b dir shown is;
-  rest = accepted_rest dir;
+  rest = accepted_rest dir id.0 (sym number_is);
 }
   where
-    accepted_rest : (d : Dir) → with_accepted d b ≡ record b { sends = (with_accepted d b).sends; recvs = (with_accepted d b).recvs; bi = (with_accepted d b).bi; uni = (with_accepted d b).uni; taken = (with_accepted d b).taken; unconfirmed = (with_accepted d b).unconfirmed; handles = b.handles + handles_of d }
-    accepted_rest Bi = refl
-    accepted_rest Uni = refl
+    number_is : id.0 ≡ stream_id (other b.side) dir (tally b dir).accepted
+    number_is = id_is ∙ (rw (tally_shown old b dir shown, shown.side) (ap (λ (side : Side). stream_id side dir (counts_of old (is_two_way dir)).accepted) (sym (same_side old.side))))
+
+    accepted_rest : (d : Dir) (n : ℕ) → stream_id (other b.side) d (tally b d).accepted ≡ n → with_accepted d b ≡ record b {
+      sends = (with_accepted d b).sends;
+      recvs = (with_accepted d b).recvs;
+      readers = held_with b.readers n;
+      bi = (with_accepted d b).bi;
+      uni = (with_accepted d b).uni;
+      taken = (with_accepted d b).taken;
+      unconfirmed = (with_accepted d b).unconfirmed;
+      handles = b.handles + handles_of d;
+    }
+    accepted_rest Bi n is = ap (λ (k : ℕ). record (with_accepted Bi b) { readers = held_with b.readers k }) is
+    accepted_rest Uni n is = ap (λ (k : ℕ). record (with_accepted Uni b) { readers = held_with b.readers k }) is
 
 -- ---- nothing can be opened, or accepted
 

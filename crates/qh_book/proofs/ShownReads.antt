@@ -202,7 +202,7 @@ twice_put false n m o next r is before = is ∙ before
 with_an_error : (r : PlainRecv) (p : RecvPage) → ShowsReading r p → ShowsReading r (with_error p)
 with_an_error r p x = record { state = x.state; unread = x.unread; next = x.next; was_read = x.was_read; read = x.read; end = x.end; reset_code = x.reset_code; dry = x.dry; is_unordered = x.is_unordered }
 
-module _ {notes : ℕ → Note} (old mid new : PlainStreams) (b : Book) (id : StreamId) (max_length : ℕ) (is_ordered : Bool) (live : Bool) (shown : ShowsStreams old notes b) (can : readable_fault_at old.recv id.0 is_ordered ≡ None)
+module _ {notes : ℕ → Note} (old mid new : PlainStreams) (b : Book) (id : StreamId) (max_length : ℕ) (is_ordered : Bool) (live : Bool) (shown : ShowsStreams old notes b) (held : b.readers id.0 ≡ true) (can : readable_fault_at old.recv id.0 is_ordered ≡ None)
     (begins : IsRecvStep (Begins is_ordered) old.recv mid.recv id.0 0) (mid_is : mid ≡ record old { recv = mid.recv }) (new_is : new ≡ counted_closed (record mid { recv = new.recv }) id.0 live) where
   alone : RecvAlone old new
   alone = recv_closed old new new.recv id.0 live (new_is ∙ ap (λ (s : PlainStreams). counted_closed (record s { recv = new.recv }) id.0 live) mid_is)
@@ -223,7 +223,7 @@ module _ {notes : ℕ → Note} (old mid new : PlainStreams) (b : Book) (id : St
 
   page_stepped : (T : Type 0) (r : Reply T) (p q : RecvPage) (note : Note) → open_recv (b.recvs id.0) ≡ Some p → ReadsPage b.error p max_length is_ordered r q → ShowsStreams new (noted notes id.0 note) (with_recv b id.0 q)
       → IsStreamStep {T = T} b (call.Read id max_length is_ordered) r new (noted notes id.0 note)
-  page_stepped T r p q note is reads shows = record { after = with_recv b id.0 q; allows = inr (record { page = p; is_page = is; left = q; reads = reads; after = refl }); shows = shows; rest = refl }
+  page_stepped T r p q note is reads shows = record { after = with_recv b id.0 q; allows = rw held (inr (record { page = p; is_page = is; left = q; reads = reads; after = refl })); shows = shows; rest = refl }
 
   -- what is noted stays
   kept_stepped : (T : Type 0) (r : Reply T) (p q : RecvPage) → open_recv (b.recvs id.0) ≡ Some p → ReadsPage b.error p max_length is_ordered r q → ShowsStreams new (noted notes id.0 (notes id.0)) (with_recv b id.0 q)
@@ -317,7 +317,7 @@ module _ {notes : ℕ → Note} (old mid new : PlainStreams) (b : Book) (id : St
 
 -- ---- reads that are refused for their order
 
-module _ {notes : ℕ → Note} (T : Type 0) (s : PlainStreams) (b : Book) (id : StreamId) (is_ordered : Bool) (shown : ShowsStreams s notes b) (refused : readable_fault_at s.recv id.0 is_ordered ≡ Some readable.IllegalOrderedRead) where
+module _ {notes : ℕ → Note} (T : Type 0) (s : PlainStreams) (b : Book) (id : StreamId) (is_ordered : Bool) (shown : ShowsStreams s notes b) (held : b.readers id.0 ≡ true) (refused : readable_fault_at s.recv id.0 is_ordered ≡ Some readable.IllegalOrderedRead) where
   open_half : (r : PlainRecv) → recv_at s.recv id.0 ≡ Some r → readable_fault r is_ordered ≡ Some readable.IllegalOrderedRead
       → (p : RecvPage) × (open_recv (b.recvs id.0) ≡ Some p) × (b.recvs id.0 ≡ Some p) × (is_out_of_order p is_ordered ≡ true) × (is_done r ≡ false) × (r.is_stopped ≡ false) × ShowsReading r p × IsNoted (notes id.0) p
   open_half r is fault =
@@ -363,7 +363,7 @@ module _ {notes : ℕ → Note} (T : Type 0) (s : PlainStreams) (b : Book) (id :
       let h = open_half r is fault in
       record {
         after = with_recv b id.0 (with_error h.0);
-        allows = inr (record { page = h.0; is_page = h.1; left = with_error h.0; reads = (h.3, some, refl); after = refl });
+        allows = rw held (inr (record { page = h.0; is_page = h.1; left = with_error h.0; reads = (h.3, some, refl); after = refl }));
         shows = shown_noted s b id.0 h.0 (with_error h.0) (record (notes id.0) { gave_error = true }) shown h.2
             (subst (λ (o : Option PlainRecv). ShowsRecv (record (notes id.0) { gave_error = true }) o (Some (with_error h.0))) (sym is)
             (h.4, subst (λ (stopped : Bool). ShowsHalf stopped (record (notes id.0) { gave_error = true }) r (with_error h.0)) (sym h.5) (with_an_error r h.0 h.6, record { none = h.7.none; untold = h.7.untold; gave_error = refl })));
@@ -376,7 +376,7 @@ module _ {notes : ℕ → Note} (T : Type 0) (s : PlainStreams) (b : Book) (id :
       let h = open_half r is fault in
       record {
         after = with_recv b id.0 (in_mode is_ordered h.0);
-        allows = inr (record { page = h.0; is_page = h.1; left = in_mode is_ordered h.0; reads = inl (refl, refl, refl); after = refl });
+        allows = rw held (inr (record { page = h.0; is_page = h.1; left = in_mode is_ordered h.0; reads = inl (refl, refl, refl); after = refl }));
         shows = shown_put s b id.0 h.0 (in_mode is_ordered h.0) shown h.2
             (subst (λ (o : Option PlainRecv). ShowsRecv (notes id.0) o (Some (in_mode is_ordered h.0))) (sym is)
             (h.4, subst (λ (stopped : Bool). ShowsHalf stopped (notes id.0) r (in_mode is_ordered h.0)) (sym h.5) (same_mode r h.0 h.3 h.6, record { none = h.7.none; untold = h.7.untold; gave_error = h.7.gave_error })));

@@ -6,12 +6,10 @@ use Rattle.qh_base.specs.declared.connection_error.ConnectionError.{ConnectionEr
 use Rattle.qh_base.specs.declared.stream_id.StreamId.{StreamId}
 use Rattle.qh_book.proofs.ShownRecvs.{RecvAlone, gone_page, noted_same, page_there, reading_there, recv_closed, shown_recv, stopped_there}
 use Rattle.qh_book.specs.Book.{Book, with_recv}
-use Rattle.qh_book.specs.Interests.{waits}
 use Rattle.qh_book.specs.Pages.{RecvPage, ResetGiven, open_recv}
 use Rattle.qh_book.specs.Receiving.{Reads, Stops, TellsReset, code_of, with_stopped}
 use Rattle.qh_book.specs.Shown.{IsShut, IsStreamStep, Note, ShowsHalf, ShowsRecv, ShowsSend, ShowsStreams, noted}
 use Rattle.qh_book.specs.declared.call.Call.TheVariants as call
-use Rattle.qh_book.specs.declared.interest.Interest.TheVariants as waiting
 use Rattle.qh_book.specs.declared.reply.Reply.TheVariants as reply
 use Rattle.qh_half.specs.Recv.{IsStopped, PlainRecv, is_closed, is_done, reset_code, with_reset_given}
 use Rattle.qh_half.specs.declared.fault.ReadableFault.{ReadableFault}
@@ -95,14 +93,14 @@ stopped_half r next code note p s known untold = cases (is_done next) refl
 gone : (r next : PlainRecv) (code : ℕ) (note : Note) → reset_code r.state ≡ Some code → next ≡ with_reset_given r → (p : RecvPage) → IsShut note p → ShowsRecv note (unless_done next) (Some p)
 gone r next code note has is p shut = let none : unless_done next ≡ None = ap unless_done is ∙ (rw has refl) in subst (λ (o : Option PlainRecv). ShowsRecv note o (Some p)) (sym none) shut
 
-module _ {notes : ℕ → Note} (T : Type 0) (old new : PlainStreams) (b : Book) (id : StreamId) (live : Bool) (shown : ShowsStreams old notes b) (new_is : new ≡ counted_closed (record old { recv = new.recv }) id.0 live) where
+module _ {notes : ℕ → Note} (T : Type 0) (old new : PlainStreams) (b : Book) (id : StreamId) (live : Bool) (shown : ShowsStreams old notes b) (held : b.readers id.0 ≡ true) (new_is : new ≡ counted_closed (record old { recv = new.recv }) id.0 live) where
   pub stop_stepped : (code : ℕ) (s : IsRecvStep (HalfStops code) old.recv new.recv id.0 0) → IsStreamStep {T = T} b (call.Stop id code) reply.Done new (noted notes id.0 (record (notes id.0) { code = reset_code s.half.state }))
   stop_stepped code s =
       let off = or_parts s.half.is_stopped s.half.is_given s.step.not_closed in
       let p = reading_there (notes id.0) (b.recvs id.0) s.half (subst (λ (o : Option PlainRecv). ShowsRecv (notes id.0) o (b.recvs id.0)) s.was (shown.recvs id.0)) off.0 in
       record {
         after = with_recv b id.0 (with_stopped p.0);
-        allows = (p.0, p.1, refl);
+        allows = rw held (p.0, p.1, refl);
         shows = shown_recv old new b id.0 (unless_done s.next) (with_stopped p.0) (record (notes id.0) { code = reset_code s.half.state }) shown (recv_closed old new new.recv id.0 live new_is) s.halves_are (ap is_some s.was)
             (stopped_half s.half s.next code (record (notes id.0) { code = reset_code s.half.state }) p.0 s.step p.3.reset_code p.4.untold);
         rest = refl;
@@ -117,7 +115,7 @@ module _ {notes : ℕ → Note} (T : Type 0) (old new : PlainStreams) (b : Book)
       let half : ShowsHalf false (notes id.0) s.half q.0 = subst (λ (stopped : Bool). ShowsHalf stopped (notes id.0) s.half q.0) off.0 q.3 in
       record {
         after = with_recv b id.0 (record q.0 { state = ResetGiven });
-        allows = (q.0, q.1, half.0.reset_code ∙ sym s.step.1, refl);
+        allows = rw held (q.0, q.1, half.0.reset_code ∙ sym s.step.1, refl);
         shows = shown_recv old new b id.0 (unless_done s.next) (record q.0 { state = ResetGiven }) (record (notes id.0) { code = Some code; is_told = true }) shown (recv_closed old new new.recv id.0 live new_is) s.halves_are (ap is_some s.was)
             (gone s.half s.next code (record (notes id.0) { code = Some code; is_told = true }) (sym s.step.1) s.step.2 (record q.0 { state = ResetGiven }) (record { shut = refl; code = half.0.reset_code ∙ sym s.step.1; told = refl }));
         rest = refl;
@@ -130,7 +128,7 @@ module _ {notes : ℕ → Note} (T : Type 0) (old new : PlainStreams) (b : Book)
       let p = reading_there (notes id.0) (b.recvs id.0) s.half (subst (λ (o : Option PlainRecv). ShowsRecv (notes id.0) o (b.recvs id.0)) s.was (shown.recvs id.0)) off.0 in
       record {
         after = with_recv b id.0 (with_stopped p.0);
-        allows = (p.0, p.1, refl);
+        allows = rw held (p.0, p.1, refl);
         shows = shown_recv old new b id.0 (unless_done s.next) (with_stopped p.0) (record (notes id.0) { code = Some code }) shown (recv_closed old new new.recv id.0 live new_is) s.halves_are (ap is_some s.was)
             (gone s.half s.next code (record (notes id.0) { code = Some code }) (sym s.step.1) s.step.2 (with_stopped p.0) (record { shut = refl; code = p.3.reset_code ∙ sym s.step.1; told = sym p.4.untold }));
         rest = refl;
@@ -155,13 +153,10 @@ module _ {notes : ℕ → Note} (T : Type 0) (old new : PlainStreams) (b : Book)
       at k false is there are = are
 
   pub untold_stepped : IsRecvStep (TakesReset None) old.recv new.recv id.0 0 → b.error ≡ None → IsStreamStep {T = T} b (call.ReceivedReset id) reply.Pending new notes
-  untold_stepped s open_still =
-      let f = no_reset s in
-      let waits_now : waits b (waiting.ReceivedReset id) ≡ true = rw open_still (rw f.1.1 (rw f.1.2 refl)) in
-      record { after = b; allows = (waits_now, refl); shows = f.0; rest = refl }
+  untold_stepped s open_still = let f = no_reset s in record { after = b; allows = rw held (rw open_still (rw f.1.1 (rw f.1.2 refl)), refl); shows = f.0; rest = refl }
 
   pub lost_stepped : (e : ConnectionError) → IsRecvStep (TakesReset None) old.recv new.recv id.0 0 → b.error ≡ Some e → IsStreamStep {T = T} b (call.ReceivedReset id) (reply.ConnectionLost e) new notes
-  lost_stepped e s is = let f = no_reset s in record { after = b; allows = (f.1.0, f.1.1, f.1.2, is, refl); shows = f.0; rest = refl }
+  lost_stepped e s is = let f = no_reset s in record { after = b; allows = rw held (f.1.0, f.1.1, f.1.2, is, refl); shows = f.0; rest = refl }
 
 -- ---- refusals
 
@@ -229,8 +224,8 @@ known_page s b id shown = shown.pages id ∙ (rw (shown.side, shown.bi, shown.un
     counts false false = refl
 
 module _ {notes : ℕ → Note} (T : Type 0) (s : PlainStreams) (b : Book) (id : StreamId) (shown : ShowsStreams s notes b) where
-  pub reset_noted : (code : ℕ) → is_closed_at s.recv id.0 ≡ true → (notes id.0).code ≡ Some code → IsStreamStep {T = T} b (call.ReceivedReset id) (reply.Code (Some code)) s (noted notes id.0 (record (notes id.0) { is_told = true }))
-  reset_noted code closed known = at (recv_at s.recv id.0) (b.recvs id.0) refl refl
+  pub reset_noted : b.readers id.0 ≡ true → (code : ℕ) → is_closed_at s.recv id.0 ≡ true → (notes id.0).code ≡ Some code → IsStreamStep {T = T} b (call.ReceivedReset id) (reply.Code (Some code)) s (noted notes id.0 (record (notes id.0) { is_told = true }))
+  reset_noted held code closed known = at (recv_at s.recv id.0) (b.recvs id.0) refl refl
     where
       has : code_of (b.recvs id.0) ≡ Some code
       has = closed_code (notes id.0) (recv_at s.recv id.0) (b.recvs id.0) (shown.recvs id.0) closed ∙ known
@@ -247,7 +242,7 @@ module _ {notes : ℕ → Note} (T : Type 0) (s : PlainStreams) (b : Book) (id :
       at o None half is = absurd (none-some code (rw is at has))
       at o (Some p) half is = record {
         after = with_recv b id.0 (record p { state = ResetGiven });
-        allows = (p, is, rw is at has, refl);
+        allows = rw held (p, is, rw is at has, refl);
         shows = shown_noted s b id.0 p (record p { state = ResetGiven }) (record (notes id.0) { is_told = true }) shown is
             (same (recv_at s.recv id.0) p (subst (λ (q : Option RecvPage). ShowsRecv (notes id.0) (recv_at s.recv id.0) q) is (shown.recvs id.0)) closed);
         rest = refl;

@@ -1,5 +1,5 @@
 -- What the peer asked of a sending half, and its priority, are told as the book says.
-use Rattle.std.proofs.Common.{◌≡◌, ℕ, ℤ, true, Some, None, refl, sym, ◌∙◌}
+use Rattle.std.proofs.Common.{◌≡◌, ℕ, ℤ, Bool, true, false, ◌&&◌, Some, None, is_some, refl, sym, ap, ◌∙◌, inl}
 use Rattle.qh_base.specs.declared.connection_error.ConnectionError.{ConnectionError}
 use Rattle.qh_base.specs.declared.stream_id.StreamId.{StreamId}
 use Rattle.qh_book.proofs.ShownRefusals.{half_page, no_half}
@@ -14,8 +14,8 @@ use Rattle.qh_halves.specs.SendHalves.{send_at}
 use Rattle.qh_streams.specs.Streams.{PlainStreams}
 
 module _ {notes : ℕ → Note} (T : Type 0) (s : PlainStreams) (b : Book) (id : StreamId) (shown : ShowsStreams s notes b) where
-  pub stop_gone : send_at s.send id.0 ≡ None → TellsStop {T = T} b id (reply.Code None) b
-  stop_gone gone = (no_half s b id shown gone, refl)
+  pub stop_gone : b.is_emptied ≡ false → send_at s.send id.0 ≡ None → TellsStop {T = T} b id (reply.Code None) b
+  stop_gone kept gone = (no_half s b id shown gone, ap (λ (x : Bool). x && is_some b.error) kept, refl)
 
   pub priority_gone : send_at s.send id.0 ≡ None → TellsPriority {T = T} b id reply.ClosedStream b
   priority_gone gone = (no_half s b id shown gone, refl)
@@ -34,7 +34,7 @@ module _ {notes : ℕ → Note} (T : Type 0) (s : PlainStreams) (b : Book) (id :
         let waits_now : waits b (waiting.Stopped id) ≡ true = rw open_still (rw p.1 (rw none refl)) in (waits_now, refl)
 
     pub stop_lost : (e : ConnectionError) → h.stop_reason ≡ None → b.error ≡ Some e → TellsStop {T = T} b id (reply.ConnectionLost e) b
-    stop_lost e free lost = let p = half_page s b id shown h there in (p.0, p.1, p.2 ∙ free, lost, refl)
+    stop_lost e free lost = let p = half_page s b id shown h there in (inl (p.0, p.1, p.2 ∙ free), lost, refl)
 
     pub priority_told : TellsPriority {T = T} b id (reply.Priority h.priority) b
     priority_told = let p = half_page s b id shown h there in (p.0, p.1, sym p.3, refl)

@@ -4,6 +4,7 @@ use Rattle.std.proofs.lemmas.Bool.{false≢true}
 use Rattle.std.proofs.lemmas.Option.{none-some, same_Some}
 use Rattle.qh_base.specs.declared.connection_error.ConnectionError.{ConnectionError}
 use Rattle.qh_base.specs.declared.stream_id.StreamId.{StreamId}
+use Rattle.qh_book.proofs.Held.{both_by_held}
 use Rattle.qh_book.specs.Book.{Book, with_recv, with_send, with_stream_reset}
 use Rattle.qh_book.specs.Closing.{ClonesHandle, Closes, EndsHandle, IsLost, TellsCloseReason}
 use Rattle.qh_book.specs.Datagrams.{IsQueued, ReadsDatagram, SendsDatagram}
@@ -101,9 +102,9 @@ module _ {T : Type 0} where
 
   one_stop : (b m n : Book) (id : StreamId) (r : Reply T) → TellsStop b id r m → TellsStop b id r n → m ≡ n
   one_stop b m n id reply.Pending g h = one g.1 h.1
-  one_stop b m n id (reply.Code None) g h = one g.1 h.1
+  one_stop b m n id (reply.Code None) g h = one g.2 h.2
   one_stop b m n id (reply.Code (Some code)) g h = one g.3 h.3
-  one_stop b m n id (reply.ConnectionLost e) g h = one g.4 h.4
+  one_stop b m n id (reply.ConnectionLost e) g h = one g.2 h.2
   one_stop b m n id r g h = absurd g
 
   one_set_priority : (b m n : Book) (id : StreamId) (priority : ℤ) (r : Reply T) → SetsPriority b id priority r m → SetsPriority b id priority r n → m ≡ n
@@ -200,18 +201,22 @@ module _ {T : Type 0} where
   one_sets b m n s reply.Done g h = one g h
   one_sets b m n s r g h = absurd g
 
+  -- nothing of a half that no handle holds changes
+  one_unheld : (b m n : Book) (r s : Reply T) → (r ≡ s) × (m ≡ b) → (r ≡ s) × (n ≡ b) → m ≡ n
+  one_unheld b m n r s g h = one g.1 h.1
+
   one_allowed : (b m n : Book) (c : Call) (r : Reply T) → Allows b c r m → Allows b c r n → m ≡ n
   one_allowed b m n call.Connecting r g h = one_connects b m n r g h
   one_allowed b m n call.HandshakeData r g h = one_handshake b m n r g h
   one_allowed b m n (call.Open dir) r g h = one_opens b m n dir r g h
   one_allowed b m n (call.Accept dir) r g h = one_accepts b m n dir r g h
-  one_allowed b m n (call.Read id max_length is_ordered) r g h = one_reads b m n id max_length is_ordered r g h
+  one_allowed b m n (call.Read id max_length is_ordered) r g h = both_by_held (b.readers id.0) (one_reads b m n id max_length is_ordered r) (one_unheld b m n r reply.ClosedStream) g h
   one_allowed b m n (call.Write id payload) r g h = one_writes b m n id payload r g h
   one_allowed b m n (call.Finish id) r g h = one_finishes b m n id r g h
   one_allowed b m n (call.Reset id code) r g h = one_resets b m n id code r g h
-  one_allowed b m n (call.Stop id code) r g h = one_stops b m n id r g h
+  one_allowed b m n (call.Stop id code) r g h = both_by_held (b.readers id.0) (one_stops b m n id r) (one_unheld b m n r reply.ClosedStream) g h
   one_allowed b m n (call.Stopped id) r g h = one_stop b m n id r g h
-  one_allowed b m n (call.ReceivedReset id) r g h = one_reset b m n id r g h
+  one_allowed b m n (call.ReceivedReset id) r g h = both_by_held (b.readers id.0) (one_reset b m n id r) (one_unheld b m n r (reply.Code None)) g h
   one_allowed b m n (call.SetPriority id priority) r g h = one_set_priority b m n id priority r g h
   one_allowed b m n (call.Priority id) r g h = one_priority b m n id r g h
   one_allowed b m n call.ReadDatagram r g h = one_datagram b m n r g h
@@ -220,7 +225,7 @@ module _ {T : Type 0} where
   one_allowed b m n call.Closed r g h = one_lost b m n r g h
   one_allowed b m n (call.Close now code reason) r g h = one_closes b m n r g h
   one_allowed b m n (call.EndSend id) r g h = one_ends_send b m n id r g h
-  one_allowed b m n (call.EndRecv id) r g h = one_ends_recv b m n id r g h
+  one_allowed b m n (call.EndRecv id) r g h = both_by_held (b.readers id.0) (one_ends_recv b m n id r) (one_unheld b m n r reply.Done) g h
   one_allowed b m n call.CloneHandle r g h = one_clones b m n r g h
   one_allowed b m n call.EndHandle r g h = one_ends b m n r g h
   one_allowed b m n (call.Get getter) r g h = one g.1 h.1

@@ -130,10 +130,14 @@ module _ {T : Type 0} where
   page_waits error p q max_length is_ordered (reply.ConnectionLost e) none some w h = absurd (some_none error e h.3 none)
   page_waits error p q max_length is_ordered r none some w h = absurd h
 
-  reads_wait : (b c : Book) (id : StreamId) (max_length : ℕ) (is_ordered : Bool) (r : Reply T) → 0 < max_length → waits b (waiting.Read id is_ordered) ≡ true → Reads b id max_length is_ordered r c → r ≡ reply.Pending
-  reads_wait b c id max_length is_ordered r some w (inl closed) = absurd (false≢true (rw closed.0 at (open_still b (waiting.Read id is_ordered) w)))
-  reads_wait b c id max_length is_ordered r some w (inr h) =
-      page_waits b.error h.page h.left max_length is_ordered r (no_error b (waiting.Read id is_ordered) w) some (waiting_page h.page is_ordered (rw h.is_page at (open_still b (waiting.Read id is_ordered) w))) h.reads
+  held_reads_wait : (b c : Book) (id : StreamId) (max_length : ℕ) (is_ordered : Bool) (r : Reply T) → 0 < max_length → b.error ≡ None → read_waits is_ordered (open_recv (b.recvs id.0)) ≡ true → Reads b id max_length is_ordered r c → r ≡ reply.Pending
+  held_reads_wait b c id max_length is_ordered r some none w (inl closed) = absurd (false≢true (rw closed.0 at w))
+  held_reads_wait b c id max_length is_ordered r some none w (inr h) = page_waits b.error h.page h.left max_length is_ordered r none some (waiting_page h.page is_ordered (rw h.is_page at w)) h.reads
+
+  reads_wait : (b c : Book) (id : StreamId) (max_length : ℕ) (is_ordered : Bool) (r : Reply T) → 0 < max_length → waits b (waiting.Read id is_ordered) ≡ true → Allows b (call.Read id max_length is_ordered) r c → r ≡ reply.Pending
+  reads_wait b c id max_length is_ordered r some w h =
+      let on = and_parts (b.readers id.0) _ (open_still b (waiting.Read id is_ordered) w) in
+      held_reads_wait b c id max_length is_ordered r some (no_error b (waiting.Read id is_ordered) w) on.1 (rw on.0 at h)
 
   -- ---- the other calls
 
@@ -167,15 +171,20 @@ module _ {T : Type 0} where
   stop_waits_still b c id reply.Pending w h = refl
   stop_waits_still b c id (reply.Code None) w h = absurd (false≢true (rw h.0 at (open_still b (waiting.Stopped id) w)))
   stop_waits_still b c id (reply.Code (Some code)) w h = absurd (some_none h.0.stop_code code h.2 (not_some h.0.stop_code (rw h.1 at (open_still b (waiting.Stopped id) w))))
-  stop_waits_still b c id (reply.ConnectionLost e) w h = lost_not b (waiting.Stopped id) e w h.3
+  stop_waits_still b c id (reply.ConnectionLost e) w h = lost_not b (waiting.Stopped id) e w h.1
   stop_waits_still b c id r w h = absurd h
 
-  reset_waits_still : (b c : Book) (id : StreamId) (r : Reply T) → waits b (waiting.ReceivedReset id) ≡ true → TellsReset b id r c → r ≡ reply.Pending
-  reset_waits_still b c id reply.Pending w h = refl
-  reset_waits_still b c id (reply.Code None) w h = absurd (false≢true (rw h.1 at (open_still b (waiting.ReceivedReset id) w)))
-  reset_waits_still b c id (reply.Code (Some code)) w h = absurd (some_none h.0.reset_code code h.2 (open_page (b.recvs id.0) h.0 h.1 (open_still b (waiting.ReceivedReset id) w)))
-  reset_waits_still b c id (reply.ConnectionLost e) w h = lost_not b (waiting.ReceivedReset id) e w h.3
-  reset_waits_still b c id r w h = absurd h
+  held_reset_waits : (b c : Book) (id : StreamId) (r : Reply T) → b.error ≡ None → reset_waits (open_recv (b.recvs id.0)) ≡ true → TellsReset b id r c → r ≡ reply.Pending
+  held_reset_waits b c id reply.Pending none w h = refl
+  held_reset_waits b c id (reply.Code None) none w h = absurd (false≢true (rw h.1 at w))
+  held_reset_waits b c id (reply.Code (Some code)) none w h = absurd (some_none h.0.reset_code code h.2 (open_page (b.recvs id.0) h.0 h.1 w))
+  held_reset_waits b c id (reply.ConnectionLost e) none w h = absurd (some_none b.error e h.3 none)
+  held_reset_waits b c id r none w h = absurd h
+
+  reset_waits_still : (b c : Book) (id : StreamId) (r : Reply T) → waits b (waiting.ReceivedReset id) ≡ true → Allows b (call.ReceivedReset id) r c → r ≡ reply.Pending
+  reset_waits_still b c id r w h =
+      let on = and_parts (b.readers id.0) _ (open_still b (waiting.ReceivedReset id) w) in
+      held_reset_waits b c id r (no_error b (waiting.ReceivedReset id) w) on.1 (rw on.0 at h)
 
   datagram_waits : (b c : Book) (r : Reply T) → waits b waiting.ReadDatagram ≡ true → ReadsDatagram b r c → r ≡ reply.Pending
   datagram_waits b c reply.Pending w h = refl
@@ -199,7 +208,7 @@ module _ {T : Type 0} where
 
   -- ---- all of them
 
-  read_as : (b c : Book) (id : StreamId) (max_length : ℕ) (is_ordered : Bool) (i : Interest) (r : Reply T) → interest_of (call.Read id max_length is_ordered) ≡ Some i → waits b i ≡ true → Reads b id max_length is_ordered r c → r ≡ reply.Pending
+  read_as : (b c : Book) (id : StreamId) (max_length : ℕ) (is_ordered : Bool) (i : Interest) (r : Reply T) → interest_of (call.Read id max_length is_ordered) ≡ Some i → waits b i ≡ true → Allows b (call.Read id max_length is_ordered) r c → r ≡ reply.Pending
   read_as b c id max_length is_ordered i r is w h = cases (cases_Bool (max_length == 0))
     where
       positive : (n : ℕ) → (n == 0) ≡ false → 0 < n

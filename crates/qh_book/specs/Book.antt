@@ -20,6 +20,10 @@ pub record Book : Type 0 where
   -- the halves of streams by their ids; a half that was never there has no page
   pub sends : ℕ → Option SendPage
   pub recvs : ℕ → Option RecvPage
+  -- the streams whose receiving half a handle holds, by their ids
+  pub readers : ℕ → Bool
+  -- want of memory ended the connection: of its sending halves nothing is known any more
+  pub is_emptied : Bool
   pub bi : Tally
   pub uni : Tally
   -- the peer's first limits on the bytes of a two-way and of a one-way stream that this end opens
@@ -55,6 +59,8 @@ first_book side addresses stable_id send_window datagram_receive datagram_send =
   error = None;
   sends = λ k. None;
   recvs = λ k. None;
+  readers = λ k. false;
+  is_emptied = false;
   bi = no_streams;
   uni = no_streams;
   first_bi = 0;
@@ -110,6 +116,14 @@ with_send b id p = record b { sends = put_at b.sends id p }
 
 abbrev pub with_recv : Book → (id : ℕ) → RecvPage → Book
 with_recv b id p = record b { recvs = put_at b.recvs id p }
+
+-- a handle holds the receiving half of this stream too
+abbrev pub held_with : (readers : ℕ → Bool) → (id : ℕ) → (ℕ → Bool)
+held_with readers id = λ k. k == id || readers k
+
+-- no handle holds that of this one any more
+abbrev pub held_without : (readers : ℕ → Bool) → (id : ℕ) → (ℕ → Bool)
+held_without readers id = λ k. not (k == id) && readers k
 
 -- the half is reset, and its bytes no longer count as unconfirmed
 abbrev pub with_stream_reset : Book → (id code : ℕ) → SendPage → Book

@@ -25,13 +25,13 @@ MayOpen (reply.ConnectionLost e) = Unit {0}
 MayOpen reply.Pending = Unit {0}
 MayOpen r = ⊥
 
--- one of no bytes gives none, and every other one some, or a reason why not
+-- One of no bytes gives none, and every other one some, or a reason why not. A half that no handle holds is closed to both.
 abbrev pub MayRead : {T : Type 0} → (max_length : ℕ) → Reply T → Type 0
 MayRead max_length (reply.Bytes offset bytes) = (length bytes ≤ max_length) × ((max_length ≡ 0) ⊎ (0 < length bytes))
 MayRead max_length reply.Ended = 0 < max_length
 MayRead max_length (reply.Reset code) = 0 < max_length
 MayRead max_length reply.IllegalOrderedRead = 0 < max_length
-MayRead max_length reply.ClosedStream = 0 < max_length
+MayRead max_length reply.ClosedStream = Unit {0}
 MayRead max_length (reply.ConnectionLost e) = 0 < max_length
 MayRead max_length reply.Pending = 0 < max_length
 MayRead max_length r = ⊥

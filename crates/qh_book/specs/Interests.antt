@@ -77,15 +77,16 @@ is_within size (Some most) = nat_le size most
 abbrev pub has_room_for : Book → (size : ℕ) → Bool
 has_room_for b size = nat_le (sum b.queued + size) b.datagram_send
 
+-- a call on a receiving half waits only while a handle holds that half
 abbrev pub waits_open : Book → Interest → Bool
 waits_open b waiting.Connecting = not b.is_connected
 waits_open b waiting.HandshakeData = not b.is_connected
 waits_open b (waiting.Open dir) = nat_le (tally b dir).permitted (tally b dir).opened
 waits_open b (waiting.Accept dir) = nat_le (tally b dir).arrived (tally b dir).accepted
-waits_open b (waiting.Read id is_ordered) = read_waits is_ordered (open_recv (b.recvs id.0))
+waits_open b (waiting.Read id is_ordered) = b.readers id.0 && read_waits is_ordered (open_recv (b.recvs id.0))
 waits_open b (waiting.Write id) = write_waits b (open_send (b.sends id.0))
 waits_open b (waiting.Stopped id) = stop_waits (live_send (b.sends id.0))
-waits_open b (waiting.ReceivedReset id) = reset_waits (open_recv (b.recvs id.0))
+waits_open b (waiting.ReceivedReset id) = b.readers id.0 && reset_waits (open_recv (b.recvs id.0))
 waits_open b waiting.ReadDatagram = is_empty b.datagrams
 waits_open b (waiting.SendDatagram size) = is_some b.datagram_receive && (is_within size b.max_datagram_size && not (has_room_for b size))
 waits_open b waiting.Closed = true

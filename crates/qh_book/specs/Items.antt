@@ -70,9 +70,17 @@ is_memory other = false
 abbrev pub all_accepted : Tally → Tally
 all_accepted t = record t { accepted = max t.accepted t.arrived }
 
--- what waited to be read, accepted, told or sent goes
+-- what waited to be read, accepted, told or sent goes, and with it all sending halves
 abbrev pub without_all_waiting : Book → Book
-without_all_waiting b = record b { recvs = λ k. option_map without_waiting (b.recvs k); bi = all_accepted b.bi; uni = all_accepted b.uni; datagrams = []; queued = [] }
+without_all_waiting b = record b {
+  sends = λ k. None;
+  recvs = λ k. option_map without_waiting (b.recvs k);
+  is_emptied = true;
+  bi = all_accepted b.bi;
+  uni = all_accepted b.uni;
+  datagrams = [];
+  queued = [];
+}
 
 -- the error is kept, in place of one that was kept before
 abbrev pub with_loss : ConnectionError → Book → Book

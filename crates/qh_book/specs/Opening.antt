@@ -1,6 +1,6 @@
 -- What is replied to calls that wait for the handshake, and that open and accept streams.
-use Rattle.std.specs.Prelude.{◌≡◌, ℕ, ◌+◌, ◌<◌, ◌≤◌, true, false, Option, Some, None}
-use Rattle.qh_book.specs.Book.{Book, tally, with_tally}
+use Rattle.std.specs.Prelude.{◌≡◌, ℕ, ◌+◌, ◌<◌, ◌≤◌, Bool, true, false, Option, Some, None}
+use Rattle.qh_book.specs.Book.{Book, held_with, tally, with_tally}
 use Rattle.qh_book.specs.Interests.{waits}
 use Rattle.qh_book.specs.Pages.{RecvPage, new_recv_page, new_send_page, put_at}
 use Rattle.qh_book.specs.declared.interest.Interest.TheVariants as waiting
@@ -39,10 +39,15 @@ abbrev pub with_reader : Dir → (id : ℕ) → (ℕ → Option RecvPage) → (�
 with_reader Bi id pages = put_at pages id new_recv_page
 with_reader Uni id pages = pages
 
+-- the receiving halves that handles hold once this stream is opened by this end
+abbrev pub held_by_opener : Dir → (id : ℕ) → (readers : ℕ → Bool) → (ℕ → Bool)
+held_by_opener Bi id readers = held_with readers id
+held_by_opener Uni id readers = readers
+
 -- the new stream has the first credit of its direction
 abbrev pub with_opened : Dir → (id : ℕ) → Book → Book
 with_opened dir id b = with_tally
-    (record b { sends = put_at b.sends id (new_send_page (first_credit b dir)); recvs = with_reader dir id b.recvs; handles = b.handles + handles_of dir })
+    (record b { sends = put_at b.sends id (new_send_page (first_credit b dir)); recvs = with_reader dir id b.recvs; readers = held_by_opener dir id b.readers; handles = b.handles + handles_of dir })
     dir (record (tally b dir) { opened = (tally b dir).opened + 1 })
 
 -- the kept error comes first
@@ -52,8 +57,11 @@ Opens b dir (reply.ConnectionLost e) c = (b.error ≡ Some e) × (c ≡ b)
 Opens b dir reply.Pending c = (waits b (waiting.Open dir) ≡ true) × (c ≡ b)
 Opens b dir r c = ⊥
 
+-- a handle holds the receiving half of the accepted stream
 abbrev pub with_accepted : Dir → Book → Book
-with_accepted dir b = with_tally (record b { handles = b.handles + handles_of dir }) dir (record (tally b dir) { accepted = (tally b dir).accepted + 1 })
+with_accepted dir b = with_tally
+    (record b { readers = held_with b.readers (stream_id (other b.side) dir (tally b dir).accepted); handles = b.handles + handles_of dir })
+    dir (record (tally b dir) { accepted = (tally b dir).accepted + 1 })
 
 -- a stream that waits comes first, then the kept error
 abbrev pub Accepts : {T : Type 0} → Book → Dir → Reply T → Book → Type 0

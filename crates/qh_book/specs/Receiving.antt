@@ -1,8 +1,8 @@
--- What is replied to calls on the receiving half of a stream (RFC 9000, section 3.2).
+-- What is replied to calls on the receiving half of a stream (RFC 9000, section 3.2) that a handle holds.
 use Rattle.std.specs.Prelude.{◌≡◌, ◌⊎◌, ℕ, ◌+◌, ◌<◌, ◌≤◌, Bool, true, false, ◌||◌, not, [], length, Option, Some, None, is_some, if◌then◌else◌}
 use Rattle.qh_base.specs.declared.connection_error.ConnectionError.{ConnectionError}
 use Rattle.qh_base.specs.declared.stream_id.StreamId.{StreamId}
-use Rattle.qh_book.specs.Book.{Book, with_recv, without_handle}
+use Rattle.qh_book.specs.Book.{Book, held_without, with_recv, without_handle}
 use Rattle.qh_book.specs.Interests.{has_next, is_at_end, is_blocked, is_out_of_order, waits}
 use Rattle.qh_book.specs.Pages.{RecvPage, Stopped, EndGiven, ResetGiven, open_recv, unread_at, with_read, without_unread}
 use Rattle.qh_book.specs.declared.interest.Interest.TheVariants as waiting
@@ -101,6 +101,10 @@ recv_ended (Some p) b id = if p.gave_error then b else with_recv b id (with_stop
 abbrev pub with_recv_ended : Book → (id : ℕ) → Book
 with_recv_ended b id = if is_some b.error then b else recv_ended (open_recv (b.recvs id)) b id
 
+-- no handle holds the receiving half of the stream any more
+abbrev pub without_reader : (id : ℕ) → Book → Book
+without_reader id b = record b { readers = held_without b.readers id }
+
 abbrev pub EndsRecv : {T : Type 0} → Book → StreamId → Reply T → Book → Type 0
-EndsRecv b id reply.Done c = c ≡ without_handle (with_recv_ended b id.0)
+EndsRecv b id reply.Done c = c ≡ without_handle (without_reader id.0 (with_recv_ended b id.0))
 EndsRecv b id r c = ⊥

@@ -48,6 +48,6 @@ abbrev pub row_resets : {T : Type 0} → List (PlainEntry T)
 row_resets = turned (item.Connected ∷ item.FirstCredits 4 0 ∷ item.Credit 6 ∷ item.Count Bi 1 ∷ []) ∷ called (call.Open Bi) (reply.Opened row_id) ∷ turned (item.Run row_id 0 (7 ∷ []) ∷ item.Reset row_id 5 1 ∷ []) ∷ called (call.Stop row_id 0) reply.Done
     ∷ called (call.ReceivedReset row_id) (reply.Code (Some 5)) ∷ turned (item.Lost Memory ∷ []) ∷ called (call.ReceivedReset row_id) (reply.Code (Some 5)) ∷ called (call.Read row_id 2 true) reply.Ended ∷ []
 
--- A stream that was never there is read, before the connection is lost and then.
+-- A stream that no handle holds is read, before the connection is lost and then.
 abbrev pub row_unknown : {T : Type 0} → List (PlainEntry T)
-row_unknown = called (call.Read row_id 2 true) reply.ClosedStream ∷ called (call.Read row_id 0 true) (reply.Bytes 0 []) ∷ turned (item.Lost Memory ∷ []) ∷ called (call.Read row_id 2 true) (reply.ConnectionLost Memory) ∷ called (call.Read row_id 0 true) (reply.Bytes 0 []) ∷ []
+row_unknown = called (call.Read row_id 2 true) reply.ClosedStream ∷ called (call.Read row_id 0 true) reply.ClosedStream ∷ turned (item.Lost Memory ∷ []) ∷ called (call.Read row_id 2 true) reply.ClosedStream ∷ called (call.Read row_id 0 true) reply.ClosedStream ∷ []

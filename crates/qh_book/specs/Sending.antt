@@ -53,10 +53,18 @@ Resets b id code r c = ⊥
 
 -- ---- the peer stops a stream, or confirms all of it
 
+-- want of memory ended the connection, and took its sending halves
+abbrev pub is_gone : Book → Bool
+is_gone b = b.is_emptied && is_some b.error
+
+-- as far as is known the peer neither stopped the half nor confirmed all of it: its page is live and has no code, or want of memory took it
+abbrev pub IsStopUnknown : Book → (id : ℕ) → Type 0
+IsStopUnknown b id = ((p : SendPage) × (live_send (b.sends id) ≡ Some p) × (p.stop_code ≡ None)) ⊎ ((live_send (b.sends id) ≡ None) × (is_gone b ≡ true))
+
 abbrev pub TellsStop : {T : Type 0} → Book → StreamId → Reply T → Book → Type 0
-TellsStop b id (reply.Code None) c = (live_send (b.sends id.0) ≡ None) × (c ≡ b)
+TellsStop b id (reply.Code None) c = (live_send (b.sends id.0) ≡ None) × (is_gone b ≡ false) × (c ≡ b)
 TellsStop b id (reply.Code (Some code)) c = (p : SendPage) × (live_send (b.sends id.0) ≡ Some p) × (p.stop_code ≡ Some code) × (c ≡ b)
-TellsStop b id (reply.ConnectionLost e) c = (p : SendPage) × (live_send (b.sends id.0) ≡ Some p) × (p.stop_code ≡ None) × (b.error ≡ Some e) × (c ≡ b)
+TellsStop b id (reply.ConnectionLost e) c = IsStopUnknown b id.0 × (b.error ≡ Some e) × (c ≡ b)
 TellsStop b id reply.Pending c = (waits b (waiting.Stopped id) ≡ true) × (c ≡ b)
 TellsStop b id r c = ⊥
 

@@ -1,8 +1,8 @@
 -- How a book stands to the streams and the datagrams of a connection: it shows them. Of a half that is done the connection has nothing any more,
 -- and the book a page that says so.
 use Rattle.std.specs.Prelude.{◌≡◌, ℕ, ◌+◌, ◌==◌, nat_lt, Bool, true, false, ◌&&◌, List, [], length, map, Option, Some, None, is_some, if◌then◌else◌}
-use Rattle.qh_book.specs.Book.{Book, is_read, was_opened}
-use Rattle.qh_book.specs.Opening.{handles_of}
+use Rattle.qh_book.specs.Book.{Book, held_with, is_read, was_opened}
+use Rattle.qh_book.specs.Opening.{handles_of, held_by_opener}
 use Rattle.qh_book.specs.Pages.{SendPage, SendState, Writing, Finished, WasReset, RecvPage, RecvState, Reading, ResetGiven, Tally, no_streams, is_open, is_send_done, unread_at}
 use Rattle.qh_book.specs.Step.{Allows}
 use Rattle.qh_book.specs.declared.call.Call.{Call}
@@ -223,12 +223,27 @@ handles_after (call.Open dir) (reply.Opened id) b = b.handles + handles_of dir
 handles_after (call.Accept dir) (reply.Opened id) b = b.handles + handles_of dir
 handles_after c r b = b.handles
 
+-- the receiving halves that handles hold then
+abbrev pub readers_after : {T : Type 0} → Call → Reply T → Book → (ℕ → Bool)
+readers_after (call.Open dir) (reply.Opened id) b = held_by_opener dir id.0 b.readers
+readers_after (call.Accept dir) (reply.Opened id) b = held_with b.readers id.0
+readers_after c r b = b.readers
+
 -- The book allows the reply, and then shows the streams as they are then, with what is noted then. Nothing else of it changes.
 pub record IsStreamStep {T : Type 0} (b : Book) (c : Call) (r : Reply T) (new : PlainStreams) (notes : ℕ → Note) : Type 0 where
   pub after : Book
   pub allows : Allows b c r after
   pub shows : ShowsStreams new notes after
-  pub rest : after ≡ record b { sends = after.sends; recvs = after.recvs; bi = after.bi; uni = after.uni; taken = after.taken; unconfirmed = after.unconfirmed; handles = handles_after c r b }
+  pub rest : after ≡ record b {
+    sends = after.sends;
+    recvs = after.recvs;
+    readers = readers_after c r b;
+    bi = after.bi;
+    uni = after.uni;
+    taken = after.taken;
+    unconfirmed = after.unconfirmed;
+    handles = handles_after c r b;
+  }
 
 -- the same of its datagrams
 pub record IsDatagramStep {T : Type 0} (b : Book) (c : Call) (r : Reply T) (new : PlainDatagrams) (l : DatagramBounds) : Type 0 where

@@ -1,5 +1,5 @@
 -- The step of a book by an entry of the history: a call with its reply, and what a turn of the driver brought.
-use Rattle.std.specs.Prelude.{◌≡◌, true, List, [], Some, is_some}
+use Rattle.std.specs.Prelude.{◌≡◌, MatchBool, true, List, [], Some, None, is_some}
 use Rattle.qh_base.specs.declared.connection_error.ConnectionError.TheVariants as error
 use Rattle.qh_base.specs.declared.transport_error.TransportError.{TransportError}
 use Rattle.qh_book.specs.Book.{Book}
@@ -18,19 +18,20 @@ use Rattle.qh_book.specs.declared.reply.Reply.{Reply}
 use Rattle.qh_book.specs.declared.reply.Reply.TheVariants as reply
 use Rattle.qh_spec.specs.Codes as codes
 
--- the book allows the reply to the call, and is this one then, but for the interest of a call that waits
+-- The book allows the reply to the call, and is this one then, but for the interest of a call that waits. A receiving half that no handle holds is
+-- closed, and stays as it is.
 abbrev pub Allows : {T : Type 0} → Book → Call → Reply T → Book → Type 0
 Allows b call.Connecting r c = Connects b r c
 Allows b call.HandshakeData r c = TellsHandshake b r c
 Allows b (call.Open dir) r c = Opens b dir r c
 Allows b (call.Accept dir) r c = Accepts b dir r c
-Allows b (call.Read id max_length is_ordered) r c = Reads b id max_length is_ordered r c
+Allows b (call.Read id max_length is_ordered) r c = MatchBool (b.readers id.0) (Reads b id max_length is_ordered r c) ((r ≡ reply.ClosedStream) × (c ≡ b))
 Allows b (call.Write id payload) r c = Writes b id payload r c
 Allows b (call.Finish id) r c = Finishes b id r c
 Allows b (call.Reset id code) r c = Resets b id code r c
-Allows b (call.Stop id code) r c = Stops b id r c
+Allows b (call.Stop id code) r c = MatchBool (b.readers id.0) (Stops b id r c) ((r ≡ reply.ClosedStream) × (c ≡ b))
 Allows b (call.Stopped id) r c = TellsStop b id r c
-Allows b (call.ReceivedReset id) r c = TellsReset b id r c
+Allows b (call.ReceivedReset id) r c = MatchBool (b.readers id.0) (TellsReset b id r c) ((r ≡ reply.Code None) × (c ≡ b))
 Allows b (call.SetPriority id priority) r c = SetsPriority b id priority r c
 Allows b (call.Priority id) r c = TellsPriority b id r c
 Allows b call.ReadDatagram r c = ReadsDatagram b r c
@@ -39,7 +40,7 @@ Allows b call.CloseReason r c = TellsCloseReason b r c
 Allows b call.Closed r c = IsLost b r c
 Allows b (call.Close now code reason) r c = Closes b r c
 Allows b (call.EndSend id) r c = EndsSend b id r c
-Allows b (call.EndRecv id) r c = EndsRecv b id r c
+Allows b (call.EndRecv id) r c = MatchBool (b.readers id.0) (EndsRecv b id r c) ((r ≡ reply.Done) × (c ≡ b))
 Allows b call.CloneHandle r c = ClonesHandle b r c
 Allows b call.EndHandle r c = EndsHandle b r c
 Allows b (call.Get getter) r c = Gets b getter r c

@@ -70,6 +70,7 @@ pub enum Item {
     DatagramsSent(usize),
     /// The longest payload of a datagram that may be sent (`ConnectionItem::MaxDatagramSize`).
     MaxDatagramSize(Option<u64>),
-    /// The connection is lost (`ConnectionItem::Lost`). If it is by want of memory, what waited to be read, accepted, told or sent is gone with it.
+    /// The connection is lost (`ConnectionItem::Lost`). If it is by want of memory, what waited to be read, accepted, told or sent is gone with it, and so
+    /// is each sending half.
     Lost(ConnectionError),
 }

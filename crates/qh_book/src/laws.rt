@@ -61,17 +61,18 @@ pub fn turns_settle<T>()
     ensures lost { (b c : Book) (now : AMoment) (r : AReply T) (items : List AnItem) → StepsWith b (call.Drive now) r items c → is_some c.error ≡ true → (i : AnInterest) → c.interests i ≡ false }
 {}
 
-/// A close takes away all calls that wait (`close`). So does the end of the last handle, if no error is kept (`handle`, `send`, `recv`).
+/// A close takes away all calls that wait (`close`). So does the end of the last handle, if no error is kept (`handle`, `send`, and `recv`, if the handle
+/// held the receiving half).
 pub fn closes_wake<T>()
     ensures close { (b c : Book) (now : AMoment) (code : ℕ) (reason : List ℕ) (r : AReply T) (items : List AnItem) → StepsWith b (call.Close now code reason) r items c → IsClosed c }
     ensures handle { (b c : Book) (r : AReply T) (items : List AnItem) → StepsWith b call.EndHandle r items c → b.handles ≤ 1 → b.error ≡ None → IsClosed c }
     ensures send { (b c : Book) (id : AnId) (r : AReply T) (items : List AnItem) → StepsWith b (call.EndSend id) r items c → b.handles ≤ 1 → b.error ≡ None → IsClosed c }
-    ensures recv { (b c : Book) (id : AnId) (r : AReply T) (items : List AnItem) → StepsWith b (call.EndRecv id) r items c → b.handles ≤ 1 → b.error ≡ None → IsClosed c }
+    ensures recv { (b c : Book) (id : AnId) (r : AReply T) (items : List AnItem) → b.readers id.0 ≡ true → StepsWith b (call.EndRecv id) r items c → b.handles ≤ 1 → b.error ≡ None → IsClosed c }
 {}
 
 /// Short histories of a client are legal. It waits until it is connected, opens a stream, writes to it and reads of it, and its handles end, the last of
 /// which closes the connection; no call waits then (`closed`). A stream that the peer reset is stopped, and its code is told, also after a loss for want of
-/// memory (`resets`). A stream that was never there is read (`unknown`).
+/// memory (`resets`). A stream that no handle holds is read (`unknown`).
 pub fn a_legal_history<T>()
     ensures closed { (addresses : APath) → (g : IsLegal {T = T} (row_book addresses) (row_opens ++ row_reads)) × ((i : AnInterest) → g.last.interests i ≡ false) × (g.last.handles ≡ 0) }
     ensures resets { (addresses : APath) → IsLegal {T = T} (row_book addresses) row_resets }

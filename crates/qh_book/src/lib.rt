@@ -20,7 +20,7 @@ pub use laws::{
 };
 pub use reply::Reply;
 pub use shown::{
-    closed_recvs_shown, datagram_refusals_shown, datagrams_shown, ends_shown, first_shown,
-    frames_shown, kept_shown, opens_shown, reads_shown, refusals_shown, sends_told_shown,
-    stops_shown, untold_shown, writes_shown,
+    closed_recvs_shown, datagram_refusals_shown, datagrams_shown, emptied_shown, ends_shown,
+    first_shown, frames_shown, kept_shown, opens_shown, reads_shown, refusals_shown,
+    sends_told_shown, stops_shown, untold_shown, writes_shown,
 };

@@ -5,15 +5,16 @@ ghost use Rattle.qh_base.specs.declared.connection_error.ConnectionError.{Connec
 ghost use Rattle.qh_base.specs.declared.connection_error.ConnectionError.TheVariants as error;
 ghost use Rattle.qh_base.specs.declared.path.FourTuple.{FourTuple as APath};
 ghost use Rattle.qh_base.specs.declared.stream_id.StreamId.{StreamId as AnId};
-ghost use Rattle.qh_book.specs.Book.{Book, first_book, with_close, without_handle};
+ghost use Rattle.qh_book.specs.Book.{Book, first_book, tally, with_close, with_recv, without_handle};
 ghost use Rattle.qh_book.specs.Datagrams.{ReadsDatagram, SendsDatagram};
-ghost use Rattle.qh_book.specs.Interests.{registered, settled};
+ghost use Rattle.qh_book.specs.Interests.{is_out_of_order, registered, settled};
 ghost use Rattle.qh_book.specs.Items.{bring, bring_all, is_memory, item_of};
 ghost use Rattle.qh_book.specs.Opening.{Accepts, Opens};
-ghost use Rattle.qh_book.specs.Pages.{RecvPage, SendPage, live_send, open_recv};
-ghost use Rattle.qh_book.specs.Receiving.{Reads, Stops, TellsReset, with_recv_ended};
+ghost use Rattle.qh_book.specs.Pages.{RecvPage, ResetGiven, SendPage, is_open, live_send, open_recv, unread_at, without_waiting};
+ghost use Rattle.qh_book.specs.Receiving.{Reads, Stops, TellsReset, in_mode, with_error, with_recv_ended, with_stopped};
 ghost use Rattle.qh_book.specs.Sending.{Finishes as FinishReplies, Resets, SetsPriority, TellsPriority, TellsStop, Writes, is_finish_refused, is_reset_refused, with_send_ended};
 ghost use Rattle.qh_book.specs.Shown.{AreFirst, DatagramBounds, IsDatagramStep, IsStreamChange, IsStreamStep, Note as ANote, SameDatagrams, SameStreams, ShowsDatagrams, ShowsStreams, finish_reply, no_note, noted, write_reply};
+ghost use Rattle.qh_book.specs.Step.{Allows};
 ghost use Rattle.qh_book.specs.Values.{with_setting};
 ghost use Rattle.qh_book.specs.declared.call.Call.{Call as ACall};
 ghost use Rattle.qh_book.specs.declared.call.Call.TheVariants as call;
@@ -152,12 +153,13 @@ pub fn refusals_shown<T>()
 {}
 
 /// Of a sending half the code is told with which the peer asked to stop it (`stop`, or `stop_waits`, and `stop_lost` once an error is kept), and its
-/// priority (`priority`). None is told of a half that isn't there (`stop_gone`, `priority_gone`), and it is given none (`set_gone`).
+/// priority (`priority`). None is told of a half that isn't there (`stop_gone`, if want of memory didn't take it, and `priority_gone`), and it is given
+/// none (`set_gone`).
 pub fn sends_told_shown<T>()
     ensures stop { (s : PlainStreams) (notes : ℕ → ANote) (b : Book) (id : AnId) → ShowsStreams s notes b → (h : PlainSend) → send_at s.send id.0 ≡ Some h → (code : ℕ) → h.stop_reason ≡ Some code → TellsStop {T = T} b id (reply.Code (Some code)) b }
     ensures stop_waits { (s : PlainStreams) (notes : ℕ → ANote) (b : Book) (id : AnId) → ShowsStreams s notes b → (h : PlainSend) → send_at s.send id.0 ≡ Some h → h.stop_reason ≡ None → b.error ≡ None → TellsStop {T = T} b id reply.Pending b }
     ensures stop_lost { (s : PlainStreams) (notes : ℕ → ANote) (b : Book) (id : AnId) → ShowsStreams s notes b → (h : PlainSend) → send_at s.send id.0 ≡ Some h → (e : AnError) → h.stop_reason ≡ None → b.error ≡ Some e → TellsStop {T = T} b id (reply.ConnectionLost e) b }
-    ensures stop_gone { (s : PlainStreams) (notes : ℕ → ANote) (b : Book) (id : AnId) → ShowsStreams s notes b → send_at s.send id.0 ≡ None → TellsStop {T = T} b id (reply.Code None) b }
+    ensures stop_gone { (s : PlainStreams) (notes : ℕ → ANote) (b : Book) (id : AnId) → ShowsStreams s notes b → b.is_emptied ≡ false → send_at s.send id.0 ≡ None → TellsStop {T = T} b id (reply.Code None) b }
     ensures priority { (s : PlainStreams) (notes : ℕ → ANote) (b : Book) (id : AnId) → ShowsStreams s notes b → (h : PlainSend) → send_at s.send id.0 ≡ Some h → TellsPriority {T = T} b id (reply.Priority h.priority) b }
     ensures priority_gone { (s : PlainStreams) (notes : ℕ → ANote) (b : Book) (id : AnId) → ShowsStreams s notes b → send_at s.send id.0 ≡ None → TellsPriority {T = T} b id reply.ClosedStream b }
     ensures set_gone { (s : PlainStreams) (notes : ℕ → ANote) (b : Book) (id : AnId) → ShowsStreams s notes b → (priority : ℤ) → send_at s.send id.0 ≡ None → SetsPriority {T = T} b id priority reply.ClosedStream b }
@@ -175,48 +177,49 @@ pub fn opens_shown<T>()
     ensures accept_lost { (s : PlainStreams) (notes : ℕ → ANote) (b : Book) (dir : ADir) (e : AnError) → ShowsStreams s notes b → b.error ≡ Some e → (counts_of s (is_two_way dir)).accepted ≡ (counts_of s (is_two_way dir)).arrived → Accepts {T = T} b dir (reply.ConnectionLost e) b }
 {}
 
-/// A read of a stream gives bytes (`bytes`), the end (`end`) or the peer's reset (`reset`), or finds nothing (`blocked`, and `lost` once an error is
-/// kept). One that is refused for its order gives that error (`illegal`), and if it is of no bytes none (`nothing`).
+/// A read of a stream that a handle holds gives bytes (`bytes`), the end (`end`) or the peer's reset (`reset`), or finds nothing (`blocked`, and `lost`
+/// once an error is kept). One that is refused for its order gives that error (`illegal`), and if it is of no bytes none (`nothing`).
 pub fn reads_shown<T>()
-    ensures bytes { (old mid new : PlainStreams) (notes : ℕ → ANote) (b : Book) (id : AnId) (max_length : ℕ) (is_ordered live : Bool) → ShowsStreams old notes b → readable_fault_at old.recv id.0 is_ordered ≡ None → IsRecvStep (Begins is_ordered) old.recv mid.recv id.0 0
+    ensures bytes { (old mid new : PlainStreams) (notes : ℕ → ANote) (b : Book) (id : AnId) (max_length : ℕ) (is_ordered live : Bool) → ShowsStreams old notes b → b.readers id.0 ≡ true → readable_fault_at old.recv id.0 is_ordered ≡ None → IsRecvStep (Begins is_ordered) old.recv mid.recv id.0 0
         → mid ≡ record old { recv = mid.recv } → new ≡ counted_closed (record mid { recv = new.recv }) id.0 live → (c : AChunk) → IsRecvStep (HalfReads max_length (Ok (Some c))) mid.recv new.recv id.0 0
         → IsStreamStep {T = T} b (call.Read id max_length is_ordered) (reply.Bytes c.offset c.bytes) new notes }
-    ensures end { (old mid new : PlainStreams) (notes : ℕ → ANote) (b : Book) (id : AnId) (max_length : ℕ) (is_ordered live : Bool) → ShowsStreams old notes b → readable_fault_at old.recv id.0 is_ordered ≡ None → IsRecvStep (Begins is_ordered) old.recv mid.recv id.0 0
+    ensures end { (old mid new : PlainStreams) (notes : ℕ → ANote) (b : Book) (id : AnId) (max_length : ℕ) (is_ordered live : Bool) → ShowsStreams old notes b → b.readers id.0 ≡ true → readable_fault_at old.recv id.0 is_ordered ≡ None → IsRecvStep (Begins is_ordered) old.recv mid.recv id.0 0
         → mid ≡ record old { recv = mid.recv } → new ≡ counted_closed (record mid { recv = new.recv }) id.0 live → IsRecvStep (HalfReads max_length (Ok None)) mid.recv new.recv id.0 0
         → IsStreamStep {T = T} b (call.Read id max_length is_ordered) reply.Ended new notes }
-    ensures reset { (old mid new : PlainStreams) (notes : ℕ → ANote) (b : Book) (id : AnId) (max_length : ℕ) (is_ordered live : Bool) → ShowsStreams old notes b → readable_fault_at old.recv id.0 is_ordered ≡ None → IsRecvStep (Begins is_ordered) old.recv mid.recv id.0 0
+    ensures reset { (old mid new : PlainStreams) (notes : ℕ → ANote) (b : Book) (id : AnId) (max_length : ℕ) (is_ordered live : Bool) → ShowsStreams old notes b → b.readers id.0 ≡ true → readable_fault_at old.recv id.0 is_ordered ≡ None → IsRecvStep (Begins is_ordered) old.recv mid.recv id.0 0
         → mid ≡ record old { recv = mid.recv } → new ≡ counted_closed (record mid { recv = new.recv }) id.0 live → (code : ℕ) → IsRecvStep (HalfReads max_length (Err (read_fault.Reset code))) mid.recv new.recv id.0 0
         → IsStreamStep {T = T} b (call.Read id max_length is_ordered) (reply.Reset code) new (noted notes id.0 (record { code = Some code; is_told = true; gave_error = true })) }
-    ensures blocked { (old mid new : PlainStreams) (notes : ℕ → ANote) (b : Book) (id : AnId) (max_length : ℕ) (is_ordered live : Bool) → ShowsStreams old notes b → readable_fault_at old.recv id.0 is_ordered ≡ None → IsRecvStep (Begins is_ordered) old.recv mid.recv id.0 0
+    ensures blocked { (old mid new : PlainStreams) (notes : ℕ → ANote) (b : Book) (id : AnId) (max_length : ℕ) (is_ordered live : Bool) → ShowsStreams old notes b → b.readers id.0 ≡ true → readable_fault_at old.recv id.0 is_ordered ≡ None → IsRecvStep (Begins is_ordered) old.recv mid.recv id.0 0
         → mid ≡ record old { recv = mid.recv } → new ≡ counted_closed (record mid { recv = new.recv }) id.0 live → IsRecvStep (HalfReads max_length (Err read_fault.Blocked)) mid.recv new.recv id.0 0 → b.error ≡ None
         → IsStreamStep {T = T} b (call.Read id max_length is_ordered) reply.Pending new notes }
-    ensures lost { (old mid new : PlainStreams) (notes : ℕ → ANote) (b : Book) (id : AnId) (max_length : ℕ) (is_ordered live : Bool) → ShowsStreams old notes b → readable_fault_at old.recv id.0 is_ordered ≡ None → IsRecvStep (Begins is_ordered) old.recv mid.recv id.0 0
+    ensures lost { (old mid new : PlainStreams) (notes : ℕ → ANote) (b : Book) (id : AnId) (max_length : ℕ) (is_ordered live : Bool) → ShowsStreams old notes b → b.readers id.0 ≡ true → readable_fault_at old.recv id.0 is_ordered ≡ None → IsRecvStep (Begins is_ordered) old.recv mid.recv id.0 0
         → mid ≡ record old { recv = mid.recv } → new ≡ counted_closed (record mid { recv = new.recv }) id.0 live → (e : AnError) → IsRecvStep (HalfReads max_length (Err read_fault.Blocked)) mid.recv new.recv id.0 0 → b.error ≡ Some e
         → IsStreamStep {T = T} b (call.Read id max_length is_ordered) (reply.ConnectionLost e) new (noted notes id.0 (record (notes id.0) { gave_error = true })) }
-    ensures illegal { (s : PlainStreams) (notes : ℕ → ANote) (b : Book) (id : AnId) (max_length : ℕ) (is_ordered : Bool) → ShowsStreams s notes b → readable_fault_at s.recv id.0 is_ordered ≡ Some readable.IllegalOrderedRead → 0 < max_length
+    ensures illegal { (s : PlainStreams) (notes : ℕ → ANote) (b : Book) (id : AnId) (max_length : ℕ) (is_ordered : Bool) → ShowsStreams s notes b → b.readers id.0 ≡ true → readable_fault_at s.recv id.0 is_ordered ≡ Some readable.IllegalOrderedRead → 0 < max_length
         → IsStreamStep {T = T} b (call.Read id max_length is_ordered) reply.IllegalOrderedRead s (noted notes id.0 (record (notes id.0) { gave_error = true })) }
-    ensures nothing { (s : PlainStreams) (notes : ℕ → ANote) (b : Book) (id : AnId) (is_ordered : Bool) (offset : ℕ) → ShowsStreams s notes b → readable_fault_at s.recv id.0 is_ordered ≡ Some readable.IllegalOrderedRead
+    ensures nothing { (s : PlainStreams) (notes : ℕ → ANote) (b : Book) (id : AnId) (is_ordered : Bool) (offset : ℕ) → ShowsStreams s notes b → b.readers id.0 ≡ true → readable_fault_at s.recv id.0 is_ordered ≡ Some readable.IllegalOrderedRead
         → IsStreamStep {T = T} b (call.Read id 0 is_ordered) (reply.Bytes offset []) s notes }
 {}
 
-/// A stream is stopped (`stopped`, and `reset` if the peer's reset is taken for it), and the peer's reset is told (`told`), or waited for (`untold`, and
-/// `lost` once an error is kept).
+/// A stream that a handle holds is stopped (`stopped`, and `reset` if the peer's reset is taken for it), and the peer's reset is told (`told`), or waited
+/// for (`untold`, and `lost` once an error is kept).
 pub fn stops_shown<T>()
-    ensures stopped { (old new : PlainStreams) (notes : ℕ → ANote) (b : Book) (id : AnId) (live : Bool) → ShowsStreams old notes b → new ≡ counted_closed (record old { recv = new.recv }) id.0 live → (code : ℕ) (step : IsRecvStep (HalfStops code) old.recv new.recv id.0 0)
+    ensures stopped { (old new : PlainStreams) (notes : ℕ → ANote) (b : Book) (id : AnId) (live : Bool) → ShowsStreams old notes b → b.readers id.0 ≡ true → new ≡ counted_closed (record old { recv = new.recv }) id.0 live → (code : ℕ) (step : IsRecvStep (HalfStops code) old.recv new.recv id.0 0)
         → IsStreamStep {T = T} b (call.Stop id code) reply.Done new (noted notes id.0 (record (notes id.0) { code = reset_code step.half.state })) }
-    ensures reset { (old new : PlainStreams) (notes : ℕ → ANote) (b : Book) (id : AnId) (live : Bool) → ShowsStreams old notes b → new ≡ counted_closed (record old { recv = new.recv }) id.0 live → (error_code code : ℕ) → IsRecvStep (TakesReset (Some code)) old.recv new.recv id.0 0
+    ensures reset { (old new : PlainStreams) (notes : ℕ → ANote) (b : Book) (id : AnId) (live : Bool) → ShowsStreams old notes b → b.readers id.0 ≡ true → new ≡ counted_closed (record old { recv = new.recv }) id.0 live → (error_code code : ℕ) → IsRecvStep (TakesReset (Some code)) old.recv new.recv id.0 0
         → IsStreamStep {T = T} b (call.Stop id error_code) reply.Done new (noted notes id.0 (record (notes id.0) { code = Some code })) }
-    ensures told { (old new : PlainStreams) (notes : ℕ → ANote) (b : Book) (id : AnId) (live : Bool) → ShowsStreams old notes b → new ≡ counted_closed (record old { recv = new.recv }) id.0 live → (code : ℕ) → IsRecvStep (TakesReset (Some code)) old.recv new.recv id.0 0
+    ensures told { (old new : PlainStreams) (notes : ℕ → ANote) (b : Book) (id : AnId) (live : Bool) → ShowsStreams old notes b → b.readers id.0 ≡ true → new ≡ counted_closed (record old { recv = new.recv }) id.0 live → (code : ℕ) → IsRecvStep (TakesReset (Some code)) old.recv new.recv id.0 0
         → IsStreamStep {T = T} b (call.ReceivedReset id) (reply.Code (Some code)) new (noted notes id.0 (record (notes id.0) { code = Some code; is_told = true })) }
-    ensures untold { (old new : PlainStreams) (notes : ℕ → ANote) (b : Book) (id : AnId) (live : Bool) → ShowsStreams old notes b → new ≡ counted_closed (record old { recv = new.recv }) id.0 live → IsRecvStep (TakesReset None) old.recv new.recv id.0 0 → b.error ≡ None
+    ensures untold { (old new : PlainStreams) (notes : ℕ → ANote) (b : Book) (id : AnId) (live : Bool) → ShowsStreams old notes b → b.readers id.0 ≡ true → new ≡ counted_closed (record old { recv = new.recv }) id.0 live → IsRecvStep (TakesReset None) old.recv new.recv id.0 0 → b.error ≡ None
         → IsStreamStep {T = T} b (call.ReceivedReset id) reply.Pending new notes }
-    ensures lost { (old new : PlainStreams) (notes : ℕ → ANote) (b : Book) (id : AnId) (live : Bool) → ShowsStreams old notes b → new ≡ counted_closed (record old { recv = new.recv }) id.0 live → (e : AnError) → IsRecvStep (TakesReset None) old.recv new.recv id.0 0 → b.error ≡ Some e
+    ensures lost { (old new : PlainStreams) (notes : ℕ → ANote) (b : Book) (id : AnId) (live : Bool) → ShowsStreams old notes b → b.readers id.0 ≡ true → new ≡ counted_closed (record old { recv = new.recv }) id.0 live → (e : AnError) → IsRecvStep (TakesReset None) old.recv new.recv id.0 0 → b.error ≡ Some e
         → IsStreamStep {T = T} b (call.ReceivedReset id) (reply.ConnectionLost e) new notes }
 {}
 
 /// Of a receiving half that the connection has no more, or that was stopped, a read gives no bytes if none are wanted (`nothing`), and otherwise the end
 /// if the stream was opened and this end reads it (`end`). If not it is closed (`closed`), or lost with the connection (`lost`). The code of its reset is
-/// told if it is noted (`code`), and none if none is (`no_code`). Of a half that is read the page says whether a read gave an error (`half`).
+/// told if it is noted and a handle holds the half (`code`), and none if none is (`no_code`). Of a half that is read the page says whether a read gave an
+/// error (`half`).
 pub fn closed_recvs_shown<T>()
     ensures nothing { (s : PlainStreams) (notes : ℕ → ANote) (b : Book) (id : AnId) (is_ordered : Bool) (offset : ℕ) → ShowsStreams s notes b → readable_fault_at s.recv id.0 is_ordered ≡ Some readable.ClosedStream
         → Reads {T = T} b id 0 is_ordered (reply.Bytes offset []) b }
@@ -226,7 +229,7 @@ pub fn closed_recvs_shown<T>()
         → (has_recv s.side id.0 && was_opened s id.0) ≡ false → b.error ≡ None → Reads {T = T} b id max_length is_ordered reply.ClosedStream b }
     ensures lost { (s : PlainStreams) (notes : ℕ → ANote) (b : Book) (id : AnId) (max_length : ℕ) (is_ordered : Bool) (e : AnError) → ShowsStreams s notes b → readable_fault_at s.recv id.0 is_ordered ≡ Some readable.ClosedStream → 0 < max_length
         → (has_recv s.side id.0 && was_opened s id.0) ≡ false → b.error ≡ Some e → Reads {T = T} b id max_length is_ordered (reply.ConnectionLost e) b }
-    ensures code { (s : PlainStreams) (notes : ℕ → ANote) (b : Book) (id : AnId) (code : ℕ) → ShowsStreams s notes b → is_closed_at s.recv id.0 ≡ true → (notes id.0).code ≡ Some code
+    ensures code { (s : PlainStreams) (notes : ℕ → ANote) (b : Book) (id : AnId) (code : ℕ) → ShowsStreams s notes b → b.readers id.0 ≡ true → is_closed_at s.recv id.0 ≡ true → (notes id.0).code ≡ Some code
         → IsStreamStep {T = T} b (call.ReceivedReset id) (reply.Code (Some code)) s (noted notes id.0 (record (notes id.0) { is_told = true })) }
     ensures no_code { (s : PlainStreams) (notes : ℕ → ANote) (b : Book) (id : AnId) → ShowsStreams s notes b → is_closed_at s.recv id.0 ≡ true → (notes id.0).code ≡ None → TellsReset {T = T} b id (reply.Code None) b }
     ensures half { (s : PlainStreams) (notes : ℕ → ANote) (b : Book) (id : ℕ) → ShowsStreams s notes b → is_closed_at s.recv id ≡ false → (p : RecvPage) × (open_recv (b.recvs id) ≡ Some p) × (p.gave_error ≡ (notes id).gave_error) }
@@ -242,4 +245,38 @@ pub fn ends_shown<T>()
     ensures stop { (b c : Book) (id : AnId) → b.error ≡ None → Stops {T = T} b id reply.Done c → (p : RecvPage) → open_recv (b.recvs id.0) ≡ Some p → p.gave_error ≡ false → c ≡ with_recv_ended b id.0 }
     ensures stays { (b : Book) (id : ℕ) → b.error ≡ None → (open_recv (b.recvs id) ≡ None) ⊎ ((p : RecvPage) × (open_recv (b.recvs id) ≡ Some p) × (p.gave_error ≡ true)) → b ≡ with_recv_ended b id }
     ensures lost { (b : Book) (id : ℕ) → is_some b.error ≡ true → (b ≡ with_send_ended b id) × (b ≡ with_recv_ended b id) }
+{}
+
+/// Want of memory ends a connection with that error (`error`): its sending halves are gone (`gone`), no stream waits to be accepted (`accepted`), and no
+/// datagram waits (`datagrams`). A receiving half has a page still if it had one (`none`, `some`), from which what waited is gone. While a handle holds
+/// one of which nothing waits, and that is open, a read finds it lost (`read_lost`), or is refused for its order (`read_illegal`), or gives no bytes if none
+/// are wanted (`read_nothing`); it can be stopped (`stop`), and a reset won't come (`reset_lost`). If it is shut, a read gives the end (`shut_read`), or no
+/// bytes if none are wanted (`shut_nothing`); it isn't stopped again (`shut_stop`), and the code of its reset is told (`shut_code`), or none
+/// (`shut_none`). One that no handle holds is closed to reads and stops (`unheld_read`, `unheld_stop`), no code is told of it (`unheld_reset`), and
+/// nothing is left to end (`unheld_end`).
+pub fn emptied_shown<T>()
+    ensures error { (b : Book) → (bring (item.Lost error.Memory) b).error ≡ Some error.Memory }
+    ensures gone { (b : Book) (id : ℕ) → ((bring (item.Lost error.Memory) b).sends id ≡ None) × ((bring (item.Lost error.Memory) b).is_emptied ≡ true) }
+    ensures accepted { (b : Book) (dir : ADir) → (tally (bring (item.Lost error.Memory) b) dir).arrived ≤ (tally (bring (item.Lost error.Memory) b) dir).accepted }
+    ensures datagrams { (b : Book) → ((bring (item.Lost error.Memory) b).datagrams ≡ []) × ((bring (item.Lost error.Memory) b).queued ≡ []) }
+    ensures none { (b : Book) (k : ℕ) → b.recvs k ≡ None → (bring (item.Lost error.Memory) b).recvs k ≡ None }
+    ensures some { (b : Book) (k : ℕ) (p : RecvPage) → b.recvs k ≡ Some p → (bring (item.Lost error.Memory) b).recvs k ≡ Some (without_waiting p) }
+    ensures read_lost { (b : Book) (id : AnId) (max_length : ℕ) (is_ordered : Bool) (p : RecvPage) (e : AnError) → b.readers id.0 ≡ true → open_recv (b.recvs id.0) ≡ Some p → p.reset_code ≡ None → p.end ≡ None → ((k : ℕ) → unread_at p k ≡ None)
+        → b.error ≡ Some e → 0 < max_length → is_out_of_order p is_ordered ≡ false → Allows {T = T} b (call.Read id max_length is_ordered) (reply.ConnectionLost e) (with_recv b id.0 (with_error (in_mode is_ordered p))) }
+    ensures read_illegal { (b : Book) (id : AnId) (max_length : ℕ) (is_ordered : Bool) (p : RecvPage) → b.readers id.0 ≡ true → open_recv (b.recvs id.0) ≡ Some p → 0 < max_length → is_out_of_order p is_ordered ≡ true
+        → Allows {T = T} b (call.Read id max_length is_ordered) reply.IllegalOrderedRead (with_recv b id.0 (with_error p)) }
+    ensures read_nothing { (b : Book) (id : AnId) (is_ordered : Bool) (p : RecvPage) (offset : ℕ) → b.readers id.0 ≡ true → open_recv (b.recvs id.0) ≡ Some p
+        → Allows {T = T} b (call.Read id 0 is_ordered) (reply.Bytes offset []) (with_recv b id.0 (in_mode is_ordered p)) }
+    ensures stop { (b : Book) (id : AnId) (code : ℕ) (p : RecvPage) → b.readers id.0 ≡ true → open_recv (b.recvs id.0) ≡ Some p → Allows {T = T} b (call.Stop id code) reply.Done (with_recv b id.0 (with_stopped p)) }
+    ensures reset_lost { (b : Book) (id : AnId) (p : RecvPage) (e : AnError) → b.readers id.0 ≡ true → open_recv (b.recvs id.0) ≡ Some p → p.reset_code ≡ None → b.error ≡ Some e → Allows {T = T} b (call.ReceivedReset id) (reply.ConnectionLost e) b }
+    ensures shut_read { (b : Book) (id : AnId) (max_length : ℕ) (is_ordered : Bool) (p : RecvPage) → b.readers id.0 ≡ true → b.recvs id.0 ≡ Some p → is_open p.state ≡ false → 0 < max_length → Allows {T = T} b (call.Read id max_length is_ordered) reply.Ended b }
+    ensures shut_nothing { (b : Book) (id : AnId) (is_ordered : Bool) (p : RecvPage) (offset : ℕ) → b.readers id.0 ≡ true → b.recvs id.0 ≡ Some p → is_open p.state ≡ false → Allows {T = T} b (call.Read id 0 is_ordered) (reply.Bytes offset []) b }
+    ensures shut_stop { (b : Book) (id : AnId) (code : ℕ) (p : RecvPage) → b.readers id.0 ≡ true → b.recvs id.0 ≡ Some p → is_open p.state ≡ false → Allows {T = T} b (call.Stop id code) reply.ClosedStream b }
+    ensures shut_code { (b : Book) (id : AnId) (p : RecvPage) (code : ℕ) → b.readers id.0 ≡ true → b.recvs id.0 ≡ Some p → p.reset_code ≡ Some code
+        → Allows {T = T} b (call.ReceivedReset id) (reply.Code (Some code)) (with_recv b id.0 (record p { state = ResetGiven })) }
+    ensures shut_none { (b : Book) (id : AnId) (p : RecvPage) → b.readers id.0 ≡ true → b.recvs id.0 ≡ Some p → is_open p.state ≡ false → p.reset_code ≡ None → Allows {T = T} b (call.ReceivedReset id) (reply.Code None) b }
+    ensures unheld_read { (b : Book) (id : AnId) (max_length : ℕ) (is_ordered : Bool) → b.readers id.0 ≡ false → Allows {T = T} b (call.Read id max_length is_ordered) reply.ClosedStream b }
+    ensures unheld_stop { (b : Book) (id : AnId) (code : ℕ) → b.readers id.0 ≡ false → Allows {T = T} b (call.Stop id code) reply.ClosedStream b }
+    ensures unheld_reset { (b : Book) (id : AnId) → b.readers id.0 ≡ false → Allows {T = T} b (call.ReceivedReset id) (reply.Code None) b }
+    ensures unheld_end { (b : Book) (id : AnId) → b.readers id.0 ≡ false → Allows {T = T} b (call.EndRecv id) reply.Done b }
 {}

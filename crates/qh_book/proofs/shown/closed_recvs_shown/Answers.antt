@@ -14,7 +14,7 @@ pub returns-clause-lost : goal.returns-clause-lost
 returns-clause-lost g c = λ s notes b id max_length is_ordered e shown refused some. read_unknown_lost g.row.T.Denot s b id shown is_ordered refused max_length some e
 
 pub returns-clause-code : goal.returns-clause-code
-returns-clause-code g c = λ s notes b id code shown. reset_noted g.row.T.Denot s b id shown code
+returns-clause-code g c = λ s notes b id code shown held. reset_noted g.row.T.Denot s b id shown held code
 
 pub returns-clause-no_code : goal.returns-clause-no_code
 returns-clause-no_code g c = λ s notes b id shown. reset_unknown g.row.T.Denot s b id shown
