@@ -41,6 +41,7 @@ use Rattle.qh_packet.specs.Session.{SealsTag}
 use Rattle.qh_shown.proofs.ControlSteps.{all_issued_quiet, IsQuietControl}
 use Rattle.qh_shown.proofs.CoreSteps.{CoreQuiet, CoreStep, close_quiet, core_step, drained_quiet, ended, frames_quiet, kept, open_lives, polled_quiet, quiet_by as core_by, quiet_self, step_self, timed_quiet_core}
 use Rattle.qh_shown.proofs.Datagrams.{datagram_brings}
+use Rattle.qh_shown.proofs.Keeping.{sent_keeps}
 use Rattle.qh_shown.proofs.Steps.{Quiet, Step, brings_by, by_core, by_parts, came_still, came_taken, no_longer, open_brings, quiet_brings, quiet_shows, step_by, taken, taken_on}
 use Rattle.qh_shown.specs.Brings.{Brings, BringsSome, IsLogging, TellsOf, is_told}
 use Rattle.qh_shown.specs.Connections.{IsUngreeted, ShowsConnection, bounds_of, is_wanting_in}
@@ -171,6 +172,7 @@ module _ {S : Type 0} (laws : BookLaws) where
           kept = shown.kept;
           ungreeted = λ none. no_longer c.handshake.peer _ greeted none;
         };
+        keeps = λ notes b shown. sent_keeps count b;
         logs = ap (λ (z : Log). logged z (streamed (streams_taken c.control.log core).space.log)) log ∙ came_taken c.control.log core (entry.DatagramsSent count ∷ [])
             ∙ ap (λ (z : Option (List Item)). logged (logged c.control.log (streamed z)) (entry.DatagramsSent count ∷ [])) k.log;
         logging = λ logging up met on. taken_on c.control.log core ∙ ap (λ (z : Option (List Item)). is_some z) k.log ∙ logging (k.opened (ap is_open (sym t.state) ∙ up)) met

@@ -31,8 +31,10 @@ use Rattle.qh_handshake.specs.declared.initial_space.InitialSpace.{InitialSpace}
 use Rattle.qh_hello.specs.declared.transport_parameters.TransportParameters.{TransportParameters}
 use Rattle.qh_packet.specs.Session.{AcceptsTag}
 use Rattle.qh_shown.proofs.CoreSteps.{CoreStep, core_step, kept}
+use Rattle.qh_shown.proofs.Keeping.{bounded_keeps, first_keeps, keeps_both}
 use Rattle.qh_shown.proofs.Steps.{Quiet, SomeStep, Step, by_parts, connected_step, quiet_by, quiet_step, some_both, some_by}
 use Rattle.qh_shown.specs.Connections.{is_wanting_in}
+use Rattle.qh_shown.specs.Items.{brought}
 use Rattle.qh_shown.specs.Laws.{BookLaws}
 use Rattle.qh_space.specs.Space.{first_streams, fresh_streams}
 use Rattle.qh_space.specs.declared.data_space.DataSpace.{DataSpace}
@@ -153,6 +155,7 @@ module _ {S : Type 0} where
                 kept = shown.kept;
                 ungreeted = λ unread. absurd (none-some p (sym unread ∙ met));
               };
+          keeps = λ notes b shown. let at : Book = bring (item.MaxDatagramSize most) b in keeps_both b at (brought items b) (bounded_keeps most b) (first_keeps peer at);
           logs = ap (λ (z : List ConnectionItem). logged (logged c.control.log items) z) log_is
               ∙ logged_none (logged c.control.log items) ∙ ap (λ (z : Log). logged z items) (sym (ap (λ (z : List ConnectionItem). logged c.control.log z) none ∙ logged_none c.control.log));
           logging = λ logging up greeted on. ap (λ (z : Inner S). is_some z.space.log) begun.rest_is ∙ begun_on c.control.log begun.begun (sym (logged_on c.control.log items) ∙ on);

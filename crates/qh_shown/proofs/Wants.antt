@@ -45,6 +45,7 @@ use Rattle.qh_shown.proofs.ControlSteps.{all_issued_quiet, control_step, control
 use Rattle.qh_shown.proofs.CoreSteps.{live_calm, open_lives, packet_step, timed_quiet_core}
 use Rattle.qh_shown.proofs.Datagrams.{accepted_moved, accepted_peer, core_accepted, counted_step}
 use Rattle.qh_shown.proofs.Greets.{begun_moved, begun_step, met_moved, met_step, not_known, restarted_is, taken_unmet, unmet}
+use Rattle.qh_shown.proofs.Keeping.{bounded_keeps, keeps_lost, lost_keeps}
 use Rattle.qh_shown.proofs.Steps.{SomeStep, Step, accepted_step, quiet_step, some_both, step_both}
 use Rattle.qh_spec.specs.declared.sides.Dir.{Dir}
 use Rattle.qh_spec.specs.declared.sides.Dir.TheVariants.{Bi, Uni}
@@ -168,6 +169,7 @@ module _ {S : Type 0} where
     items = [];
     wanting = ap is_wanting_in f.error;
     shows = λ was_told notes b shown. still_shows (is_wanting old) was_told old new notes b refl f shown;
+    keeps = λ was_told notes b shown. lost_keeps b;
     logs = logs;
   }
 
@@ -182,6 +184,9 @@ module _ {S : Type 0} where
         let l = s.live notes b (shown.live calm) in
         ends_shows was_told mid new notes (brought items b) f e.side e.addresses e.connected
         (live_emptied mid.core.space.streams mid.control.datagrams (bounds_of mid.control) notes (brought items b) l.streams l.datagrams);
+    keeps = λ was_told notes b shown.
+        let calm = live_calm (is_drained old.core.state) (is_wanting old) (open_lives old.core.state up) shown.drained in
+        keeps_lost b (brought items b) (lost_book (brought items b)) (s.keeps notes b (shown.live calm)) (lost_keeps (brought items b));
     logs = logs;
   }
 
@@ -315,6 +320,7 @@ module _ {S : Type 0} where
               front.side front.addresses front.connected
               (live_emptied at.core.space.streams at.control.datagrams (bounds_of mid.control) notes (brought (item ∷ []) b) (laws.streams at.core.space.streams notes b _ (laws.bounds most b) live.streams)
               (subst (λ (z : DatagramBounds). ShowsDatagrams at.control.datagrams z (brought (item ∷ []) b)) (ap (λ (z : Connection S). bounds_of z.control) (sym e)) (laws.bounded at.control.datagrams (bounds_of at.control) b most live.datagrams)));
+          keeps = λ was_told notes b shown. keeps_lost b (brought (item ∷ []) b) (lost_book (brought (item ∷ []) b)) (bounded_keeps most b) (lost_keeps (brought (item ∷ []) b));
           logs = failed_log old mid new (item ∷ []) was is (ap (λ (z : Connection S). z.control.log) f.rest_is) (ap (λ (z : Connection S). z.control.log) e ∙ ap (λ (z : Log). logged z (item ∷ [])) l.log);
         }
     greeting_ends now p old at mid new up was is s l met none (IsGreetingCut.incomplete core client begun cut) f =
