@@ -1,16 +1,15 @@
 -- A connection that is new, and what it went on by before it was taken up.
-use Rattle.std.proofs.Common.{◌≡◌, ℕ, Bool, true, false, List, [], ◌++◌, Option, None, Some, refl, sym, ap, subst, ◌∙◌}
+use Rattle.std.proofs.Common.{◌≡◌, ℕ, true, false, List, [], ◌++◌, None, refl, sym, ap, subst, ◌∙◌}
 use Rattle.qh_base.specs.declared.path.FourTuple.{FourTuple}
 use Rattle.qh_base.specs.declared.time.Moment.{Moment}
 use Rattle.qh_book.specs.Book.{Book, first_book}
-use Rattle.qh_book.specs.Shown.{AreFirst, DatagramBounds, Note, ShowsDatagrams, ShowsStreams, no_note}
+use Rattle.qh_book.specs.Shown.{AreFirst, DatagramBounds, ShowsDatagrams, ShowsStreams, no_note}
 use Rattle.qh_conn.specs.Greeting.{no_early, or_set}
 use Rattle.qh_conn.specs.Parameters.{IsFirstCore, core_config, first_control}
 use Rattle.qh_conn.specs.declared.config.ConnConfig.{ConnConfig}
 use Rattle.qh_conn.specs.declared.connection.Connection.{Connection}
 use Rattle.qh_conn.specs.declared.connection.EarlyLimits.{EarlyLimits}
 use Rattle.qh_control.specs.declared.control.ControlState.{ControlState}
-use Rattle.qh_control.specs.declared.items.ConnectionItem.{ConnectionItem}
 use Rattle.qh_core.specs.declared.config.ConnConfig.{ConnConfig as CoreConfig}
 use Rattle.qh_core.specs.declared.inner.Inner.{Inner}
 use Rattle.qh_datagrams.specs.Datagrams.{PlainDatagrams}

@@ -1,13 +1,12 @@
 -- What the peer's hello brings: how long a datagram it takes, its first limits, and at a client that the handshake is complete.
-use Rattle.std.proofs.Common.{◌≡◌, ℕ, Bool, true, false, if◌then◌else◌, List, [], ◌∷◌, ◌++◌, map, Option, None, Some, is_some, refl, sym, ap, subst, ◌∙◌}
+use Rattle.std.proofs.Common.{◌≡◌, ℕ, Bool, true, false, if◌then◌else◌, List, [], ◌∷◌, map, Option, None, Some, is_some, refl, sym, ap, subst, ◌∙◌}
 use Rattle.std.proofs.lemmas.Bool.{both_ways}
 use Rattle.std.proofs.lemmas.Option.{none-some}
 use Rattle.qh_base.specs.declared.connection_error.ConnectionError.{ConnectionError}
-use Rattle.qh_base.specs.declared.connection_error.ConnectionError.TheVariants.{TransportError as Fault}
 use Rattle.qh_base.specs.declared.time.Moment.{Moment}
 use Rattle.qh_book.specs.Book.{Book}
 use Rattle.qh_book.specs.Items.{bring, bring_all, item_of as stream_item}
-use Rattle.qh_book.specs.Shown.{AreFirst, Note, ShowsStreams}
+use Rattle.qh_book.specs.Shown.{AreFirst, ShowsStreams}
 use Rattle.qh_book.specs.declared.item.Item.TheVariants as item
 use Rattle.qh_conn.proofs.LogKept.{Log, logged_none, logged_on, none_left}
 use Rattle.qh_conn.specs.Greeting.{IsBegunBy, IsGreetedNow, connected, with_core, with_early}
@@ -21,7 +20,6 @@ use Rattle.qh_control.specs.declared.items.ConnectionItem.TheVariants as entry
 use Rattle.qh_converse.specs.Settled.{datagram_of, peer_limits}
 use Rattle.qh_core.specs.Inner.{is_client, is_open}
 use Rattle.qh_core.specs.Timers.{restarted}
-use Rattle.qh_core.specs.declared.config.ConnConfig.{ConnConfig as CoreConfig}
 use Rattle.qh_core.specs.declared.idle.IdleTimer.{IdleTimer}
 use Rattle.qh_core.specs.declared.inner.Inner.{Inner}
 use Rattle.qh_handshake.proofs.GoingOn.{taken_goes}

@@ -1,5 +1,5 @@
--- What items leave of a book: a page that was there stays of its half, and no stream that arrives had one.
-use Rattle.std.proofs.Common.{◌≡◌, ℕ, ◌+◌, ◌%◌, ◌≤◌, ◌==◌, nat_le, nat_lt, max, Bool, true, false, ◌&&◌, ◌||◌, not, List, [], ◌∷◌, ◌++◌, length, map, Option, Some, None, is_some, IfSome, if◌then◌else◌, refl, sym, ap, subst, ◌∙◌, arith}
+-- What items leave of a book: a half that has a page keeps its state and its mode, and no stream that arrives had one.
+use Rattle.std.proofs.Common.{◌≡◌, ℕ, ◌+◌, ◌%◌, ◌==◌, nat_le, nat_lt, max, Bool, true, false, ◌&&◌, not, List, [], ◌∷◌, ◌++◌, length, map, Option, Some, None, is_some, IfSome, if◌then◌else◌, refl, sym, ap, subst, ◌∙◌, arith}
 use Rattle.std.proofs.lemmas.Bool.{and_parts, eqb-true, false≢true, le-leb, leb-true}
 use Rattle.std.proofs.lemmas.Option.{none-some, same_Some}
 use Rattle.std.specs.Option.{option_map}
@@ -15,13 +15,13 @@ use Rattle.qh_buffers.specs.declared.assembler.Chunk.{Chunk}
 use Rattle.qh_half.specs.Send.{PlainSend}
 use Rattle.qh_halves.specs.Counts.{has_recv, has_send, is_bi}
 use Rattle.qh_halves.specs.SendHalves.{send_at}
-use Rattle.qh_shown.specs.Kept.{AreUntouched, IsUncalled, IsUntouched, Keeps, KeepsLost, is_unaccepted}
+use Rattle.qh_shown.specs.Kept.{IsUncalled, IsUntouched, Keeps, KeepsLost, is_unaccepted}
 use Rattle.qh_spec.specs.FrameTypes as frame_types
 use Rattle.qh_spec.specs.declared.sides.Dir.{Dir}
 use Rattle.qh_spec.specs.declared.sides.Dir.TheVariants.{Bi, Uni}
 use Rattle.qh_spec.specs.declared.sides.Side.{Side}
 use Rattle.qh_streams.proofs.StreamsArrived.{closed_before}
-use Rattle.qh_streams.specs.Items.{arrival, confirmed_items, confirmed_of, confirmed_to, end_items, first_items, items_of}
+use Rattle.qh_streams.specs.Items.{arrival, confirmed_items, confirmed_of, end_items, first_items, items_of}
 use Rattle.qh_streams.specs.Streams.{PlainStreams, Refusal, arrives_with, counts_of, first_limit, id_refusal, or_refusal, refusal_of, size_refusal, was_opened}
 use Rattle.qh_streams.specs.declared.frames.PeerLimits.{PeerLimits}
 use Rattle.qh_streams.specs.declared.frames.SentFrame.{SentFrame}
@@ -34,7 +34,7 @@ use Rattle.qh_streams.specs.declared.items.Item.TheVariants as logged
 -- ---- one after another
 
 pub keeps_self : (b : Book) → Keeps b b
-keeps_self b = record { readers = refl; handles = refl; interests = refl; stable_id = refl; error = refl; page = λ k p is. (p, is, refl, refl, refl); untouched = λ u. u }
+keeps_self b = record { readers = refl; handles = refl; interests = refl; stable_id = refl; error = refl; is_emptied = refl; page = λ k p is. (p, is, refl, refl, refl); untouched = λ u. u }
 
 pub keeps_both : (b c d : Book) → Keeps b c → Keeps c d → Keeps b d
 keeps_both b c d x y = record {
@@ -43,6 +43,7 @@ keeps_both b c d x y = record {
   interests = y.interests ∙ x.interests;
   stable_id = y.stable_id ∙ x.stable_id;
   error = y.error ∙ x.error;
+  is_emptied = y.is_emptied ∙ x.is_emptied;
   page = λ k p is. let m = x.page k p is in let n = y.page k m.0 m.1 in (n.0, n.1, n.2 ∙ m.2, n.3 ∙ m.3, n.4 ∙ m.4);
   untouched = λ u. y.untouched (x.untouched u);
 }
@@ -133,6 +134,7 @@ record IsLike (b c : Book) : Type 0 where
   interests : c.interests ≡ b.interests
   stable_id : c.stable_id ≡ b.stable_id
   error : c.error ≡ b.error
+  is_emptied : c.is_emptied ≡ b.is_emptied
   side : c.side ≡ b.side
   bi : c.bi.accepted ≡ b.bi.accepted
   uni : c.uni.accepted ≡ b.uni.accepted
@@ -145,6 +147,7 @@ keeps_like b c l = record {
   interests = l.interests;
   stable_id = l.stable_id;
   error = l.error;
+  is_emptied = l.is_emptied;
   page = λ k. (l.pages k).page;
   untouched = λ u. record {
     unheld = λ k waits. ap (λ (z : ℕ → Bool). z k) l.readers ∙ u.unheld k (sym (same k) ∙ waits);
@@ -165,19 +168,19 @@ keeps_if false b c d x y = y
 
 pub connected_keeps : (b : Book) → Keeps b (bring item.Connected b)
 connected_keeps b =
-    keeps_like b _ (record { readers = refl; handles = refl; interests = refl; stable_id = refl; error = refl; side = refl; bi = refl; uni = refl; pages = λ k. kept_self (b.recvs k) })
+    keeps_like b _ (record { readers = refl; handles = refl; interests = refl; stable_id = refl; error = refl; is_emptied = refl; side = refl; bi = refl; uni = refl; pages = λ k. kept_self (b.recvs k) })
 
 pub datagram_keeps : (payload : List ℕ) (b : Book) → Keeps b (bring (item.Datagram payload) b)
 datagram_keeps payload b =
-    keeps_like b _ (record { readers = refl; handles = refl; interests = refl; stable_id = refl; error = refl; side = refl; bi = refl; uni = refl; pages = λ k. kept_self (b.recvs k) })
+    keeps_like b _ (record { readers = refl; handles = refl; interests = refl; stable_id = refl; error = refl; is_emptied = refl; side = refl; bi = refl; uni = refl; pages = λ k. kept_self (b.recvs k) })
 
 pub sent_keeps : (count : ℕ) (b : Book) → Keeps b (bring (item.DatagramsSent count) b)
 sent_keeps count b =
-    keeps_like b _ (record { readers = refl; handles = refl; interests = refl; stable_id = refl; error = refl; side = refl; bi = refl; uni = refl; pages = λ k. kept_self (b.recvs k) })
+    keeps_like b _ (record { readers = refl; handles = refl; interests = refl; stable_id = refl; error = refl; is_emptied = refl; side = refl; bi = refl; uni = refl; pages = λ k. kept_self (b.recvs k) })
 
 pub bounded_keeps : (most : Option ℕ) (b : Book) → Keeps b (bring (item.MaxDatagramSize most) b)
 bounded_keeps most b =
-    keeps_like b _ (record { readers = refl; handles = refl; interests = refl; stable_id = refl; error = refl; side = refl; bi = refl; uni = refl; pages = λ k. kept_self (b.recvs k) })
+    keeps_like b _ (record { readers = refl; handles = refl; interests = refl; stable_id = refl; error = refl; is_emptied = refl; side = refl; bi = refl; uni = refl; pages = λ k. kept_self (b.recvs k) })
 
 -- ---- want of memory
 
@@ -230,6 +233,7 @@ recv_keeps f same id b = at (open_recv (b.recvs id)) refl
       interests = refl;
       stable_id = refl;
       error = refl;
+      is_emptied = refl;
       side = refl;
       bi = refl;
       uni = refl;
@@ -241,26 +245,26 @@ send_keeps f id b = at (live_send (b.sends id))
   where
     at : (o : Option SendPage) → Keeps b (on_send f o id b)
     at None = keeps_self b
-    at (Some p) = keeps_like b _ (record { readers = refl; handles = refl; interests = refl; stable_id = refl; error = refl; side = refl; bi = refl; uni = refl; pages = λ k. kept_self (b.recvs k) })
+    at (Some p) = keeps_like b _ (record { readers = refl; handles = refl; interests = refl; stable_id = refl; error = refl; is_emptied = refl; side = refl; bi = refl; uni = refl; pages = λ k. kept_self (b.recvs k) })
 
 count_keeps : (dir : Dir) (b : Book) (permitted : ℕ) → Keeps b (with_tally b dir (record (tally b dir) { permitted = permitted }))
 count_keeps Bi b permitted =
-    keeps_like b _ (record { readers = refl; handles = refl; interests = refl; stable_id = refl; error = refl; side = refl; bi = refl; uni = refl; pages = λ k. kept_self (b.recvs k) })
+    keeps_like b _ (record { readers = refl; handles = refl; interests = refl; stable_id = refl; error = refl; is_emptied = refl; side = refl; bi = refl; uni = refl; pages = λ k. kept_self (b.recvs k) })
 count_keeps Uni b permitted =
-    keeps_like b _ (record { readers = refl; handles = refl; interests = refl; stable_id = refl; error = refl; side = refl; bi = refl; uni = refl; pages = λ k. kept_self (b.recvs k) })
+    keeps_like b _ (record { readers = refl; handles = refl; interests = refl; stable_id = refl; error = refl; is_emptied = refl; side = refl; bi = refl; uni = refl; pages = λ k. kept_self (b.recvs k) })
 
 credits_keeps : (bidi uni : ℕ) (b : Book) → Keeps b (bring (item.FirstCredits bidi uni) b)
 credits_keeps bidi uni b =
-    keeps_like b _ (record { readers = refl; handles = refl; interests = refl; stable_id = refl; error = refl; side = refl; bi = refl; uni = refl; pages = λ k. kept_self (b.recvs k) })
+    keeps_like b _ (record { readers = refl; handles = refl; interests = refl; stable_id = refl; error = refl; is_emptied = refl; side = refl; bi = refl; uni = refl; pages = λ k. kept_self (b.recvs k) })
 
 credit_keeps : (limit : ℕ) (b : Book) → Keeps b (bring (item.Credit limit) b)
 credit_keeps limit b =
-    keeps_like b _ (record { readers = refl; handles = refl; interests = refl; stable_id = refl; error = refl; side = refl; bi = refl; uni = refl; pages = λ k. kept_self (b.recvs k) })
+    keeps_like b _ (record { readers = refl; handles = refl; interests = refl; stable_id = refl; error = refl; is_emptied = refl; side = refl; bi = refl; uni = refl; pages = λ k. kept_self (b.recvs k) })
 
 confirmed_keeps : (to : ℕ) (has_end : Bool) (o : Option SendPage) (id : ℕ) (b : Book) → Keeps b (confirmed to has_end o id b)
 confirmed_keeps to has_end None id b = keeps_self b
 confirmed_keeps to has_end (Some p) id b = keeps_if (is_reset p.state) b b _ (keeps_self b)
-    (keeps_like b _ (record { readers = refl; handles = refl; interests = refl; stable_id = refl; error = refl; side = refl; bi = refl; uni = refl; pages = λ k. kept_self (b.recvs k) }))
+    (keeps_like b _ (record { readers = refl; handles = refl; interests = refl; stable_id = refl; error = refl; is_emptied = refl; side = refl; bi = refl; uni = refl; pages = λ k. kept_self (b.recvs k) }))
 
 piece_keeps : (id : StreamId) (offset : ℕ) (payload : List ℕ) (fin : Bool) (b : Book) → Keeps b (bring_all (map item_of (logged.Run id offset payload ∷ end_items fin id (offset + length payload))) b)
 piece_keeps id offset payload fin b = keeps_both b mid _ (recv_keeps (with_run (record { offset = offset; bytes = payload })) (same_run (record { offset = offset; bytes = payload })) id.0 b) (ends fin)
@@ -284,8 +288,8 @@ none_of (Some x) is = absurd (false≢true (sym is))
 
 new_keeps : (b : Book) (sends : ℕ → Option SendPage) (recvs : ℕ → Option RecvPage) (dir : Dir) (arrived : ℕ) → ((k : ℕ) → IsKept (b.recvs k) (recvs k))
     → Keeps b (with_tally (record b { sends = sends; recvs = recvs }) dir (record (tally b dir) { arrived = arrived }))
-new_keeps b sends recvs Bi arrived pages = keeps_like b _ (record { readers = refl; handles = refl; interests = refl; stable_id = refl; error = refl; side = refl; bi = refl; uni = refl; pages = pages })
-new_keeps b sends recvs Uni arrived pages = keeps_like b _ (record { readers = refl; handles = refl; interests = refl; stable_id = refl; error = refl; side = refl; bi = refl; uni = refl; pages = pages })
+new_keeps b sends recvs Bi arrived pages = keeps_like b _ (record { readers = refl; handles = refl; interests = refl; stable_id = refl; error = refl; is_emptied = refl; side = refl; bi = refl; uni = refl; pages = pages })
+new_keeps b sends recvs Uni arrived pages = keeps_like b _ (record { readers = refl; handles = refl; interests = refl; stable_id = refl; error = refl; is_emptied = refl; side = refl; bi = refl; uni = refl; pages = pages })
 
 arrived_keeps : (id credit : ℕ) (b : Book) → ((k : ℕ) → arrives b id k ≡ true → b.recvs k ≡ None) → Keeps b (with_arrived id credit b)
 arrived_keeps id credit b none = new_keeps b _ _ _ _ (λ k. kept_new (arrives b id k) (b.recvs k) (none k))

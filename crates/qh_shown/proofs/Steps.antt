@@ -21,16 +21,14 @@ use Rattle.qh_core.specs.Event.{is_drained}
 use Rattle.qh_core.specs.Inner.{is_open}
 use Rattle.qh_core.specs.declared.config.ConnConfig.{ConnConfig as CoreConfig}
 use Rattle.qh_core.specs.declared.inner.Inner.{Inner}
-use Rattle.qh_core.specs.declared.stats.UdpStats.{UdpStats}
 use Rattle.qh_datagrams.specs.Datagrams.{PlainDatagrams}
 use Rattle.qh_half.specs.Recv.{PlainRecv}
 use Rattle.qh_half.specs.Send.{PlainSend}
 use Rattle.qh_halves.specs.RecvHalves.{recv_at}
 use Rattle.qh_halves.specs.SendHalves.{send_at}
-use Rattle.qh_handshake.specs.declared.handshake.Handshake.{Handshake}
 use Rattle.qh_hello.specs.declared.transport_parameters.TransportParameters.{TransportParameters}
-use Rattle.qh_shown.proofs.Books.{SameEnd, brought_both, brought_streams, came_moved, came_with, of_streams, or_true, some_map, streams_end, with_on}
-use Rattle.qh_shown.proofs.CoreSteps.{CoreQuiet, CoreStep, core_step, live_calm, open_lives}
+use Rattle.qh_shown.proofs.Books.{brought_both, brought_streams, came_moved, came_with, of_streams, or_true, some_map, streams_end, with_on}
+use Rattle.qh_shown.proofs.CoreSteps.{CoreQuiet, CoreStep, live_calm, open_lives}
 use Rattle.qh_shown.proofs.Keeping.{connected_keeps, keeps_both, keeps_self}
 use Rattle.qh_shown.proofs.SpaceSteps.{logged_none as streams_none}
 use Rattle.qh_shown.specs.Brings.{Brings, BringsSome, IsLogging}

@@ -49,5 +49,6 @@ module _ {S : Type 0} where
     pub items : List ConnectionItem
     pub wanting : is_wanting new ≡ true
     pub shows : (was_told : Bool) (notes : ℕ → Note) (b : Book) → ShowsConnection was_told old notes b → ShowsConnection was_told new (spared_all notes (brought items b)) (bring (item.Lost error.Memory) (brought items b))
+    pub before : (was_told : Bool) (notes : ℕ → Note) (b : Book) → ShowsConnection was_told old notes b → Keeps b (brought items b)
     pub keeps : (was_told : Bool) (notes : ℕ → Note) (b : Book) → ShowsConnection was_told old notes b → KeepsLost b (bring (item.Lost error.Memory) (brought items b))
     pub logs : came new ≡ logged (came old) items

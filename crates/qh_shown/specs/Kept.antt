@@ -1,5 +1,5 @@
 -- What items leave of a book.
-use Rattle.std.specs.Prelude.{◌≡◌, ℕ, nat_le, Bool, true, false, ◌&&◌, not, Option, Some, None, IfSome, if◌then◌else◌}
+use Rattle.std.specs.Prelude.{◌≡◌, ℕ, nat_le, Bool, true, false, ◌&&◌, not, Some, None, IfSome, if◌then◌else◌}
 use Rattle.qh_base.specs.declared.connection_error.ConnectionError.TheVariants as error
 use Rattle.qh_book.specs.Book.{Book, index_of, is_own, is_two_way}
 use Rattle.qh_book.specs.Pages.{Reading, RecvPage}
@@ -24,14 +24,16 @@ pub record AreUntouched (b : Book) : Type 0 where
 
 -- ---- what stays
 
--- Who holds what, the handles, the calls that wait and the state's own values stay. Of a half that had a page its calls alone change whether it is read,
--- in which mode, and whether a read gave an error. A half that gets a page has one on which no call was made.
+-- Who holds what, the handles, the calls that wait, the state's own values, and whether want of memory ended the connection stay. Of a half that had a
+-- page its calls alone change whether it is read, in which mode, and whether a read gave an error. A half that gets one had no call, and no stream is
+-- accepted.
 pub record Keeps (b c : Book) : Type 0 where
   pub readers : c.readers ≡ b.readers
   pub handles : c.handles ≡ b.handles
   pub interests : c.interests ≡ b.interests
   pub stable_id : c.stable_id ≡ b.stable_id
   pub error : c.error ≡ b.error
+  pub is_emptied : c.is_emptied ≡ b.is_emptied
   pub page : (k : ℕ) (p : RecvPage) → b.recvs k ≡ Some p → (q : RecvPage) × (c.recvs k ≡ Some q) × (q.state ≡ p.state) × (q.gave_error ≡ p.gave_error) × (q.is_unordered ≡ p.is_unordered)
   pub untouched : AreUntouched b → AreUntouched c
 
