@@ -1,26 +1,27 @@
 -- A connection that is new, and what it went on by before it was taken up.
-use Rattle.std.proofs.Common.{◌≡◌, ℕ, Bool, true, false, List, [], ◌++◌, Option, None, Some, refl, sym, ap, subst, ◌∙◌}
+use Rattle.std.proofs.Common.{◌≡◌, ℕ, true, false, List, [], ◌++◌, None, refl, sym, ap, subst, ◌∙◌}
 use Rattle.qh_base.specs.declared.path.FourTuple.{FourTuple}
 use Rattle.qh_base.specs.declared.time.Moment.{Moment}
 use Rattle.qh_book.specs.Book.{Book, first_book}
-use Rattle.qh_book.specs.Shown.{AreFirst, DatagramBounds, Note, ShowsDatagrams, ShowsStreams, no_note}
+use Rattle.qh_book.specs.Shown.{AreFirst, DatagramBounds, ShowsDatagrams, ShowsStreams, no_note}
 use Rattle.qh_conn.specs.Greeting.{no_early, or_set}
 use Rattle.qh_conn.specs.Parameters.{IsFirstCore, core_config, first_control}
 use Rattle.qh_conn.specs.declared.config.ConnConfig.{ConnConfig}
 use Rattle.qh_conn.specs.declared.connection.Connection.{Connection}
 use Rattle.qh_conn.specs.declared.connection.EarlyLimits.{EarlyLimits}
 use Rattle.qh_control.specs.declared.control.ControlState.{ControlState}
-use Rattle.qh_control.specs.declared.items.ConnectionItem.{ConnectionItem}
 use Rattle.qh_core.specs.declared.config.ConnConfig.{ConnConfig as CoreConfig}
 use Rattle.qh_core.specs.declared.inner.Inner.{Inner}
 use Rattle.qh_datagrams.specs.Datagrams.{PlainDatagrams}
 use Rattle.qh_handshake.specs.declared.handshake.Handshake.{Handshake}
 use Rattle.qh_shown.proofs.Books.{brought_both}
 use Rattle.qh_shown.proofs.CoreSteps.{quiet_self, step_self}
+use Rattle.qh_shown.proofs.Keeping.{uncalled_on}
 use Rattle.qh_shown.proofs.Steps.{by_parts, quiet_brings}
 use Rattle.qh_shown.specs.Brings.{Brings, BringsSome}
 use Rattle.qh_shown.specs.Connections.{IsBegun, ShowsConnection, bounds_of, is_wanting_in, opening_book}
 use Rattle.qh_shown.specs.Items.{brought}
+use Rattle.qh_shown.specs.Kept.{IsUncalled}
 use Rattle.qh_shown.specs.Laws.{BookLaws}
 use Rattle.qh_space.specs.Space.{first_streams}
 use Rattle.qh_spec.specs.declared.sides.Side.{Side}
@@ -71,20 +72,28 @@ module _ {S : Type 0} (laws : BookLaws) where
           };
           emptied = λ wanting. let z : false ≡ true = ap (λ (z : Inner S). is_wanting_in z.error) (sym core) ∙ wanting in cc;
         };
+        uncalled = λ stable_id. record { readers = λ k. refl; handles = refl; interests = λ i. refl; stable_id = refl; error = refl; untouched = record { unheld = λ k waits. refl; page = λ k waits. tt } };
       }
 
   pub begun_on : (old new : Connection S) → IsBegun old → BringsSome old new → new.config ≡ old.config → new.core.side ≡ old.core.side → new.core.addresses ≡ old.core.addresses → IsBegun new
   begun_on old new begun some config side addresses = record {
     items = begun.items ++ some.items;
     shows = λ stable_id.
-        let opening : opening_book old stable_id ≡ opening_book new stable_id =
-        ap (λ (z : Side). first_book z old.core.addresses stable_id old.config.limits.send_window old.config.datagram_receive old.config.datagram_send) (sym side)
-        ∙ ap (λ (z : FourTuple). first_book new.core.side z stable_id old.config.limits.send_window old.config.datagram_receive old.config.datagram_send) (sym addresses)
-        ∙ ap (λ (z : ConnConfig). first_book new.core.side new.core.addresses stable_id z.limits.send_window z.datagram_receive z.datagram_send) (sym config) in
-        subst (λ (z : Book). ShowsConnection false new (λ k. no_note) (brought (begun.items ++ some.items) z)) opening
+        subst (λ (z : Book). ShowsConnection false new (λ k. no_note) (brought (begun.items ++ some.items) z)) (opening stable_id)
         (subst (λ (z : Book). ShowsConnection false new (λ k. no_note) z) (sym (brought_both begun.items some.items (opening_book old stable_id)))
         (some.brings.shows false (λ k. no_note) (brought begun.items (opening_book old stable_id)) (begun.shows stable_id)));
+    uncalled = λ stable_id.
+        let before = brought begun.items (opening_book old stable_id) in
+        subst (λ (z : Book). IsUncalled stable_id (brought (begun.items ++ some.items) z)) (opening stable_id)
+        (subst (λ (z : Book). IsUncalled stable_id z) (sym (brought_both begun.items some.items (opening_book old stable_id)))
+        (uncalled_on stable_id before (brought some.items before) (begun.uncalled stable_id) (some.brings.keeps false (λ k. no_note) before (begun.shows stable_id))));
   }
+    where
+      opening : (stable_id : ℕ) → opening_book old stable_id ≡ opening_book new stable_id
+      opening stable_id =
+          ap (λ (z : Side). first_book z old.core.addresses stable_id old.config.limits.send_window old.config.datagram_receive old.config.datagram_send) (sym side)
+          ∙ ap (λ (z : FourTuple). first_book new.core.side z stable_id old.config.limits.send_window old.config.datagram_receive old.config.datagram_send) (sym addresses)
+          ∙ ap (λ (z : ConnConfig). first_book new.core.side new.core.addresses stable_id z.limits.send_window z.datagram_receive z.datagram_send) (sym config)
 
   pub handshake_brings : (c : Connection S) (handshake : Handshake) → handshake.peer ≡ c.handshake.peer → Brings [] c (record c { handshake = handshake })
   handshake_brings c handshake peer = let to : Connection S = record c { handshake = handshake } in quiet_brings laws c to (by_parts c to (step_self c.core) refl refl peer refl refl) (quiet_self c.core) refl

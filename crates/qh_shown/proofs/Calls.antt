@@ -1,30 +1,26 @@
 -- What the other calls bring: of time, of what is told and sent, of closes, and of the log itself.
-use Rattle.std.proofs.Common.{◌≡◌, ℕ, Bool, true, false, ◌||◌, if◌then◌else◌, List, [], ◌∷◌, ◌++◌, drop, Option, None, Some, is_some, refl, sym, ap, subst, ◌∙◌}
-use Rattle.std.proofs.lemmas.Bool.{both_ways}
+use Rattle.std.proofs.Common.{◌≡◌, ℕ, Bool, true, false, ◌||◌, List, [], ◌∷◌, ◌++◌, drop, Option, None, Some, is_some, refl, sym, ap, subst, ◌∙◌}
 use Rattle.std.specs.Option.{option_map}
 use Rattle.qh_base.specs.declared.connection_error.ConnectionError.TheVariants as error
 use Rattle.qh_base.specs.declared.path.Transmit.{Transmit}
 use Rattle.qh_base.specs.declared.time.Moment.{Moment}
 use Rattle.qh_base.specs.declared.transport_error.TransportError.{TransportError}
-use Rattle.qh_book.specs.Book.{Book}
 use Rattle.qh_book.specs.Items.{bring}
-use Rattle.qh_book.specs.Shown.{DatagramBounds, Note, ShowsDatagrams, ShowsStreams}
+use Rattle.qh_book.specs.Shown.{DatagramBounds, ShowsDatagrams, ShowsStreams}
 use Rattle.qh_book.specs.declared.item.Item.TheVariants as item
-use Rattle.qh_conn.proofs.LogKept.{Log, logged_both, logged_none, logged_on}
+use Rattle.qh_conn.proofs.LogKept.{Log, logged_on}
 use Rattle.qh_conn.specs.Incoming.{IsCloseCalled, IsEventHandled, AreIdsIssued}
-use Rattle.qh_conn.specs.Items.{came, is_loss_logged, items_taken, log_started, loss, loss_noted, noted, streams_taken}
-use Rattle.qh_conn.specs.Outgoing.{IsDataTransmitted, IsQueueStill, IsStill, IsTransmitted}
+use Rattle.qh_conn.specs.Items.{streams_taken}
+use Rattle.qh_conn.specs.Outgoing.{IsDataTransmitted, IsStill, IsTransmitted}
 use Rattle.qh_conn.specs.Telling.{IsEndpointTold, IsHandshakeTimed, IsTimedOut, IsTold, event_of}
 use Rattle.qh_conn.specs.Whole.{IsWhole}
 use Rattle.qh_conn.specs.declared.connection.Connection.{Connection}
 use Rattle.qh_conn.specs.declared.event.ConnectionEvent.{ConnectionEvent}
 use Rattle.qh_conn.specs.declared.event.ConnectionEvent.TheVariants as incoming
 use Rattle.qh_conn.specs.declared.event.Event.{Event}
-use Rattle.qh_conn.specs.declared.event.Event.TheVariants as event
 use Rattle.qh_control.specs.Items.{logged, streamed}
 use Rattle.qh_control.specs.declared.control.ControlState.{ControlState}
 use Rattle.qh_control.specs.declared.event.EndpointEvent.{EndpointEvent}
-use Rattle.qh_control.specs.declared.items.ConnectionItem.{ConnectionItem}
 use Rattle.qh_control.specs.declared.items.ConnectionItem.TheVariants as entry
 use Rattle.qh_core.specs.Event.{is_drained}
 use Rattle.qh_core.specs.Inner.{is_open}
@@ -39,11 +35,12 @@ use Rattle.qh_handshake.specs.Moments.{IsTimedOut as IsHandshakeTimedOut}
 use Rattle.qh_handshake.specs.declared.handshake.Handshake.{Handshake}
 use Rattle.qh_packet.specs.Session.{SealsTag}
 use Rattle.qh_shown.proofs.ControlSteps.{all_issued_quiet, IsQuietControl}
-use Rattle.qh_shown.proofs.CoreSteps.{CoreQuiet, CoreStep, close_quiet, core_step, drained_quiet, ended, frames_quiet, kept, open_lives, polled_quiet, quiet_by as core_by, quiet_self, step_self, timed_quiet_core}
+use Rattle.qh_shown.proofs.CoreSteps.{CoreQuiet, close_quiet, core_step, drained_quiet, ended, frames_quiet, kept, open_lives, polled_quiet, quiet_by as core_by, quiet_self, step_self, timed_quiet_core}
 use Rattle.qh_shown.proofs.Datagrams.{datagram_brings}
+use Rattle.qh_shown.proofs.Keeping.{sent_keeps}
 use Rattle.qh_shown.proofs.Steps.{Quiet, Step, brings_by, by_core, by_parts, came_still, came_taken, no_longer, open_brings, quiet_brings, quiet_shows, step_by, taken, taken_on}
 use Rattle.qh_shown.specs.Brings.{Brings, BringsSome, IsLogging, TellsOf, is_told}
-use Rattle.qh_shown.specs.Connections.{IsUngreeted, ShowsConnection, bounds_of, is_wanting_in}
+use Rattle.qh_shown.specs.Connections.{bounds_of, is_wanting_in}
 use Rattle.qh_shown.specs.Laws.{BookLaws}
 use Rattle.qh_streams.specs.Streams.{PlainStreams}
 use Rattle.qh_streams.specs.declared.items.Item.{Item}
@@ -171,6 +168,7 @@ module _ {S : Type 0} (laws : BookLaws) where
           kept = shown.kept;
           ungreeted = λ none. no_longer c.handshake.peer _ greeted none;
         };
+        keeps = λ notes b shown. sent_keeps count b;
         logs = ap (λ (z : Log). logged z (streamed (streams_taken c.control.log core).space.log)) log ∙ came_taken c.control.log core (entry.DatagramsSent count ∷ [])
             ∙ ap (λ (z : Option (List Item)). logged (logged c.control.log (streamed z)) (entry.DatagramsSent count ∷ [])) k.log;
         logging = λ logging up met on. taken_on c.control.log core ∙ ap (λ (z : Option (List Item)). is_some z) k.log ∙ logging (k.opened (ap is_open (sym t.state) ∙ up)) met

@@ -1,5 +1,5 @@
 -- What the frames of the connection's own bring: payloads of DATAGRAM frames, and nothing else.
-use Rattle.std.proofs.Common.{◌≡◌, ℕ, ◌<◌, ◌≤◌, Bool, true, false, if◌then◌else◌, List, [], ◌∷◌, ◌++◌, length, Option, None, Some, is_some, refl, sym, ap, subst, ◌∙◌}
+use Rattle.std.proofs.Common.{◌≡◌, Bool, true, false, if◌then◌else◌, List, [], ◌∷◌, ◌++◌, Option, None, Some, is_some, refl, sym, ap, subst, ◌∙◌}
 use Rattle.qh_base.specs.declared.time.Moment.{Moment}
 use Rattle.qh_book.specs.Book.{Book}
 use Rattle.qh_book.specs.Shown.{DatagramBounds, SameStreams, ShowsDatagrams}
@@ -17,9 +17,11 @@ use Rattle.qh_datagrams.specs.Datagrams.{PlainDatagrams}
 use Rattle.qh_frame.specs.declared.frame.Frame.{Frame}
 use Rattle.qh_shown.proofs.Books.{SameEnd, both_end, both_streams, brought_both, same_end, same_streams}
 use Rattle.qh_shown.proofs.CoreSteps.{CoreStep, core_step, faulted_step, kept, step_self}
+use Rattle.qh_shown.proofs.Keeping.{datagram_keeps, keeps_both, keeps_self}
 use Rattle.qh_shown.proofs.Steps.{SomeStep, Step, by_core, by_parts, no_longer, quiet_step, some_both, some_by}
 use Rattle.qh_shown.specs.Connections.{IsUngreeted, bounds_of}
 use Rattle.qh_shown.specs.Items.{brought}
+use Rattle.qh_shown.specs.Kept.{Keeps}
 use Rattle.qh_shown.specs.Laws.{BookLaws}
 use Rattle.qh_streams.specs.declared.fault.StreamFault.{StreamFault}
 
@@ -57,6 +59,7 @@ pub record ControlStep (items : List ConnectionItem) (old new : ControlState) : 
   pub datagrams : (b : Book) → ShowsDatagrams old.datagrams (bounds_of old) b → ShowsDatagrams new.datagrams (bounds_of new) (brought items b)
   pub streams : (b : Book) → SameStreams b (brought items b)
   pub end : (b : Book) → SameEnd b (brought items b)
+  pub keeps : (b : Book) → Keeps b (brought items b)
   pub most : new.peer_datagram ≡ old.peer_datagram
   pub log : new.log ≡ logged old.log items
 
@@ -65,6 +68,7 @@ step_quiet old new q = record {
   datagrams = λ b shown. subst (λ (d : PlainDatagrams). ShowsDatagrams d (bounds_of new) b) (sym q.datagrams) (subst (λ (l : DatagramBounds). ShowsDatagrams old.datagrams l b) (sym q.bounds) shown);
   streams = same_streams;
   end = same_end;
+  keeps = keeps_self;
   most = ap (λ (l : DatagramBounds). l.most) q.bounds;
   log = q.log ∙ sym (logged_none old.log);
 }
@@ -77,6 +81,7 @@ control_both xs ys old mid new p q = record {
   datagrams = λ b shown. subst (λ (z : Book). ShowsDatagrams new.datagrams (bounds_of new) z) (sym (brought_both xs ys b)) (q.datagrams (brought xs b) (p.datagrams b shown));
   streams = λ b. subst (λ (z : Book). SameStreams b z) (sym (brought_both xs ys b)) (both_streams b (brought xs b) (brought ys (brought xs b)) (p.streams b) (q.streams (brought xs b)));
   end = λ b. subst (λ (z : Book). SameEnd b z) (sym (brought_both xs ys b)) (both_end b (brought xs b) (brought ys (brought xs b)) (p.end b) (q.end (brought xs b)));
+  keeps = λ b. subst (λ (z : Book). Keeps b z) (sym (brought_both xs ys b)) (keeps_both b (brought xs b) (brought ys (brought xs b)) (p.keeps b) (q.keeps (brought xs b)));
   most = q.most ∙ p.most;
   log = q.log ∙ ap (λ (z : Log). logged z ys) p.log ∙ logged_both old.log xs ys;
 }
@@ -107,6 +112,7 @@ module _ (laws : BookLaws) where
       datagrams = λ b shown. laws.came old.datagrams (bounds_of old) b payload.now most shown receive;
       streams = λ b. laws.comes payload.now b;
       end = λ b. record { side = refl; addresses = refl; is_connected = refl; is_emptied = refl };
+      keeps = λ b. datagram_keeps payload.now b;
       most = refl;
       log = refl;
     }),
@@ -140,6 +146,7 @@ module _ (laws : BookLaws) where
         kept = (s.end b).is_emptied ∙ shown.kept;
         ungreeted = λ none. no_longer c.handshake.peer (IsUngreeted (record c { control = control })) greeted none;
       };
+      keeps = λ notes b shown. s.keeps b;
       logs = ap (λ (z : Log). logged z (streamed c.core.space.log)) s.log ∙ either_way c.control.log items (streamed c.core.space.log) moved;
       logging = λ logging up met on. logging up met (sym (logged_on c.control.log items) ∙ (ap (λ (z : Log). is_some z) (sym s.log) ∙ on));
     }

@@ -1,8 +1,7 @@
 -- What the end of the 1-RTT packets goes on by, and what it brings then.
-use Rattle.std.proofs.Common.{◌≡◌, ℕ, ◌++◌, Bool, true, false, List, [], length, Option, None, Some, refl, sym, ap, subst, ◌∙◌}
+use Rattle.std.proofs.Common.{◌≡◌, ℕ, Bool, true, false, List, [], Option, None, Some, refl, sym, ap, subst, ◌∙◌}
 use Rattle.qh_base.specs.declared.connection_error.ConnectionError.{ConnectionError}
 use Rattle.qh_base.specs.declared.connection_error.ConnectionError.TheVariants.{TransportError as Fault}
-use Rattle.qh_base.specs.declared.path.FourTuple.{FourTuple}
 use Rattle.qh_base.specs.declared.time.Moment.{Moment}
 use Rattle.qh_base.specs.declared.transport_error.TransportError.{TransportError}
 use Rattle.qh_book.specs.Items.{is_memory}
@@ -12,7 +11,6 @@ use Rattle.qh_core.specs.Inner.{is_open}
 use Rattle.qh_core.specs.Receiving.{GoesOnWith, IsClosedHeard, IsDatagramTaken, IsFaulted, IsPacketHandled, IsPacketTaken}
 use Rattle.qh_core.specs.Sending.{AreFramesMade, without_close_due}
 use Rattle.qh_core.specs.Timers.{IsTimedOut}
-use Rattle.qh_core.specs.declared.config.ConnConfig.{ConnConfig as CoreConfig}
 use Rattle.qh_core.specs.declared.event.EndpointEvent.{EndpointEvent}
 use Rattle.qh_core.specs.declared.event.Event.{Event}
 use Rattle.qh_core.specs.declared.idle.IdleTimer.{IdleTimer}
@@ -21,12 +19,12 @@ use Rattle.qh_core.specs.declared.state.State.{State}
 use Rattle.qh_core.specs.declared.state.State.TheVariants.{Established, Closed, Draining, Drained}
 use Rattle.qh_core.specs.declared.stats.UdpStats.{UdpStats}
 use Rattle.qh_packet.specs.Session.{AcceptsTag}
-use Rattle.qh_shown.proofs.SpaceSteps.{SpaceQuiet, SpaceStep, accepted_quiet, bare_quiet, frames_calm, frames_step, leads_by, leads_same, leads_self, logged_none, packet_quiet, quiet_step, step_both, timed_quiet}
+use Rattle.qh_shown.proofs.SpaceSteps.{SpaceQuiet, accepted_quiet, bare_quiet, frames_calm, frames_step, leads_by, leads_self, logged_none, packet_quiet, quiet_step, step_both, timed_quiet}
 use Rattle.qh_shown.specs.Connections.{is_wanting_in}
 use Rattle.qh_shown.specs.Laws.{BookLaws, Leads}
 use Rattle.qh_space.specs.declared.data_space.DataSpace.{DataSpace}
 use Rattle.qh_streams.specs.Items.{logged}
-use Rattle.qh_streams.specs.Streams.{IsPolled, PlainStreams, still_blocked}
+use Rattle.qh_streams.specs.Streams.{IsPolled, PlainStreams}
 use Rattle.qh_streams.specs.declared.frames.StreamEvent.{StreamEvent}
 use Rattle.qh_streams.specs.declared.items.Item.{Item}
 

@@ -1,5 +1,5 @@
 -- What a datagram brings that comes.
-use Rattle.std.proofs.Common.{◌≡◌, ℕ, Bool, true, false, if◌then◌else◌, List, [], ◌∷◌, ◌++◌, length, Option, None, Some, is_some, refl, sym, ap, subst, ◌∙◌, inl, inr}
+use Rattle.std.proofs.Common.{◌≡◌, ℕ, Bool, true, false, if◌then◌else◌, List, [], length, Some, is_some, refl, sym, ap, subst, ◌∙◌, inl, inr}
 use Rattle.qh_base.specs.declared.connection_error.ConnectionError.{ConnectionError}
 use Rattle.qh_base.specs.declared.connection_error.ConnectionError.TheVariants as error
 use Rattle.qh_base.specs.declared.time.Moment.{Moment}
@@ -27,7 +27,6 @@ use Rattle.qh_shown.specs.Brings.{Brings, BringsSome, IsLogging}
 use Rattle.qh_shown.specs.Connections.{bounds_of}
 use Rattle.qh_shown.specs.Laws.{BookLaws}
 use Rattle.qh_space.specs.declared.data_space.DataSpace.{DataSpace}
-use Rattle.qh_streams.specs.Streams.{PlainStreams}
 use Rattle.qh_streams.specs.declared.items.Item.{Item}
 
 module _ {S : Type 0} (laws : BookLaws) where

@@ -1,13 +1,12 @@
 -- What the peer's hello brings: how long a datagram it takes, its first limits, and at a client that the handshake is complete.
-use Rattle.std.proofs.Common.{◌≡◌, ℕ, Bool, true, false, if◌then◌else◌, List, [], ◌∷◌, ◌++◌, map, Option, None, Some, is_some, refl, sym, ap, subst, ◌∙◌}
+use Rattle.std.proofs.Common.{◌≡◌, ℕ, Bool, true, false, if◌then◌else◌, List, [], ◌∷◌, map, Option, None, Some, is_some, refl, sym, ap, subst, ◌∙◌}
 use Rattle.std.proofs.lemmas.Bool.{both_ways}
 use Rattle.std.proofs.lemmas.Option.{none-some}
 use Rattle.qh_base.specs.declared.connection_error.ConnectionError.{ConnectionError}
-use Rattle.qh_base.specs.declared.connection_error.ConnectionError.TheVariants.{TransportError as Fault}
 use Rattle.qh_base.specs.declared.time.Moment.{Moment}
 use Rattle.qh_book.specs.Book.{Book}
 use Rattle.qh_book.specs.Items.{bring, bring_all, item_of as stream_item}
-use Rattle.qh_book.specs.Shown.{AreFirst, Note, ShowsStreams}
+use Rattle.qh_book.specs.Shown.{AreFirst, ShowsStreams}
 use Rattle.qh_book.specs.declared.item.Item.TheVariants as item
 use Rattle.qh_conn.proofs.LogKept.{Log, logged_none, logged_on, none_left}
 use Rattle.qh_conn.specs.Greeting.{IsBegunBy, IsGreetedNow, connected, with_core, with_early}
@@ -21,7 +20,6 @@ use Rattle.qh_control.specs.declared.items.ConnectionItem.TheVariants as entry
 use Rattle.qh_converse.specs.Settled.{datagram_of, peer_limits}
 use Rattle.qh_core.specs.Inner.{is_client, is_open}
 use Rattle.qh_core.specs.Timers.{restarted}
-use Rattle.qh_core.specs.declared.config.ConnConfig.{ConnConfig as CoreConfig}
 use Rattle.qh_core.specs.declared.idle.IdleTimer.{IdleTimer}
 use Rattle.qh_core.specs.declared.inner.Inner.{Inner}
 use Rattle.qh_handshake.proofs.GoingOn.{taken_goes}
@@ -31,8 +29,10 @@ use Rattle.qh_handshake.specs.declared.initial_space.InitialSpace.{InitialSpace}
 use Rattle.qh_hello.specs.declared.transport_parameters.TransportParameters.{TransportParameters}
 use Rattle.qh_packet.specs.Session.{AcceptsTag}
 use Rattle.qh_shown.proofs.CoreSteps.{CoreStep, core_step, kept}
+use Rattle.qh_shown.proofs.Keeping.{bounded_keeps, first_keeps, keeps_both}
 use Rattle.qh_shown.proofs.Steps.{Quiet, SomeStep, Step, by_parts, connected_step, quiet_by, quiet_step, some_both, some_by}
 use Rattle.qh_shown.specs.Connections.{is_wanting_in}
+use Rattle.qh_shown.specs.Items.{brought}
 use Rattle.qh_shown.specs.Laws.{BookLaws}
 use Rattle.qh_space.specs.Space.{first_streams, fresh_streams}
 use Rattle.qh_space.specs.declared.data_space.DataSpace.{DataSpace}
@@ -153,6 +153,7 @@ module _ {S : Type 0} where
                 kept = shown.kept;
                 ungreeted = λ unread. absurd (none-some p (sym unread ∙ met));
               };
+          keeps = λ notes b shown. let at : Book = bring (item.MaxDatagramSize most) b in keeps_both b at (brought items b) (bounded_keeps most b) (first_keeps peer at);
           logs = ap (λ (z : List ConnectionItem). logged (logged c.control.log items) z) log_is
               ∙ logged_none (logged c.control.log items) ∙ ap (λ (z : Log). logged z items) (sym (ap (λ (z : List ConnectionItem). logged c.control.log z) none ∙ logged_none c.control.log));
           logging = λ logging up greeted on. ap (λ (z : Inner S). is_some z.space.log) begun.rest_is ∙ begun_on c.control.log begun.begun (sym (logged_on c.control.log items) ∙ on);

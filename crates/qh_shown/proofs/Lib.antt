@@ -5,6 +5,7 @@ mod ControlSteps
 mod CoreSteps
 mod Datagrams
 mod Greets
+mod Keeping
 mod Logs
 mod SpaceSteps
 mod Steps

@@ -1,5 +1,5 @@
 -- What the frames of 1-RTT packets bring, that come, are sent and are lost.
-use Rattle.std.proofs.Common.{◌≡◌, ℕ, ◌+◌, ◌-◌, ◌++◌, Bool, true, false, MatchBool, List, [], ◌∷◌, length, map, Option, None, Some, refl, sym, ap, subst, ◌∙◌, append_assoc}
+use Rattle.std.proofs.Common.{◌≡◌, ℕ, ◌++◌, Bool, true, false, MatchBool, List, [], ◌∷◌, map, Option, None, Some, refl, sym, ap, subst, ◌∙◌, append_assoc}
 use Rattle.std.proofs.lemmas.List.{append-nil}
 use Rattle.std.proofs.lemmas.Option.{none-some}
 use Rattle.qh_base.specs.declared.connection_error.ConnectionError.{ConnectionError}
@@ -15,7 +15,9 @@ use Rattle.qh_loss.specs.Settled.{AreQueuedAgain, IsProbeQueued}
 use Rattle.qh_loss.specs.declared.probe.Probe.{Probe}
 use Rattle.qh_loss.specs.declared.probe.Probe.TheVariants as probe
 use Rattle.qh_recovery.specs.declared.sent_packets.SentPacket.{SentPacket}
+use Rattle.qh_shown.proofs.Keeping.{keeps_both, keeps_self}
 use Rattle.qh_shown.specs.Connections.{is_wanting_in}
+use Rattle.qh_shown.specs.Kept.{Keeps}
 use Rattle.qh_shown.specs.Laws.{BookLaws, Leads}
 use Rattle.qh_space.specs.Receiving.{IsAckReceived, IsClosedBy, IsFrameTaken, IsLossTaken, coming_of, coming_refusal, frame_refusal}
 use Rattle.qh_space.specs.Sending.{AreElicitingPut, IsPacketMade, may_elicit, with_sent}
@@ -34,7 +36,7 @@ brought_both [] ys b = refl
 brought_both (x ∷ xs) ys b = brought_both xs ys (bring (item_of x) b)
 
 pub leads_self : (s : PlainStreams) → Leads [] s s
-leads_self s = record { to = λ notes b shown. shown }
+leads_self s = record { to = λ notes b shown. shown; keeps = λ notes b shown. keeps_self b }
 
 pub leads_by : (items : List Item) (old new to : PlainStreams) → new ≡ to → Leads items old to → Leads items old new
 leads_by items old new to is p = subst (λ (z : PlainStreams). Leads items old z) (sym is) p
@@ -45,11 +47,14 @@ leads_same old new is = leads_by [] old new old is (leads_self old)
 leads_both : (xs ys : List Item) (old mid new : PlainStreams) → Leads xs old mid → Leads ys mid new → Leads (xs ++ ys) old new
 leads_both xs ys old mid new p q = record {
   to = λ notes b shown. subst (λ (z : Book). ShowsStreams new notes z) (sym (brought_both xs ys b)) (q.to notes (bring_all (map item_of xs) b) (p.to notes b shown));
+  keeps = λ notes b shown.
+      let mid = bring_all (map item_of xs) b in
+      subst (λ (z : Book). Keeps b z) (sym (brought_both xs ys b)) (keeps_both b mid (bring_all (map item_of ys) mid) (p.keeps notes b shown) (q.keeps notes mid (p.to notes b shown)));
 }
 
 -- what comes behind brings nothing
 leads_on : (xs : List Item) (old mid new : PlainStreams) → Leads xs old mid → Leads [] mid new → Leads xs old new
-leads_on xs old mid new p q = record { to = λ notes b shown. q.to notes (bring_all (map item_of xs) b) (p.to notes b shown) }
+leads_on xs old mid new p q = record { to = λ notes b shown. q.to notes (bring_all (map item_of xs) b) (p.to notes b shown); keeps = p.keeps }
 
 pub leads_none : (old mid new : PlainStreams) → Leads [] old mid → Leads [] mid new → Leads [] old new
 leads_none old mid new p q = leads_on [] old mid new p q

@@ -21,20 +21,20 @@ use Rattle.qh_core.specs.Event.{is_drained}
 use Rattle.qh_core.specs.Inner.{is_open}
 use Rattle.qh_core.specs.declared.config.ConnConfig.{ConnConfig as CoreConfig}
 use Rattle.qh_core.specs.declared.inner.Inner.{Inner}
-use Rattle.qh_core.specs.declared.stats.UdpStats.{UdpStats}
 use Rattle.qh_datagrams.specs.Datagrams.{PlainDatagrams}
 use Rattle.qh_half.specs.Recv.{PlainRecv}
 use Rattle.qh_half.specs.Send.{PlainSend}
 use Rattle.qh_halves.specs.RecvHalves.{recv_at}
 use Rattle.qh_halves.specs.SendHalves.{send_at}
-use Rattle.qh_handshake.specs.declared.handshake.Handshake.{Handshake}
 use Rattle.qh_hello.specs.declared.transport_parameters.TransportParameters.{TransportParameters}
-use Rattle.qh_shown.proofs.Books.{SameEnd, brought_both, brought_streams, came_moved, came_with, of_streams, or_true, some_map, streams_end, with_on}
-use Rattle.qh_shown.proofs.CoreSteps.{CoreQuiet, CoreStep, core_step, live_calm, open_lives}
+use Rattle.qh_shown.proofs.Books.{brought_both, brought_streams, came_moved, came_with, of_streams, or_true, some_map, streams_end, with_on}
+use Rattle.qh_shown.proofs.CoreSteps.{CoreQuiet, CoreStep, live_calm, open_lives}
+use Rattle.qh_shown.proofs.Keeping.{connected_keeps, keeps_both, keeps_self}
 use Rattle.qh_shown.proofs.SpaceSteps.{logged_none as streams_none}
 use Rattle.qh_shown.specs.Brings.{Brings, BringsSome, IsLogging}
 use Rattle.qh_shown.specs.Connections.{IsEmptied, IsUngreeted, ShowsConnection, ShowsLive, bounds_of, is_wanting, is_wanting_in}
 use Rattle.qh_shown.specs.Items.{brought}
+use Rattle.qh_shown.specs.Kept.{Keeps}
 use Rattle.qh_shown.specs.Laws.{BookLaws, Leads}
 use Rattle.qh_streams.specs.Streams.{PlainStreams}
 use Rattle.qh_streams.specs.declared.items.Item.{Item}
@@ -72,6 +72,10 @@ pub no_longer : {A : Type 0} (o : Option A) (P : Type 0) → is_some o ≡ true 
 no_longer None P some none = absurd (both_ways false refl some)
 no_longer (Some x) P some none = let z : true ≡ false = ap is_some none in cc
 
+-- what stays by items stays by those behind them
+brought_keeps : (xs ys : List ConnectionItem) (b : Book) → Keeps b (brought xs b) → Keeps (brought xs b) (brought ys (brought xs b)) → Keeps b (brought (xs ++ ys) b)
+brought_keeps xs ys b p q = subst (λ (z : Book). Keeps b z) (sym (brought_both xs ys b)) (keeps_both b (brought xs b) (brought ys (brought xs b)) p q)
+
 record AsksAlone (old new : ControlState) : Type 0 where
   datagrams : new.datagrams ≡ old.datagrams
   bounds : bounds_of new ≡ bounds_of old
@@ -92,6 +96,7 @@ module _ {S : Type 0} where
     pub front : (was_told : Bool) (b : Book) → ShowsEnd was_told old b → ShowsEnd was_told new (brought items b)
     pub wanting : is_wanting old ≡ false → is_wanting new ≡ false
     pub live : (notes : ℕ → Note) (b : Book) → ShowsLive old notes b → ShowsLive new notes (brought items b)
+    pub keeps : (notes : ℕ → Note) (b : Book) → ShowsLive old notes b → Keeps b (brought items b)
     pub logs : came new ≡ logged (came old) items
     pub logging : IsLogging old → IsLogging new
 
@@ -109,6 +114,7 @@ module _ {S : Type 0} where
     front = λ was_told b shown. subst (λ (z : Book). ShowsEnd was_told new z) (sym (brought_both xs ys b)) (q.front was_told (brought xs b) (p.front was_told b shown));
     wanting = λ calm. q.wanting (p.wanting calm);
     live = λ notes b shown. subst (λ (z : Book). ShowsLive new notes z) (sym (brought_both xs ys b)) (q.live notes (brought xs b) (p.live notes b shown));
+    keeps = λ notes b shown. brought_keeps xs ys b (p.keeps notes b shown) (q.keeps notes (brought xs b) (p.live notes b shown));
     logs = q.logs ∙ ap (λ (z : Log). logged z ys) p.logs ∙ logged_both (came old) xs ys;
     logging = λ on. q.logging (p.logging on);
   }
@@ -135,6 +141,7 @@ module _ {S : Type 0} where
     shows = λ was_told notes b shown.
         let calm = open_calm was_told old notes b up shown in
         live_shows was_told new notes (brought items b) (s.wanting calm) (s.front was_told b (record { side = shown.side; addresses = shown.addresses; connected = shown.connected })) (s.live notes b (shown.live calm));
+    keeps = λ was_told notes b shown. s.keeps notes b (shown.live (open_calm was_told old notes b up shown));
     logs = s.logs;
     logging = s.logging;
   }
@@ -145,6 +152,7 @@ module _ {S : Type 0} where
   pub brings_both : (xs ys : List ConnectionItem) (old mid new : Connection S) → Brings xs old mid → Brings ys mid new → Brings (xs ++ ys) old new
   brings_both xs ys old mid new p q = record {
     shows = λ was_told notes b shown. subst (λ (z : Book). ShowsConnection was_told new notes z) (sym (brought_both xs ys b)) (q.shows was_told notes (brought xs b) (p.shows was_told notes b shown));
+    keeps = λ was_told notes b shown. brought_keeps xs ys b (p.keeps was_told notes b shown) (q.keeps was_told notes (brought xs b) (p.shows was_told notes b shown));
     logs = q.logs ∙ ap (λ (z : Log). logged z ys) p.logs ∙ logged_both (came old) xs ys;
     logging = λ on. q.logging (p.logging on);
   }
@@ -245,6 +253,7 @@ module _ {S : Type 0} where
       front = λ was_told b shown. record { side = shown.side ∙ sym q.core.side; addresses = shown.addresses ∙ sym q.core.addresses; connected = shown.connected ∙ ap (λ (z : Bool). was_told || z) (sym due) };
       wanting = q.core.wanting;
       live = λ notes b shown. quiet_live old new notes b q shown;
+      keeps = λ notes b shown. keeps_self b;
       logs = quiet_logs old new q;
       logging = q.logging;
     }
@@ -266,6 +275,7 @@ module _ {S : Type 0} where
     pub quiet_brings : (old new : Connection S) → Quiet old new → CoreQuiet old.core new.core → new.is_connected_due ≡ old.is_connected_due → Brings [] old new
     quiet_brings old new q k due = record {
       shows = λ was_told notes b shown. quiet_shows was_told was_told old new notes b q k (ap (λ (z : Bool). was_told || z) (sym due)) shown;
+      keeps = λ was_told notes b shown. keeps_self b;
       logs = quiet_logs old new q;
       logging = q.logging;
     }
@@ -287,6 +297,7 @@ module _ {S : Type 0} where
         kept = (streams_end laws items b).is_emptied ∙ shown.kept;
         ungreeted = λ none. no_longer c.handshake.peer (IsUngreeted (record c { core = core })) greeted none;
       };
+      keeps = λ notes b shown. subst (λ (z : Book). Keeps b z) (sym (brought_streams items b)) (s.leads.keeps notes b shown.streams);
       logs = ap (λ (z : Option (List Item)). logged c.control.log (streamed z)) s.log ∙ came_with c.control.log c.core.space.log items on;
       logging = λ logging up met logs. ap (λ (z : Option (List Item)). is_some z) s.log ∙ with_on c.core.space.log items ∙ on logs;
     }
@@ -310,6 +321,7 @@ module _ {S : Type 0} where
                 kept = shown.kept;
                 ungreeted = λ none. no_longer c.handshake.peer (IsUngreeted (connected now c)) greeted none;
               };
+          keeps = λ notes b shown. connected_keeps b;
           logs = came_taken c.control.log c.core (entry.Connected ∷ []);
           logging = λ logging up met on. taken_on c.control.log c.core ∙ logging (ap is_open (sym t.state) ∙ up) met (sym (logged_on c.control.log (streamed c.core.space.log ++ entry.Connected ∷ [])) ∙ on);
         }
@@ -327,6 +339,7 @@ module _ {S : Type 0} where
             kept = shown.kept;
             ungreeted = λ none. no_longer c.handshake.peer (IsUngreeted (noted [] c)) greeted none;
           };
+          keeps = λ notes b shown. keeps_self b;
           logs = came_taken c.control.log c.core [];
           logging = λ logging up met on. taken_on c.control.log c.core ∙ logging (ap is_open (sym t.state) ∙ up) met (sym (logged_on c.control.log (streamed c.core.space.log ++ [])) ∙ on);
         }

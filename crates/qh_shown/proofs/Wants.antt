@@ -1,20 +1,18 @@
 -- What want of memory leaves of a connection: a book that showed it shows it still once the loss was brought.
-use Rattle.std.proofs.Common.{◌≡◌, ◌⊎◌, ℕ, nat_lt, ◌<◌, ◌≤◌, Bool, true, false, ◌||◌, MatchBool, if◌then◌else◌, List, [], ◌∷◌, ◌++◌, length, take, Option, None, Some, is_some, refl, sym, ap, subst, ◌∙◌, inl, inr, arith}
+use Rattle.std.proofs.Common.{◌≡◌, ◌⊎◌, ℕ, nat_lt, ◌≤◌, Bool, true, false, ◌||◌, MatchBool, if◌then◌else◌, List, [], ◌∷◌, length, take, Option, None, Some, is_some, refl, sym, ap, subst, ◌∙◌, inl, inr, arith}
 use Rattle.std.specs.Option.{option_map}
-use Rattle.qh_base.specs.declared.connection_error.ConnectionError.{ConnectionError}
 use Rattle.qh_base.specs.declared.connection_error.ConnectionError.TheVariants as error
-use Rattle.qh_base.specs.declared.path.FourTuple.{FourTuple}
 use Rattle.qh_base.specs.declared.time.Moment.{Moment}
 use Rattle.qh_book.specs.Book.{Book, tally}
-use Rattle.qh_book.specs.Items.{bring, without_all_waiting}
-use Rattle.qh_book.specs.Pages.{RecvPage, RecvState, Reading, Stopped, EndGiven, ResetGiven, is_open as is_read, unread_at, without_waiting}
-use Rattle.qh_book.specs.Shown.{DatagramBounds, IsNoted, IsShut, Note, ShowsDatagrams, ShowsHalf, ShowsReading, ShowsRecv, ShowsStreams, is_reset_given, no_note}
+use Rattle.qh_book.specs.Items.{bring}
+use Rattle.qh_book.specs.Pages.{RecvPage, RecvState, Reading, Stopped, EndGiven, ResetGiven, is_open as is_read, without_waiting}
+use Rattle.qh_book.specs.Shown.{DatagramBounds, IsShut, Note, ShowsDatagrams, ShowsHalf, ShowsRecv, ShowsStreams, is_reset_given}
 use Rattle.qh_book.specs.declared.item.Item.TheVariants as item
 use Rattle.qh_conn.proofs.LogKept.{Log, came_current, logged_none, logged_on}
 use Rattle.qh_conn.specs.Greeting.{with_core}
 use Rattle.qh_conn.specs.Incoming.{AreControlsTaken, connected_if, counted_at}
 use Rattle.qh_conn.specs.Items.{came, first_limits}
-use Rattle.qh_conn.specs.Unread.{AreIdsCut, HasFailed, IsCompletionCut, IsDataUnsent, IsEventUnread, IsGreetingCut, IsRestUnread, IsTimeCut, IsUnread, IsUnsent}
+use Rattle.qh_conn.specs.Unread.{HasFailed, IsCompletionCut, IsDataUnsent, IsEventUnread, IsGreetingCut, IsRestUnread, IsTimeCut, IsUnread, IsUnsent}
 use Rattle.qh_conn.specs.Whole.{IsWhole}
 use Rattle.qh_conn.specs.declared.connection.Connection.{Connection}
 use Rattle.qh_conn.specs.declared.event.ConnectionEvent.{ConnectionEvent}
@@ -28,15 +26,15 @@ use Rattle.qh_core.specs.Event.{is_drained}
 use Rattle.qh_core.specs.Inner.{IsFailedBy, is_open}
 use Rattle.qh_core.specs.Receiving.{BringsPacket, counted_in}
 use Rattle.qh_core.specs.declared.inner.Inner.{Inner}
-use Rattle.qh_core.specs.declared.state.State.{State}
 use Rattle.qh_core.specs.declared.state.State.TheVariants.{Drained}
 use Rattle.qh_datagrams.specs.Datagrams.{PlainDatagrams}
 use Rattle.qh_frame.specs.declared.frame.Frame.{Frame}
 use Rattle.qh_half.specs.Recv.{PlainRecv}
 use Rattle.qh_halves.specs.RecvHalves.{recv_at}
 use Rattle.qh_shown.specs.Brings.{EndsWanting, IsLogging}
-use Rattle.qh_shown.specs.Connections.{IsDry, IsEmptied, ShowsConnection, ShowsLive, ShowsLost, bounds_of, is_wanting, is_wanting_in, spared, spared_all}
+use Rattle.qh_shown.specs.Connections.{IsDry, IsEmptied, ShowsConnection, ShowsLost, bounds_of, is_wanting, is_wanting_in, spared, spared_all}
 use Rattle.qh_shown.specs.Items.{brought}
+use Rattle.qh_shown.specs.Kept.{Keeps}
 use Rattle.qh_shown.specs.Laws.{BookLaws}
 use Rattle.qh_handshake.specs.Incoming.{SessionView}
 use Rattle.qh_hello.specs.declared.transport_parameters.TransportParameters.{TransportParameters}
@@ -45,10 +43,10 @@ use Rattle.qh_shown.proofs.ControlSteps.{all_issued_quiet, control_step, control
 use Rattle.qh_shown.proofs.CoreSteps.{live_calm, open_lives, packet_step, timed_quiet_core}
 use Rattle.qh_shown.proofs.Datagrams.{accepted_moved, accepted_peer, core_accepted, counted_step}
 use Rattle.qh_shown.proofs.Greets.{begun_moved, begun_step, met_moved, met_step, not_known, restarted_is, taken_unmet, unmet}
-use Rattle.qh_shown.proofs.Steps.{SomeStep, Step, accepted_step, quiet_step, some_both, step_both}
+use Rattle.qh_shown.proofs.Keeping.{bounded_keeps, keeps_lost, keeps_self, lost_keeps}
+use Rattle.qh_shown.proofs.Steps.{SomeStep, Step, accepted_step, open_calm, quiet_step, some_both, step_both}
 use Rattle.qh_spec.specs.declared.sides.Dir.{Dir}
 use Rattle.qh_spec.specs.declared.sides.Dir.TheVariants.{Bi, Uni}
-use Rattle.qh_spec.specs.declared.sides.Side.{Side}
 use Rattle.qh_streams.specs.Streams.{PlainStreams}
 use Rattle.qh_streams.specs.declared.fault.StreamFault.{StreamFault}
 
@@ -168,6 +166,8 @@ module _ {S : Type 0} where
     items = [];
     wanting = ap is_wanting_in f.error;
     shows = λ was_told notes b shown. still_shows (is_wanting old) was_told old new notes b refl f shown;
+    before = λ was_told notes b shown. keeps_self b;
+    keeps = λ was_told notes b shown. lost_keeps b;
     logs = logs;
   }
 
@@ -182,8 +182,13 @@ module _ {S : Type 0} where
         let l = s.live notes b (shown.live calm) in
         ends_shows was_told mid new notes (brought items b) f e.side e.addresses e.connected
         (live_emptied mid.core.space.streams mid.control.datagrams (bounds_of mid.control) notes (brought items b) l.streams l.datagrams);
+    before = before;
+    keeps = λ was_told notes b shown. keeps_lost b (brought items b) (lost_book (brought items b)) (before was_told notes b shown) (lost_keeps (brought items b));
     logs = logs;
   }
+    where
+      before : (was_told : Bool) (notes : ℕ → Note) (b : Book) → ShowsConnection was_told old notes b → Keeps b (brought items b)
+      before was_told notes b shown = s.keeps notes b (shown.live (open_calm was_told old notes b up shown))
 
   -- ---- by what it was that failed
 
@@ -315,6 +320,8 @@ module _ {S : Type 0} where
               front.side front.addresses front.connected
               (live_emptied at.core.space.streams at.control.datagrams (bounds_of mid.control) notes (brought (item ∷ []) b) (laws.streams at.core.space.streams notes b _ (laws.bounds most b) live.streams)
               (subst (λ (z : DatagramBounds). ShowsDatagrams at.control.datagrams z (brought (item ∷ []) b)) (ap (λ (z : Connection S). bounds_of z.control) (sym e)) (laws.bounded at.control.datagrams (bounds_of at.control) b most live.datagrams)));
+          before = λ was_told notes b shown. bounded_keeps most b;
+          keeps = λ was_told notes b shown. keeps_lost b (brought (item ∷ []) b) (lost_book (brought (item ∷ []) b)) (bounded_keeps most b) (lost_keeps (brought (item ∷ []) b));
           logs = failed_log old mid new (item ∷ []) was is (ap (λ (z : Connection S). z.control.log) f.rest_is) (ap (λ (z : Connection S). z.control.log) e ∙ ap (λ (z : Log). logged z (item ∷ [])) l.log);
         }
     greeting_ends now p old at mid new up was is s l met none (IsGreetingCut.incomplete core client begun cut) f =

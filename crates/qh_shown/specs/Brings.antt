@@ -14,6 +14,7 @@ use Rattle.qh_control.specs.declared.items.ConnectionItem.{ConnectionItem}
 use Rattle.qh_core.specs.Inner.{is_open}
 use Rattle.qh_shown.specs.Connections.{ShowsConnection, is_wanting, spared_all}
 use Rattle.qh_shown.specs.Items.{brought}
+use Rattle.qh_shown.specs.Kept.{Keeps, KeepsLost}
 
 -- whether the application was told that the handshake is complete, behind an event that was told
 abbrev pub is_told : Bool → Option Event → Bool
@@ -25,9 +26,11 @@ module _ {S : Type 0} where
   abbrev pub IsLogging : Connection S → Type 0
   IsLogging c = is_open c.core.state ≡ true → is_some c.handshake.peer ≡ true → is_some c.control.log ≡ true → is_some c.core.space.log ≡ true
 
-  -- These items lead from each book that shows the connection to one that shows it now. They come last in its log, if that is on.
+  -- These items lead from each book that shows the connection to one that shows it now, and leave of it what calls alone change. They come last in its
+  -- log, if that is on.
   pub record Brings (items : List ConnectionItem) (old new : Connection S) : Type 0 where
     pub shows : (was_told : Bool) (notes : ℕ → Note) (b : Book) → ShowsConnection was_told old notes b → ShowsConnection was_told new notes (brought items b)
+    pub keeps : (was_told : Bool) (notes : ℕ → Note) (b : Book) → ShowsConnection was_told old notes b → Keeps b (brought items b)
     pub logs : came new ≡ logged (came old) items
     pub logging : IsLogging old → IsLogging new
 
@@ -46,4 +49,6 @@ module _ {S : Type 0} where
     pub items : List ConnectionItem
     pub wanting : is_wanting new ≡ true
     pub shows : (was_told : Bool) (notes : ℕ → Note) (b : Book) → ShowsConnection was_told old notes b → ShowsConnection was_told new (spared_all notes (brought items b)) (bring (item.Lost error.Memory) (brought items b))
+    pub before : (was_told : Bool) (notes : ℕ → Note) (b : Book) → ShowsConnection was_told old notes b → Keeps b (brought items b)
+    pub keeps : (was_told : Bool) (notes : ℕ → Note) (b : Book) → ShowsConnection was_told old notes b → KeepsLost b (bring (item.Lost error.Memory) (brought items b))
     pub logs : came new ≡ logged (came old) items

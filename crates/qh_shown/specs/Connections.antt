@@ -12,6 +12,7 @@ use Rattle.qh_control.specs.declared.control.ControlState.{ControlState}
 use Rattle.qh_control.specs.declared.items.ConnectionItem.{ConnectionItem}
 use Rattle.qh_core.specs.Event.{is_drained}
 use Rattle.qh_shown.specs.Items.{brought}
+use Rattle.qh_shown.specs.Kept.{IsUncalled}
 use Rattle.qh_spec.specs.declared.sides.Dir.{Dir}
 
 -- ---- want of memory ended the connection
@@ -92,7 +93,8 @@ module _ {S : Type 0} where
   abbrev pub opening_book : Connection S → (stable_id : ℕ) → Book
   opening_book c stable_id = first_book c.core.side c.core.addresses stable_id c.config.limits.send_window c.config.datagram_receive c.config.datagram_send
 
-  -- What it holds by now is what these items brought.
+  -- What it holds by now is what these items brought, and no call was made yet.
   pub record IsBegun (c : Connection S) : Type 0 where
     pub items : List ConnectionItem
     pub shows : (stable_id : ℕ) → ShowsConnection false c (λ k. no_note) (brought items (opening_book c stable_id))
+    pub uncalled : (stable_id : ℕ) → IsUncalled stable_id (brought items (opening_book c stable_id))

@@ -6,6 +6,7 @@ use Rattle.qh_book.specs.Items.{bring, bring_all, item_of}
 use Rattle.qh_book.specs.Shown.{AreFirst, DatagramBounds, IsStreamChange, Note, SameDatagrams, SameStreams, ShowsDatagrams, ShowsStreams, no_note}
 use Rattle.qh_book.specs.declared.item.Item.TheVariants as item
 use Rattle.qh_datagrams.specs.Datagrams.{PlainDatagrams, newest}
+use Rattle.qh_shown.specs.Kept.{Keeps}
 use Rattle.qh_spec.specs.declared.sides.Side.{Side}
 use Rattle.qh_streams.specs.Items.{confirmed_items, first_items, items_of}
 use Rattle.qh_streams.specs.Streams.{IsAckedFrame, IsHandedOver, IsLostFrame, IsReceived, PlainStreams, refusal_of, with_peer}
@@ -15,9 +16,10 @@ use Rattle.qh_streams.specs.declared.frames.StreamEvent.{StreamEvent}
 use Rattle.qh_streams.specs.declared.frames.StreamFrame.{StreamFrame}
 use Rattle.qh_streams.specs.declared.items.Item.{Item}
 
--- these items lead from each book that shows the streams to one that shows them afterwards
+-- these items lead from each book that shows the streams to one that shows them afterwards, and leave of it what calls alone change
 pub record Leads (items : List Item) (old new : PlainStreams) : Type 0 where
   pub to : (notes : ℕ → Note) (b : Book) → ShowsStreams old notes b → ShowsStreams new notes (bring_all (map item_of items) b)
+  pub keeps : (notes : ℕ → Note) (b : Book) → ShowsStreams old notes b → Keeps b (bring_all (map item_of items) b)
 
 pub record BookLaws : Type 0 where
   -- frames

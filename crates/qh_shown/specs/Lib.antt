@@ -1,4 +1,5 @@
 pub mod Brings
 pub mod Connections
 pub mod Items
+pub mod Kept
 pub mod Laws
