@@ -1,4 +1,4 @@
-//! Laws of a book that shows a whole connection: what events bring to it, and which of its replies a call of the connection is.
+//! Laws of a book that shows a whole connection: what events, datagrams and want of memory bring to it, and what brings nothing.
 #![tactic(auto)]
 
 mod driving;
