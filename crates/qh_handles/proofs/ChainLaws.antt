@@ -2,7 +2,7 @@
 use Rattle.std.proofs.Common.{◌≡◌, ◌⊎◌, ℕ, ◌+◌, ◌-◌, ◌<◌, ◌≤◌, true, false, ◌^◌, List, [], ◌∷◌, ◌++◌, length, take, drop, refl, sym, ap, ◌∙◌, subst, append_assoc, append-nil, add_assoc, map, Option, Some, inl, inr, suc, add-one, arith, length-append, drop_of_length-le}
 use Rattle.std.specs.List.{concat, slice_get}
 use Rattle.std.proofs.Math.Seq.{drop-cons}
-use Rattle.std.proofs.lemmas.Bool.{eqb-true}
+use Rattle.std.proofs.lemmas.Bool.{eqb-true, eqb-false}
 use Rattle.std.proofs.lemmas.Option.{slice_get-get_or}
 use Rattle.std.specs.Prelude.{◌==◌}
 use Rattle.std.proofs.Math.ListN.{set, get_or}
@@ -15,7 +15,7 @@ use Rattle.qh_book.specs.declared.call.Call.TheVariants as call
 use Rattle.qh_book.specs.declared.reply.Reply.{Reply}
 use Rattle.qh_book.specs.declared.reply.Reply.TheVariants as reply
 use Rattle.qh_buffers.specs.declared.assembler.Chunk.{Chunk}
-use Rattle.qh_parts.specs.ReadToEndBuffer.{PlainBuffer, widened}
+use Rattle.qh_parts.specs.ReadToEndBuffer.{PlainBuffer, len_of, len_or_zero, widened}
 use Rattle.qh_parts.specs.declared.read_to_end.Extent.{Extent}
 use Rattle.qh_handles.specs.declared.error.ReadError.TheVariants as read
 use Rattle.qh_handles.specs.declared.error.ReadToEndError.{ReadToEndError}
@@ -24,7 +24,7 @@ use Rattle.qh_handles.specs.Origins.{Origin, replied, wanting, nowhere, IsFrom, 
 use Rattle.qh_handles.specs.declared.error.WriteError.{WriteError}
 use Rattle.qh_handles.specs.declared.error.WriteError.TheVariants as write
 use Rattle.std.proofs.lemmas.Grind.{take-set_at}
-use Rattle.qh_handles.specs.Chains.{EndsWrites, IsPartly, OfChunk, IsGathered, IsPlaced, text_left, IsKeepError, IsToEndError, piece_read, widened_all, Acts, bytes_of, IsBytes, AreReads, all_bytes, IsFilled, count_of, IsWrite, AreWrites, all_counts, IsWritten}
+use Rattle.qh_handles.specs.Chains.{EndsWrites, IsPartly, OfChunk, IsGathered, IsPlaced, text_left, IsKeepError, IsToEndError, piece_read, widened_all, Acts, bytes_of, IsBytes, AreReads, all_bytes, IsFilled, count_of, IsWrite, AreWrites, all_counts, IsWritten, IsBehind, AreChunkWrites, IsWrittenBy, IsWrittenOf, IsTooLong}
 
 pub Acts-more : {S C R : Type 0} (acts : S → C → R → S → Type 0) (s m t : S) (es : List (C × R)) (e : C × R) → Acts acts s es m → acts m e.0 e.1 t → Acts acts s (es ++ e ∷ []) t
 Acts-more acts s m t [] e made last = (t, subst (λ x. acts x e.0 e.1 t) (sym made) last, refl)
@@ -49,24 +49,27 @@ AreWrites-more id text (d ∷ es) e are this =
 pub IsWritten-none : {S T : Type 0} (acts : S → Call → Reply T → S → Type 0) (id : StreamId) (text : List ℕ) (s : S) → IsWritten acts id text s text s
 IsWritten-none acts id text s = record { writes = []; are = tt; made = refl; left_is = refl }
 
--- one more write, of bytes that stand in front of what is left
-pub IsWritten-more : {S T : Type 0} (acts : S → Call → Reply T → S → Type 0) (id : StreamId) (text : List ℕ) (s m t : S) (left payload rest : List ℕ) (n : ℕ) →
-    IsWritten acts id text s left m → left ≡ payload ++ rest → n ≤ length payload → acts m (call.Write id payload) (reply.Count n) t → IsWritten acts id text s (drop n left) t
-IsWritten-more acts id text s m t left payload rest n was front few this = record {
-  writes = was.writes ++ (call.Write id payload, reply.Count n) ∷ [];
-  are = AreWrites-more id text was.writes (call.Write id payload, reply.Count n) was.are (payload, rest, (sym was.left_is ∙ front), refl, refl, few);
-  made = Acts-more acts s m t was.writes (call.Write id payload, reply.Count n) was.made this;
-  left_is = ap (λ (l : List ℕ). drop n l) was.left_is ∙ drop-drop n (all_counts was.writes) text ∙ ap (λ (k : ℕ). drop k text) (sym (all_counts-more was.writes (call.Write id payload, reply.Count n)));
-}
+-- one more write, of all that is left
+pub IsWritten-more : {S T : Type 0} (acts : S → Call → Reply T → S → Type 0) (id : StreamId) (text : List ℕ) (s m t : S) (left : List ℕ) (n : ℕ) →
+    IsWritten acts id text s left m → 0 < length left → n ≤ length left → acts m (call.Write id left) (reply.Count n) t → IsWritten acts id text s (drop n left) t
+IsWritten-more {S} {T} acts id text s m t left n was some few this =
+    let e : Call × Reply T = (call.Write id left, reply.Count n) in
+    record {
+      writes = was.writes ++ e ∷ [];
+      are = AreWrites-more id text was.writes e was.are (subst (λ (l : List ℕ). IsWrite id l e) was.left_is (some, refl, refl, few));
+      made = Acts-more acts s m t was.writes e was.made this;
+      left_is = ap (λ (l : List ℕ). drop n l) was.left_is ∙ drop-drop n (all_counts was.writes) text ∙ ap (λ (k : ℕ). drop k text) (sym (all_counts-more was.writes e));
+    }
 
 -- the same as a loop makes it, of all of a buffer that is left
 pub IsWritten-part : {S T : Type 0} (acts : S → Call → Reply T → S → Type 0) (id : StreamId) (text : List ℕ) (s m t : S) (buf : List ℕ) (w n : ℕ) →
-    IsWritten acts id text s (drop w buf) m → n ≤ length (mid_of w (length buf - w) buf) → acts m (call.Write id (mid_of w (length buf - w) buf)) (reply.Count n) t →
+    IsWritten acts id text s (drop w buf) m → w < length buf → n ≤ length (mid_of w (length buf - w) buf) → acts m (call.Write id (mid_of w (length buf - w) buf)) (reply.Count n) t →
     IsWritten acts id text s (drop (w + n) buf) t
-IsWritten-part acts id text s m t buf w n was few this =
+IsWritten-part acts id text s m t buf w n was short few this =
     let whole : mid_of w (length buf - w) buf ≡ drop w buf = mid_is (length buf - w) w buf refl in
-    subst (λ (l : List ℕ). IsWritten acts id text s l t) (drop-drop n w buf)
-    (IsWritten-more acts id text s m t (drop w buf) (mid_of w (length buf - w) buf) [] n was (sym whole ∙ sym (append-nil (mid_of w (length buf - w) buf))) few this)
+    let some : 0 < length (mid_of w (length buf - w) buf) = omega (arith, ap (λ (l : List ℕ). length l) whole, length-drop w buf, short) in
+    subst (λ (l : List ℕ). IsWritten acts id text s l t) (ap (λ (l : List ℕ). drop n l) whole ∙ drop-drop n w buf)
+    (IsWritten-more acts id text s m t (mid_of w (length buf - w) buf) n (subst (λ (l : List ℕ). IsWritten acts id text s l m) (sym whole) was) some few this)
 
 -- ---- reads
 
@@ -81,13 +84,13 @@ less w a b = omega arith
 minus_none : (w : ℕ) → w - 0 ≡ w
 minus_none w = omega arith
 
-pub AreReads-more : {T : Type 0} (id : StreamId) (wanted : ℕ) (es : List (Call × Reply T)) (e : Call × Reply T) → AreReads id wanted es →
+pub AreReads-more : {T : Type 0} (id : StreamId) (wanted : ℕ) (es : List (Call × Reply T)) (e : Call × Reply T) → AreReads id wanted es → 0 < wanted - length (all_bytes es) →
     e.0 ≡ call.Read id (wanted - length (all_bytes es)) true → IsBytes e.1 → AreReads id wanted (es ++ e ∷ [])
-AreReads-more id wanted [] e are is gives = (is ∙ ap (λ (k : ℕ). call.Read id k true) (minus_none wanted), gives, tt)
-AreReads-more id wanted (d ∷ es) e are is gives =
+AreReads-more id wanted [] e are some is gives = (subst (λ (k : ℕ). 0 < k) (minus_none wanted) some, is ∙ ap (λ (k : ℕ). call.Read id k true) (minus_none wanted), gives, tt)
+AreReads-more id wanted (d ∷ es) e are some is gives =
     let left : wanted - length (all_bytes (d ∷ es)) ≡ (wanted - length (bytes_of d.1)) - length (all_bytes es) =
     ap (λ (k : ℕ). wanted - k) (length-append (bytes_of d.1) (all_bytes es)) ∙ sym (less wanted (length (bytes_of d.1)) (length (all_bytes es))) in
-    (are.0, are.1, AreReads-more id (wanted - length (bytes_of d.1)) es e are.2 (is ∙ ap (λ (k : ℕ). call.Read id k true) left) gives)
+    (are.0, are.1, are.2, AreReads-more id (wanted - length (bytes_of d.1)) es e are.3 (subst (λ (k : ℕ). 0 < k) left some) (is ∙ ap (λ (k : ℕ). call.Read id k true) left) gives)
 
 -- before the first read the buffer is as it was
 pub IsFilled-none : {S T : Type 0} (acts : S → Call → Reply T → S → Type 0) (id : StreamId) (old : List ℕ) (filled : ℕ) (s : S) → IsFilled acts id old filled s old filled s
@@ -109,7 +112,7 @@ module _ {S T : Type 0} (acts : S → Call → Reply T → S → Type 0) (id : S
       let grown : all_bytes (was.reads ++ e ∷ []) ≡ all_bytes was.reads ++ bytes = all_bytes-more was.reads e in
       record {
         reads = was.reads ++ e ∷ [];
-        are = AreReads-more id (length old - filled) was.reads e was.are
+        are = AreReads-more id (length old - filled) was.reads e was.are (omega (arith, was.counted, short))
             (ap (λ (k : ℕ). call.Read id k true) (w ∙ ap (λ (k : ℕ). length old - k) was.counted ∙ sym (less (length old) filled (length (all_bytes was.reads))))) tt;
         made = Acts-more acts s m t was.reads e was.made this;
         counted = ap (λ (k : ℕ). k + n) was.counted ∙ add_assoc filled (length (all_bytes was.reads)) n
@@ -141,11 +144,14 @@ map-more : {A B : Type 0} (f : A → B) (xs : List A) (x : A) → map f (xs ++ x
 map-more f [] x = refl
 map-more f (y ∷ ys) x = ap (λ l. f y ∷ l) (map-more f ys x)
 
+not_less : (a b : ℕ) → (a < b → ⊥) → b ≤ a
+not_less a b never = omega (arith, never)
+
 -- one more piece was read, and is kept
 pub IsGathered-more : {S T : Type 0} (acts : S → Call → Reply T → S → Type 0) (id : StreamId) (old : PlainBuffer) (s : S) (b : PlainBuffer) (m : S) (c : Chunk) (new : PlainBuffer) (t : S) →
-    IsGathered acts id old s b m → acts m (call.Read id (2 ^ 64 - 1) false) (reply.Bytes c.offset c.bytes) t →
+    IsGathered acts id old s b m → acts m (call.Read id (2 ^ 64 - 1) false) (reply.Bytes c.offset c.bytes) t → (IsTooLong b c → ⊥) →
     new ≡ record { kept = b.kept ++ c ∷ []; extent = Some (widened b.extent c); size_limit = b.size_limit } → IsGathered acts id old s new t
-IsGathered-more {S} {T} acts id old s b m c new t was this grown =
+IsGathered-more {S} {T} acts id old s b m c new t was this fits grown =
     let made : Acts acts s (map (piece_read {T = T} id false) was.pieces ++ piece_read id false c ∷ []) t =
     Acts-more acts s m t (map (piece_read id false) was.pieces) (piece_read id false c) was.made this in
     record {
@@ -155,6 +161,7 @@ IsGathered-more {S} {T} acts id old s b m c new t was this grown =
           ∙ ap (λ (p : PlainBuffer). let q : PlainBuffer = record { kept = p.kept ++ c ∷ []; extent = Some (widened p.extent c); size_limit = p.size_limit } in q) was.kept
           ∙ ap (λ (l : List Chunk). let q : PlainBuffer = record { kept = l; extent = Some (widened (widened_all old.extent was.pieces) c); size_limit = old.size_limit } in q) (append_assoc old.kept was.pieces (c ∷ []))
           ∙ ap (λ (x : Option Extent). let q : PlainBuffer = record { kept = old.kept ++ (was.pieces ++ c ∷ []); extent = x; size_limit = old.size_limit } in q) (sym (widened-more old.extent was.pieces c));
+      within = λ _. subst (λ (p : PlainBuffer). len_or_zero p.extent ≤ p.size_limit) (sym grown) (not_less b.size_limit (len_of (widened b.extent c)) (λ long. fits (inl long)));
     }
 
 pub IsGathered-none : {S T : Type 0} (acts : S → Call → Reply T → S → Type 0) (id : StreamId) (old : PlainBuffer) (s : S) → IsGathered acts id old s old s
@@ -162,12 +169,13 @@ IsGathered-none acts id old s = record {
   pieces = [];
   made = refl;
   kept = ap (λ (l : List Chunk). let q : PlainBuffer = record { kept = l; extent = old.extent; size_limit = old.size_limit } in q) (sym (append-nil old.kept));
+  within = λ short. short;
 }
 
 -- a piece that isn't kept
 pub keep_failed : {T : Type 0} (e : ReadToEndError) (b : PlainBuffer) (c : Chunk) (P : Reply T → Type 0) (Q : Type 0) → IsKeepError e b c → P (reply.Bytes c.offset c.bytes) → IsToEndError e b P Q
 keep_failed to_end.TooLong b c P Q long this = inl (c, this, long)
-keep_failed (to_end.Read read.Memory) b c P Q memory this = inr (inr (c, this))
+keep_failed (to_end.Read read.Memory) b c P Q fits this = inr (c, this, fits)
 keep_failed (to_end.Read (read.Reset code)) b c P Q never this = absurd never
 keep_failed (to_end.Read (read.ConnectionLost e)) b c P Q never this = absurd never
 keep_failed (to_end.Read read.ClosedStream) b c P Q never this = absurd never
@@ -182,6 +190,21 @@ drop_next l j d short = drop-cons l j d short ∙ ap (λ (k : ℕ). get_or l j d
 chunks_are : (bufs : List (List ℕ)) (i : ℕ) (d : List ℕ) → i < length bufs → drop i bufs ≡ get_or bufs i d ∷ drop (i + 1) bufs
 chunks_are bufs i d short = drop_next bufs i d short
 
+-- what is left behind a write of the first chunk
+behind_text : (n : ℕ) (x : List ℕ) (rest next : List (List ℕ)) → IsBehind n x rest next → concat next ≡ drop n (x ++ concat rest)
+behind_text n x rest next (inl h) = ap (λ (l : List (List ℕ)). concat l) h.1 ∙ sym (drop_at x (concat rest) n (sym h.0))
+behind_text n x rest next (inr h) = ap (λ (l : List (List ℕ)). concat l) h.1 ∙ sym (drop-append-le n x (concat rest) (omega (arith, h.0)))
+
+pub AreChunkWrites-more : {T : Type 0} (id : StreamId) (old : List (List ℕ)) (es : List (Call × Reply T)) (left : List (List ℕ)) (e : Call × Reply T) (x : List ℕ) (rest next : List (List ℕ)) →
+    AreChunkWrites id old es left → left ≡ x ∷ rest → e.0 ≡ call.Write id x → e.1 ≡ reply.Count (count_of e.1) → IsBehind (count_of e.1) x rest next → AreChunkWrites id old (es ++ e ∷ []) next
+AreChunkWrites-more id old [] left e x rest next are front is counts behind = (x, rest, next, are ∙ front, is, counts, behind, refl)
+AreChunkWrites-more id old (d ∷ es) left e x rest next are front is counts behind =
+    (are.0, are.1, are.2, are.3, are.4, are.5, are.6, AreChunkWrites-more id are.2 es left e x rest next are.7 front is counts behind)
+
+-- before the first write all chunks are left
+pub IsWrittenOf-none : {S T : Type 0} (acts : S → Call → Reply T → S → Type 0) (id : StreamId) (bufs : List (List ℕ)) (s : S) → IsWrittenOf acts id bufs s bufs s
+IsWrittenOf-none acts id bufs s = record { writes = []; written = record { are = refl; made = refl; left_is = refl } }
+
 -- setting what is there changes nothing
 pub set_same : (bufs : List (List ℕ)) (i : ℕ) (d y : List ℕ) → y ≡ get_or bufs i d → set bufs i y ≡ bufs
 set_same bufs i d y same = ap (λ (z : List ℕ). set bufs i z) same ∙ set-get_or bufs i d
@@ -190,6 +213,13 @@ set_same bufs i d y same = ap (λ (z : List ℕ). set bufs i z) same ∙ set-get
 pub empty_is : (bufs : List (List ℕ)) (i : ℕ) (d y : List ℕ) → i < length bufs → true ≡ (length (get_or (set bufs i y) i d) == 0) → y ≡ []
 empty_is bufs i d y short e =
     nil_from_length y (ap (λ (l : List ℕ). length l) (sym (get_or-set_same bufs i y d short)) ∙ eqb-true (length (get_or (set bufs i y) i d)) 0 (sym e))
+
+-- one that wasn't
+pub some_is : (bufs : List (List ℕ)) (i : ℕ) (d y : List ℕ) → i < length bufs → false ≡ (length (get_or (set bufs i y) i d) == 0) → 0 < length y
+some_is bufs i d y short e =
+    let here : length (get_or (set bufs i y) i d) ≡ length y = ap (λ (l : List ℕ). length l) (get_or-set_same bufs i y d short) in
+    let other : length (get_or (set bufs i y) i d) ≡ 0 → ⊥ = eqb-false (length (get_or (set bufs i y) i d)) 0 (sym e) in
+    omega (arith, here, other)
 
 map_length : {A B : Type 0} (f : A → B) (xs : List A) → length (map f xs) ≡ length xs
 map_length f [] = refl
@@ -221,43 +251,82 @@ text_length-set bufs i y short = ap (λ (l : List (List ℕ)). length (concat l)
 pub text_length-passed : (bufs : List (List ℕ)) (i : ℕ) (y : List ℕ) → length (text_left (set bufs i y) (i + 1)) ≡ length (concat (drop (i + 1) bufs))
 text_length-passed bufs i y = ap (λ (l : List (List ℕ)). length (concat l)) (drop-set-lt (i + 1) bufs i y (omega arith))
 
+left_length : (x y : List ℕ) (n : ℕ) → y ≡ drop n x → length y ≡ length x - n
+left_length x y n left = ap (λ (l : List ℕ). length l) left ∙ length-drop n x
+
+-- a chunk of which nothing is left was written whole, and one of which some is wasn't
+pub whole_is : (x y : List ℕ) (n : ℕ) → n ≤ length x → y ≡ drop n x → y ≡ [] → n ≡ length x
+whole_is x y n few left none = omega (arith, few, left_length x y n left, ap (λ (l : List ℕ). length l) none)
+
+pub part_is : (x y : List ℕ) (n : ℕ) → y ≡ drop n x → 0 < length y → n < length x
+part_is x y n left some = omega (arith, left_length x y n left, some)
+
 module _ {S T : Type 0} (acts : S → Call → Reply T → S → Type 0) (id : StreamId) where
+  -- one more write, of the first chunk that is left
+  pub IsWrittenBy-more : (writes : List (Call × Reply T)) (old : List (List ℕ)) (s m t : S) (left : List (List ℕ)) (x : List ℕ) (rest next : List (List ℕ)) (n : ℕ) →
+      IsWrittenBy acts id writes old s left m → left ≡ x ∷ rest → IsBehind n x rest next → acts m (call.Write id x) (reply.Count n) t →
+      IsWrittenBy acts id (writes ++ (call.Write id x, reply.Count n) ∷ []) old s next t
+  IsWrittenBy-more writes old s m t left x rest next n was front behind this =
+      let e : Call × Reply T = (call.Write id x, reply.Count n) in
+      record {
+        are = AreChunkWrites-more id old writes left e x rest next was.are front refl refl behind;
+        made = Acts-more acts s m t writes e was.made this;
+        left_is = behind_text n x rest next behind ∙ ap (λ (l : List ℕ). drop n l) (sym (ap (λ (l : List (List ℕ)). concat l) front) ∙ was.left_is)
+            ∙ drop-drop n (all_counts writes) (concat old) ∙ ap (λ (k : ℕ). drop k (concat old)) (sym (all_counts-more writes e));
+      }
+
   -- the front of a chunk was written, and the rest of it is left
-  pub chunk_written : (text : List ℕ) (s m t : S) (bufs : List (List ℕ)) (i n : ℕ) (d y : List ℕ) →
-      IsWritten acts id text s (text_left bufs i) m → i < length bufs → n ≤ length (get_or bufs i d) → acts m (call.Write id (get_or bufs i d)) (reply.Count n) t → y ≡ drop n (get_or bufs i d) →
-      IsWritten acts id text s (text_left (set bufs i y) i) t
-  chunk_written text s m t bufs i n d y was short few this left =
-      let x : List ℕ = get_or bufs i d in
-      let rest : List ℕ = concat (drop (i + 1) bufs) in
-      let front : text_left bufs i ≡ x ++ rest = ap (λ (l : List (List ℕ)). concat l) (chunks_are bufs i d short) in
-      let behind : drop n (text_left bufs i) ≡ text_left (set bufs i y) i =
-      ap (λ (l : List ℕ). drop n l) front ∙ drop-append-le n x rest few ∙ ap (λ (l : List ℕ). l ++ rest) (sym left) ∙ sym (ap (λ (l : List (List ℕ)). concat l) (drop-set bufs i y short)) in
-      subst (λ (l : List ℕ). IsWritten acts id text s l t) behind (IsWritten-more acts id text s m t (text_left bufs i) x rest n was front few this)
+  pub part_written : (writes : List (Call × Reply T)) (old : List (List ℕ)) (s m t : S) (bufs : List (List ℕ)) (i n : ℕ) (d y : List ℕ) →
+      IsWrittenBy acts id writes old s (drop i bufs) m → i < length bufs → n < length (get_or bufs i d) → acts m (call.Write id (get_or bufs i d)) (reply.Count n) t → y ≡ drop n (get_or bufs i d) →
+      IsWrittenBy acts id (writes ++ (call.Write id (get_or bufs i d), reply.Count n) ∷ []) old s (drop i (set bufs i y)) t
+  part_written writes old s m t bufs i n d y was short fewer this left =
+      IsWrittenBy-more writes old s m t (drop i bufs) (get_or bufs i d) (drop (i + 1) bufs) (drop i (set bufs i y)) n was (chunks_are bufs i d short)
+      (inr (fewer, drop-set bufs i y short ∙ ap (λ (z : List ℕ). z ∷ drop (i + 1) bufs) left)) this
+
+  -- all of a chunk was written
+  pub whole_written : (writes : List (Call × Reply T)) (old : List (List ℕ)) (s m t : S) (bufs : List (List ℕ)) (i n : ℕ) (d y : List ℕ) →
+      IsWrittenBy acts id writes old s (drop i bufs) m → i < length bufs → n ≡ length (get_or bufs i d) → acts m (call.Write id (get_or bufs i d)) (reply.Count n) t →
+      IsWrittenBy acts id (writes ++ (call.Write id (get_or bufs i d), reply.Count n) ∷ []) old s (drop (i + 1) (set bufs i y)) t
+  whole_written writes old s m t bufs i n d y was short all this =
+      IsWrittenBy-more writes old s m t (drop i bufs) (get_or bufs i d) (drop (i + 1) bufs) (drop (i + 1) (set bufs i y)) n was (chunks_are bufs i d short)
+      (inl (all, drop-set-lt (i + 1) bufs i y (omega arith))) this
+
+  -- the same with no word of which writes they were
+  pub chunk_part : (old : List (List ℕ)) (s m t : S) (bufs : List (List ℕ)) (i n : ℕ) (d y : List ℕ) →
+      IsWrittenOf acts id old s (drop i bufs) m → i < length bufs → n < length (get_or bufs i d) → acts m (call.Write id (get_or bufs i d)) (reply.Count n) t → y ≡ drop n (get_or bufs i d) →
+      IsWrittenOf acts id old s (drop i (set bufs i y)) t
+  chunk_part old s m t bufs i n d y was short fewer this left =
+      record { writes = was.writes ++ (call.Write id (get_or bufs i d), reply.Count n) ∷ []; written = part_written was.writes old s m t bufs i n d y was.written short fewer this left }
+
+  pub chunk_whole : (old : List (List ℕ)) (s m t : S) (bufs : List (List ℕ)) (i n : ℕ) (d y : List ℕ) →
+      IsWrittenOf acts id old s (drop i bufs) m → i < length bufs → n ≡ length (get_or bufs i d) → acts m (call.Write id (get_or bufs i d)) (reply.Count n) t →
+      IsWrittenOf acts id old s (drop (i + 1) (set bufs i y)) t
+  chunk_whole old s m t bufs i n d y was short all this =
+      record { writes = was.writes ++ (call.Write id (get_or bufs i d), reply.Count n) ∷ []; written = whole_written was.writes old s m t bufs i n d y was.written short all this }
 
   -- a chunk that is left as it was: the call with it was made, and replied so
-  pub chunk_kept : (text : List ℕ) (s m t : S) (bufs : List (List ℕ)) (i : ℕ) (d y : List ℕ) (r : Reply T) →
-      IsWritten acts id text s (text_left bufs i) m → i < length bufs → acts m (call.Write id (get_or bufs i d)) r t → y ≡ get_or bufs i d →
-      (x : S) × IsWritten acts id text s (text_left (set bufs i y) i) x × OfChunk (set bufs i y) i (λ chunk. acts x (call.Write id chunk) r t)
-  chunk_kept text s m t bufs i d y r was short this same = (
+  pub chunk_kept : (old : List (List ℕ)) (s m t : S) (bufs : List (List ℕ)) (i : ℕ) (d y : List ℕ) (r : Reply T) →
+      IsWrittenOf acts id old s (drop i bufs) m → i < length bufs → acts m (call.Write id (get_or bufs i d)) r t → y ≡ get_or bufs i d →
+      (x : S) × IsWrittenOf acts id old s (drop i (set bufs i y)) x × OfChunk (set bufs i y) i (λ chunk. acts x (call.Write id chunk) r t)
+  chunk_kept old s m t bufs i d y r was short this same = (
     m,
-    subst (λ (l : List (List ℕ)). IsWritten acts id text s (text_left l i) m) (sym (set_same bufs i d y same)) was,
+    subst (λ (l : List (List ℕ)). IsWrittenOf acts id old s (drop i l) m) (sym (set_same bufs i d y same)) was,
     (y, set_is_there bufs i y short, subst (λ (l : List ℕ). acts m (call.Write id l) r t) (sym same) this),
   )
 
-  pub chunk_failed : (stays : S → S → Type 0) (e : WriteError) (text : List ℕ) (s m t : S) (bufs : List (List ℕ)) (i : ℕ) (d y : List ℕ) →
-      IsWritten acts id text s (text_left bufs i) m → i < length bufs → IsFrom (write_origin e) (λ (r : Reply T). acts m (call.Write id (get_or bufs i d)) r t) (stays m t) → y ≡ get_or bufs i d →
-      (x : S) × IsWritten acts id text s (text_left (set bufs i y) i) x × IsFrom (write_origin e) (λ (r : Reply T). OfChunk (set bufs i y) i (λ chunk. acts x (call.Write id chunk) r t)) (stays x t)
-  chunk_failed stays e text s m t bufs i d y was short this same = (
+  pub chunk_failed : (stays : S → S → Type 0) (e : WriteError) (old : List (List ℕ)) (s m t : S) (bufs : List (List ℕ)) (i : ℕ) (d y : List ℕ) →
+      IsWrittenOf acts id old s (drop i bufs) m → i < length bufs → IsFrom (write_origin e) (λ (r : Reply T). acts m (call.Write id (get_or bufs i d)) r t) (stays m t ⊎ (t ≡ m)) → y ≡ get_or bufs i d →
+      (x : S) × IsWrittenOf acts id old s (drop i (set bufs i y)) x
+      × ((i < length (set bufs i y)) × IsFrom (write_origin e) (λ (r : Reply T). OfChunk (set bufs i y) i (λ chunk. acts x (call.Write id chunk) r t)) (stays x t ⊎ (t ≡ x)))
+  chunk_failed stays e old s m t bufs i d y was short this same = (
     m,
-    subst (λ (l : List (List ℕ)). IsWritten acts id text s (text_left l i) m) (sym (set_same bufs i d y same)) was,
-    IsFrom-map (write_origin e) (λ (r : Reply T). acts m (call.Write id (get_or bufs i d)) r t) (λ (r : Reply T). OfChunk (set bufs i y) i (λ chunk. acts m (call.Write id chunk) r t)) (stays m t) (stays m t)
-        (λ r made. (y, set_is_there bufs i y short, subst (λ (l : List ℕ). acts m (call.Write id l) r t) (sym same) made)) (λ q. q) this,
+    subst (λ (l : List (List ℕ)). IsWrittenOf acts id old s (drop i l) m) (sym (set_same bufs i d y same)) was,
+    (
+      subst (λ (k : ℕ). i < k) (sym (length-set bufs i y)) short,
+      IsFrom-map (write_origin e) (λ (r : Reply T). acts m (call.Write id (get_or bufs i d)) r t) (λ (r : Reply T). OfChunk (set bufs i y) i (λ chunk. acts m (call.Write id chunk) r t))
+          (stays m t ⊎ (t ≡ m)) (stays m t ⊎ (t ≡ m)) (λ r made. (y, set_is_there bufs i y short, subst (λ (l : List ℕ). acts m (call.Write id l) r t) (sym same) made)) (λ q. q) this,
+    ),
   )
-
-  -- a chunk of which nothing is left is behind what is done
-  pub chunk_done : (text : List ℕ) (s t : S) (bufs : List (List ℕ)) (i : ℕ) (y : List ℕ) → i < length bufs → y ≡ [] →
-      IsWritten acts id text s (text_left (set bufs i y) i) t → IsWritten acts id text s (text_left (set bufs i y) (i + 1)) t
-  chunk_done text s t bufs i y short none was = subst (λ (l : List ℕ). IsWritten acts id text s l t) (text_passed bufs i y short none) was
 
   -- one more piece is placed
   pub IsPlaced-more : (old : List (List ℕ)) (s : S) (bufs : List (List ℕ)) (m : S) (count : ℕ) (c : Chunk) (t : S) →
@@ -303,9 +372,6 @@ front_grown bufs i y short empty none =
 pub all_taken : (x y : List ℕ) (n size : ℕ) → y ≡ drop n x → size ≡ length x → size ≤ n → y ≡ []
 all_taken x y n size left is all = left ∙ drop_of_length-le x (omega (arith, is, all))
 
-left_length : (x y : List ℕ) (n : ℕ) → y ≡ drop n x → length y ≡ length x - n
-left_length x y n left = ap (λ (l : List ℕ). length l) left ∙ length-drop n x
-
 sums : (all b n x y rest before after : ℕ) → all ≡ b + before → before ≡ x + rest → after ≡ y + rest → y ≡ x - n → n ≤ x → all ≡ (b + n) + after
 sums all b n x y rest before after e was now left few = omega (arith, e, was, now, left, few)
 
@@ -324,59 +390,77 @@ counted_whole all b n bufs i d y was short few left empty =
 module _ {S T : Type 0} (acts : S → Call → Reply T → S → Type 0) (stays : S → S → Type 0) (id : StreamId) where
   -- the last write took less than its chunk
   pub partly_written : (old : List (List ℕ)) (s m t : S) (bufs : List (List ℕ)) (i n b : ℕ) (d y : List ℕ) →
-      IsWritten acts id (concat old) s (text_left bufs i) m → concat (take i bufs) ≡ [] → length (concat old) ≡ b + length (text_left bufs i) → i < length bufs →
+      IsWrittenOf acts id old s (drop i bufs) m → concat (take i bufs) ≡ [] → length (concat old) ≡ b + length (text_left bufs i) → i < length bufs →
       n < length (get_or bufs i d) → acts m (call.Write id (get_or bufs i d)) (reply.Count n) t → y ≡ drop n (get_or bufs i d) →
       IsPartly acts stays id old s (set bufs i y) t (b + n) i
   partly_written old s m t bufs i n b d y was none counted short fewer this left =
       let few : n ≤ length (get_or bufs i d) = omega (arith, fewer) in
-      let some : 0 < length y = omega (arith, left_length (get_or bufs i d) y n left, fewer) in
       record {
         mid = t;
-        written = chunk_written acts id (concat old) s m t bufs i n d y was short few this left;
+        writes = was.writes ++ (call.Write id (get_or bufs i d), reply.Count n) ∷ [];
+        written = part_written acts id was.writes old s m t bufs i n d y was.written short fewer this left;
         emptied = front_kept bufs i y none;
         counted = counted_on (length (concat old)) b n bufs i d y counted short few left;
-        stopped = inr (inl ((y, set_is_there bufs i y short, some), refl));
+        stopped = inr (inl ((y, set_is_there bufs i y short, (was.writes, get_or bufs i d, n, refl, fewer, left)), refl));
       }
+
+  -- with the next chunk it would be more than can be counted
+  pub partly_counted : (old : List (List ℕ)) (s m : S) (bufs : List (List ℕ)) (i b : ℕ) (d : List ℕ) →
+      IsWrittenOf acts id old s (drop i bufs) m → concat (take i bufs) ≡ [] → length (concat old) ≡ b + length (text_left bufs i) → i < length bufs → 0 < b → 2 ^ 64 ≤ b + length (get_or bufs i d) →
+      IsPartly acts stays id old s bufs m b i
+  partly_counted old s m bufs i b d was none counted short some long = record {
+    mid = m;
+    writes = was.writes;
+    written = was.written;
+    emptied = none;
+    counted = counted;
+    stopped = inr (inr (inl (some, (get_or bufs i d, slice_get-get_or bufs i d short, long), refl)));
+  }
 
   -- the last write wrote nothing, or wasn't made
   pub partly_kept : (old : List (List ℕ)) (s m t : S) (bufs : List (List ℕ)) (i b : ℕ) (d y : List ℕ) →
-      IsWritten acts id (concat old) s (text_left bufs i) m → concat (take i bufs) ≡ [] → length (concat old) ≡ b + length (text_left bufs i) → i < length bufs → 0 < i →
-      (stays m t ⊎ ((r : Reply T) × acts m (call.Write id (get_or bufs i d)) r t × EndsWrites r)) → y ≡ get_or bufs i d →
+      IsWrittenOf acts id old s (drop i bufs) m → concat (take i bufs) ≡ [] → length (concat old) ≡ b + length (text_left bufs i) → i < length bufs → 0 < i →
+      ((stays m t ⊎ (t ≡ m)) ⊎ ((r : Reply T) × acts m (call.Write id (get_or bufs i d)) r t × EndsWrites r)) → y ≡ get_or bufs i d →
       IsPartly acts stays id old s (set bufs i y) t b i
   partly_kept old s m t bufs i b d y was none counted short some last same =
       let whole : bufs ≡ set bufs i y = sym (set_same bufs i d y same) in
       record {
         mid = m;
-        written = subst (λ (l : List (List ℕ)). IsWritten acts id (concat old) s (text_left l i) m) whole was;
+        writes = was.writes;
+        written = subst (λ (l : List (List ℕ)). IsWrittenBy acts id was.writes old s (drop i l) m) whole was.written;
         emptied = front_kept bufs i y none;
         counted = subst (λ (l : List (List ℕ)). length (concat old) ≡ b + length (text_left l i)) whole counted;
-        stopped = inr (inr (some, last_of m t bufs i d y short same last));
+        stopped = inr (inr (inr (some, subst (λ (k : ℕ). i < k) (sym (length-set bufs i y)) short, last_of m t bufs i d y short same last)));
       } where
         last_of : (m t : S) (bufs : List (List ℕ)) (i : ℕ) (d y : List ℕ) → i < length bufs → y ≡ get_or bufs i d →
-            (stays m t ⊎ ((r : Reply T) × acts m (call.Write id (get_or bufs i d)) r t × EndsWrites r)) →
-            stays m t ⊎ ((r : Reply T) × OfChunk (set bufs i y) i (λ chunk. acts m (call.Write id chunk) r t) × EndsWrites r)
+            ((stays m t ⊎ (t ≡ m)) ⊎ ((r : Reply T) × acts m (call.Write id (get_or bufs i d)) r t × EndsWrites r)) →
+            (stays m t ⊎ (t ≡ m)) ⊎ ((r : Reply T) × OfChunk (set bufs i y) i (λ chunk. acts m (call.Write id chunk) r t) × EndsWrites r)
         last_of m t bufs i d y short same (inl h) = inl h
         last_of m t bufs i d y short same (inr h) = inr (h.0, (y, set_is_there bufs i y short, subst (λ (l : List ℕ). acts m (call.Write id l) h.0 t) (sym same) h.1), h.2)
 
   pub partly_failed : (old : List (List ℕ)) (s m t : S) (bufs : List (List ℕ)) (i b : ℕ) (d y : List ℕ) (e : WriteError) →
-      IsWritten acts id (concat old) s (text_left bufs i) m → concat (take i bufs) ≡ [] → length (concat old) ≡ b + length (text_left bufs i) → i < length bufs → 0 < i →
-      IsFrom (write_origin e) (λ (r : Reply T). acts m (call.Write id (get_or bufs i d)) r t) (stays m t) → y ≡ get_or bufs i d →
+      IsWrittenOf acts id old s (drop i bufs) m → concat (take i bufs) ≡ [] → length (concat old) ≡ b + length (text_left bufs i) → i < length bufs → 0 < i →
+      IsFrom (write_origin e) (λ (r : Reply T). acts m (call.Write id (get_or bufs i d)) r t) (stays m t ⊎ (t ≡ m)) → y ≡ get_or bufs i d →
       IsPartly acts stays id old s (set bufs i y) t b i
   partly_failed old s m t bufs i b d y e was none counted short some this same =
-      partly_kept old s m t bufs i b d y was none counted short some (quiet_write e (λ (r : Reply T). acts m (call.Write id (get_or bufs i d)) r t) (stays m t) this) same
+      partly_kept old s m t bufs i b d y was none counted short some (quiet_write e (λ (r : Reply T). acts m (call.Write id (get_or bufs i d)) r t) (stays m t ⊎ (t ≡ m)) this) same
 
   -- nothing was written yet, and the write failed
   pub first_failed : (old : List (List ℕ)) (s m t : S) (bufs : List (List ℕ)) (i : ℕ) (d y : List ℕ) (e : WriteError) →
       (i ≡ 0 → (m ≡ s) × (bufs ≡ old)) → i < length bufs → i ≡ 0 →
-      IsFrom (write_origin e) (λ (r : Reply T). acts m (call.Write id (get_or bufs i d)) r t) (stays m t) → y ≡ get_or bufs i d →
-      (set bufs i y ≡ old) × IsFrom (write_origin e) (λ (r : Reply T). OfChunk old 0 (λ chunk. acts s (call.Write id chunk) r t)) (stays s t)
+      IsFrom (write_origin e) (λ (r : Reply T). acts m (call.Write id (get_or bufs i d)) r t) (stays m t ⊎ (t ≡ m)) → y ≡ get_or bufs i d →
+      (set bufs i y ≡ old) × ((0 < length old) × IsFrom (write_origin e) (λ (r : Reply T). OfChunk old 0 (λ chunk. acts s (call.Write id chunk) r t)) (stays s t ⊎ (t ≡ s)))
   first_failed old s m t bufs i d y e first short none this same =
       let at_first = first none in
       let there : slice_get old 0 ≡ Some (get_or bufs i d) =
       subst (λ (k : ℕ). slice_get old k ≡ Some (get_or bufs i d)) none (subst (λ (l : List (List ℕ)). slice_get l i ≡ Some (get_or bufs i d)) at_first.1 (slice_get-get_or bufs i d short)) in (
         set_same bufs i d y same ∙ at_first.1,
-        IsFrom-map (write_origin e) (λ (r : Reply T). acts m (call.Write id (get_or bufs i d)) r t) (λ (r : Reply T). OfChunk old 0 (λ chunk. acts s (call.Write id chunk) r t)) (stays m t) (stays s t)
-            (λ r made. (get_or bufs i d, there, subst (λ x. acts x (call.Write id (get_or bufs i d)) r t) at_first.0 made)) (λ q. subst (λ x. stays x t) at_first.0 q) this,
+        (
+          subst (λ (k : ℕ). k < length old) none (subst (λ (l : List (List ℕ)). i < length l) at_first.1 short),
+          IsFrom-map (write_origin e) (λ (r : Reply T). acts m (call.Write id (get_or bufs i d)) r t) (λ (r : Reply T). OfChunk old 0 (λ chunk. acts s (call.Write id chunk) r t))
+              (stays m t ⊎ (t ≡ m)) (stays s t ⊎ (t ≡ s)) (λ r made. (get_or bufs i d, there, subst (λ x. acts x (call.Write id (get_or bufs i d)) r t) at_first.0 made))
+              (λ q. subst (λ x. stays x t ⊎ (t ≡ x)) at_first.0 q) this,
+        ),
       )
 
 pub not_none : (n : ℕ) → n + 1 ≡ 0 → ⊥

@@ -1,5 +1,5 @@
 -- Calls that are made one after another, as the loops of reads and writes make them.
-use Rattle.std.specs.Prelude.{◌≡◌, ◌⊎◌, ℕ, ◌+◌, ◌-◌, ◌^◌, ◌<◌, ◌≤◌, Bool, true, false, List, [], ◌∷◌, ◌++◌, length, map, take, drop, slice_get, slice_index, EachIndex, Option, Some, None}
+use Rattle.std.specs.Prelude.{◌≡◌, ◌⊎◌, ℕ, ◌+◌, ◌-◌, ◌^◌, ◌<◌, ◌≤◌, Bool, true, false, List, [], ◌∷◌, ◌++◌, length, map, take, drop, slice_get, slice_index, EachIndex, Option, Some, None, is_some}
 use Rattle.std.specs.List.{concat}
 use Rattle.qh_base.specs.declared.stream_id.StreamId.{StreamId}
 use Rattle.qh_book.specs.declared.call.Call.{Call}
@@ -14,6 +14,8 @@ use Rattle.qh_handles.specs.declared.error.ReadExactError.{ReadExactError}
 use Rattle.qh_handles.specs.declared.error.ReadExactError.TheVariants as exact
 use Rattle.qh_handles.specs.declared.error.ReadToEndError.{ReadToEndError}
 use Rattle.qh_handles.specs.declared.error.ReadToEndError.TheVariants as to_end
+use Rattle.qh_handles.specs.declared.recv_stream.Halt.{Halt}
+use Rattle.qh_handles.specs.declared.recv_stream.Halt.TheVariants as halt
 use Rattle.qh_parts.specs.ReadToEndBuffer.{PlainBuffer, byte_at, end_of, len_of, len_or_zero, start_or_zero, widened}
 use Rattle.qh_parts.specs.declared.read_to_end.Extent.{Extent}
 
@@ -32,10 +34,10 @@ abbrev pub IsBytes : {T : Type 0} → Reply T → Type 0
 IsBytes (reply.Bytes offset bytes) = Unit {0}
 IsBytes other = ⊥
 
--- each is a read in order of as many bytes as are wanted still, and gave bytes
+-- each is a read in order of as many bytes as are wanted still, of which there are some, and gave bytes
 abbrev pub AreReads : {T : Type 0} → StreamId → (wanted : ℕ) → List (Call × Reply T) → Type 0
 AreReads id wanted [] = Unit {0}
-AreReads id wanted (e ∷ es) = (e.0 ≡ call.Read id wanted true) × IsBytes e.1 × AreReads id (wanted - length (bytes_of e.1)) es
+AreReads id wanted (e ∷ es) = (0 < wanted) × (e.0 ≡ call.Read id wanted true) × IsBytes e.1 × AreReads id (wanted - length (bytes_of e.1)) es
 
 -- the bytes that they gave, in their order
 abbrev pub all_bytes : {T : Type 0} → List (Call × Reply T) → List ℕ
@@ -61,11 +63,11 @@ abbrev pub count_of : {T : Type 0} → Reply T → ℕ
 count_of (reply.Count count) = count
 count_of other = 0
 
--- it is a write of bytes that stand in front of the text, and some of them were written
+-- it is a write of all of a text that isn't empty, and so many of its bytes were written
 abbrev pub IsWrite : {T : Type 0} → StreamId → List ℕ → Call × Reply T → Type 0
-IsWrite id text e = (payload rest : List ℕ) × (text ≡ payload ++ rest) × (e.0 ≡ call.Write id payload) × (e.1 ≡ reply.Count (count_of e.1)) × (count_of e.1 ≤ length payload)
+IsWrite id text e = (0 < length text) × (e.0 ≡ call.Write id text) × (e.1 ≡ reply.Count (count_of e.1)) × (count_of e.1 ≤ length text)
 
--- each is a write of bytes that stand in front of what of the text isn't written yet
+-- each is a write of all of the text that isn't written yet
 abbrev pub AreWrites : {T : Type 0} → StreamId → List ℕ → List (Call × Reply T) → Type 0
 AreWrites id text [] = Unit {0}
 AreWrites id text (e ∷ es) = IsWrite id text e × AreWrites id (drop (count_of e.1) text) es
@@ -91,6 +93,33 @@ text_left bufs done = concat (drop done bufs)
 -- this holds of the chunk at an index
 abbrev pub OfChunk : List (List ℕ) → (index : ℕ) → (List ℕ → Type 0) → Type 0
 OfChunk bufs index P = (chunk : List ℕ) × (slice_get bufs index ≡ Some chunk) × P chunk
+
+-- So many bytes of a chunk in front of others were written. What is left of it stays in its place, unless nothing is.
+abbrev pub IsBehind : (count : ℕ) → (chunk : List ℕ) → (rest next : List (List ℕ)) → Type 0
+IsBehind count chunk rest next = ((count ≡ length chunk) × (next ≡ rest)) ⊎ ((count < length chunk) × (next ≡ drop count chunk ∷ rest))
+
+-- each is a write of the first chunk that is left, as it is
+abbrev pub AreChunkWrites : {T : Type 0} → StreamId → (old : List (List ℕ)) → List (Call × Reply T) → (left : List (List ℕ)) → Type 0
+AreChunkWrites id old [] left = old ≡ left
+AreChunkWrites id old (e ∷ es) left =
+    (chunk : List ℕ) × (rest next : List (List ℕ)) × (old ≡ chunk ∷ rest) × (e.0 ≡ call.Write id chunk) × (e.1 ≡ reply.Count (count_of e.1)) × IsBehind (count_of e.1) chunk rest next
+    × AreChunkWrites id next es left
+
+-- Of chunks the front was written, by these writes, one after another. These are left.
+pub record IsWrittenBy {S T : Type 0} (acts : S → Call → Reply T → S → Type 0) (id : StreamId) (writes : List (Call × Reply T)) (old : List (List ℕ)) (s : S) (left : List (List ℕ)) (mid : S) : Type 0 where
+  pub are : AreChunkWrites id old writes left
+  pub made : Acts acts s writes mid
+  pub left_is : concat left ≡ drop (all_counts writes) (concat old)
+
+-- the same, by some writes
+pub record IsWrittenOf {S T : Type 0} (acts : S → Call → Reply T → S → Type 0) (id : StreamId) (old : List (List ℕ)) (s : S) (left : List (List ℕ)) (mid : S) : Type 0 where
+  pub writes : List (Call × Reply T)
+  pub written : IsWrittenBy acts id writes old s left mid
+
+-- the last write took less than its chunk, and this is what is left of that
+abbrev pub EndsInPart : {T : Type 0} → StreamId → List (Call × Reply T) → (left : List ℕ) → Type 0
+EndsInPart {T} id writes left =
+    (before : List (Call × Reply T)) × (chunk : List ℕ) × (count : ℕ) × (writes ≡ before ++ (call.Write id chunk, reply.Count count) ∷ []) × (count < length chunk) × (left ≡ drop count chunk)
 
 -- the reply to a read of a piece
 abbrev pub piece_read : {T : Type 0} → StreamId → (is_ordered : Bool) → Chunk → Call × Reply T
@@ -124,20 +153,23 @@ EndsWrites (reply.ConnectionLost e) = Unit {0}
 EndsWrites reply.ClosedStream = Unit {0}
 EndsWrites other = ⊥
 
--- Why no more is written: all chunks are; the last write took less than its chunk, or as much as can be counted; or one behind others wrote nothing.
-abbrev pub StopsWriting : {S T : Type 0} → (S → Call → Reply T → S → Type 0) → (S → S → Type 0) → StreamId → List (List ℕ) → (chunks : ℕ) → S → S → Type 0
-StopsWriting {S} {T} acts stays id bufs chunks mid t =
+-- Why no more is written: all chunks are; the last write took less than its chunk; with the next chunk it would be more than can be counted; or some were written whole, and for the
+-- next one memory was wanting, or it wrote nothing.
+abbrev pub StopsWriting : {S T : Type 0} → (S → Call → Reply T → S → Type 0) → (S → S → Type 0) → StreamId → List (List ℕ) → List (Call × Reply T) → (bytes chunks : ℕ) → S → S → Type 0
+StopsWriting {S} {T} acts stays id bufs writes bytes chunks mid t =
     ((chunks ≡ length bufs) × (mid ≡ t))
-    ⊎ ((OfChunk bufs chunks (λ chunk. 0 < length chunk) × (mid ≡ t))
-    ⊎ ((0 < chunks) × (stays mid t ⊎ ((r : Reply T) × OfChunk bufs chunks (λ chunk. acts mid (call.Write id chunk) r t) × EndsWrites r))))
+    ⊎ ((OfChunk bufs chunks (EndsInPart id writes) × (mid ≡ t))
+    ⊎ (((0 < bytes) × OfChunk bufs chunks (λ chunk. 2 ^ 64 ≤ bytes + length chunk) × (mid ≡ t))
+    ⊎ ((0 < chunks) × (chunks < length bufs) × ((stays mid t ⊎ (t ≡ mid)) ⊎ ((r : Reply T) × OfChunk bufs chunks (λ chunk. acts mid (call.Write id chunk) r t) × EndsWrites r)))))
 
 -- So many chunks were written whole, and are empty now, and so many bytes altogether.
 pub record IsPartly {S T : Type 0} (acts : S → Call → Reply T → S → Type 0) (stays : S → S → Type 0) (id : StreamId) (old : List (List ℕ)) (s : S) (new : List (List ℕ)) (t : S) (bytes chunks : ℕ) : Type 0 where
   pub mid : S
-  pub written : IsWritten acts id (concat old) s (text_left new chunks) mid
+  pub writes : List (Call × Reply T)
+  pub written : IsWrittenBy acts id writes old s (drop chunks new) mid
   pub emptied : concat (take chunks new) ≡ []
   pub counted : length (concat old) ≡ bytes + length (text_left new chunks)
-  pub stopped : StopsWriting acts stays id new chunks mid t
+  pub stopped : StopsWriting acts stays id new writes bytes chunks mid t
 
 -- ---- all of a stream
 
@@ -150,11 +182,12 @@ abbrev pub buffer_or : Option PlainBuffer → (size_limit : ℕ) → PlainBuffer
 buffer_or None size_limit = record { kept = []; extent = None; size_limit = size_limit }
 buffer_or (Some b) size_limit = b
 
--- the buffer took all pieces that reads gave, one after another, in whatever order they came
+-- The buffer took all pieces that reads gave, one after another, in whatever order they came. If it was within its limit it is still.
 pub record IsGathered {S T : Type 0} (acts : S → Call → Reply T → S → Type 0) (id : StreamId) (old : PlainBuffer) (s : S) (new : PlainBuffer) (mid : S) : Type 0 where
   pub pieces : List Chunk
   pub made : Acts acts s (map (piece_read id false) pieces) mid
   pub kept : new ≡ record { kept = old.kept ++ pieces; extent = widened_all old.extent pieces; size_limit = old.size_limit }
+  pub within : len_or_zero old.extent ≤ old.size_limit → len_or_zero new.extent ≤ new.size_limit
 
 -- the bytes of a buffer, from the least offset to the greatest end
 pub record AreAll (b : PlainBuffer) (bytes : List ℕ) : Type 0 where
@@ -167,11 +200,22 @@ IsTooLong b c = (b.size_limit < len_of (widened b.extent c)) ⊎ (2 ^ 64 ≤ end
 
 abbrev pub IsKeepError : ReadToEndError → PlainBuffer → Chunk → Type 0
 IsKeepError to_end.TooLong b c = IsTooLong b c
-IsKeepError (to_end.Read read.Memory) b c = Unit {0}
+IsKeepError (to_end.Read read.Memory) b c = IsTooLong b c → ⊥
 IsKeepError other b c = ⊥
 
--- Want of memory: no call was made, or the last piece isn't kept, or the bytes aren't put together. What is too long: the last piece makes it so.
+-- Why the call is over. Want of memory: the last piece isn't kept, though it isn't too long, or the bytes, of which some came, aren't put together. What is too long: the last piece makes
+-- it so; or there are more pieces than can be counted, and this holds.
 abbrev pub IsToEndError : {T : Type 0} → ReadToEndError → PlainBuffer → (Reply T → Type 0) → Type 0 → Type 0
-IsToEndError (to_end.Read read.Memory) b P Q = Q ⊎ (P reply.Ended ⊎ ((c : Chunk) × P (reply.Bytes c.offset c.bytes)))
+IsToEndError (to_end.Read read.Memory) b P Q = (P reply.Ended × (is_some b.extent ≡ true)) ⊎ ((c : Chunk) × P (reply.Bytes c.offset c.bytes) × (IsTooLong b c → ⊥))
 IsToEndError (to_end.Read e) b P Q = IsFrom (read_origin e) P ⊥
-IsToEndError to_end.TooLong b P Q = ((c : Chunk) × P (reply.Bytes c.offset c.bytes) × IsTooLong b c) ⊎ (2 ^ 64 - 1 ≤ length b.kept)
+IsToEndError to_end.TooLong b P Q = ((c : Chunk) × P (reply.Bytes c.offset c.bytes) × IsTooLong b c) ⊎ ((2 ^ 64 - 1 ≤ length b.kept) × Q)
+
+-- the call is over for this error, or there was no memory for a call
+abbrev pub IsHalt : {T : Type 0} → Halt → PlainBuffer → (Reply T → Type 0) → (wants stands : Type 0) → Type 0
+IsHalt halt.Wanting b P wants stands = wants
+IsHalt (halt.Over e) b P wants stands = IsToEndError e b P stands
+
+-- what is kept between polls is of this limit, and within it
+abbrev pub FitsLimit : Option PlainBuffer → (size_limit : ℕ) → Type 0
+FitsLimit None size_limit = Unit {0}
+FitsLimit (Some b) size_limit = (b.size_limit ≡ size_limit) × (len_or_zero b.extent ≤ size_limit)

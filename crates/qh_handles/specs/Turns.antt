@@ -1,5 +1,5 @@
 -- How a turn of a driver ends, and what it sends.
-use Rattle.std.specs.Prelude.{◌≡◌, ◌⊎◌, ℕ, true, List, ◌++◌, Option, Some, None, Result, Ok, Err, if◌then◌else◌}
+use Rattle.std.specs.Prelude.{◌≡◌, ◌⊎◌, ℕ, ◌-◌, ◌^◌, ◌<◌, true, List, ◌++◌, Option, Some, None, Result, Ok, Err, if◌then◌else◌}
 use Rattle.std.specs.Option.{option_map}
 use Rattle.futures.specs.declared.task.Poll.{Poll}
 use Rattle.futures.specs.declared.task.Poll.TheVariants.{Ready, Pending}
@@ -26,17 +26,17 @@ IsTurnFault other = Unit {0}
 abbrev pub AreSent : List OutMessage → (old new : Option (List OutMessage)) → Type 0
 AreSent out old new = new ≡ option_map (λ (sent : List OutMessage). sent ++ out) old
 
--- How often a poller failed, one that was there or that was made meanwhile.
+-- How often a poller failed: the one that was there, if none was made meanwhile, or else one that was. So many were made before and after; that number stands still at its end.
 module _ {P : Type 0} (faults : P → ℕ) where
   abbrev pub count_of : Option P → ℕ
   count_of None = 0
   count_of (Some poller) = faults poller
 
-  pub record PollerFailed (old new : Option P) : Type 0 where
+  pub record PollerFailed (made_old made_new : ℕ) (old new : Option P) : Type 0 where
     pub before : ℕ
-    pub is_before : (before ≡ 0) ⊎ (before ≡ count_of old)
+    pub is_before : ((made_new ≡ made_old) × (before ≡ count_of old)) ⊎ (((made_old < made_new) ⊎ (made_new ≡ 2 ^ 64 - 1)) × (before ≡ 0))
     pub rose : CountsFaults before (count_of new) true
 
 -- a turn that answers that the socket failed has its cause: the count of the socket rose, or that of its poller
-abbrev pub HasCause : {P : Type 0} (faults : P → ℕ) → Poll (Result (Unit {0}) IoFault) → (old new : ℕ) → (before after : Option P) → Type 0
-HasCause faults answer old new before after = poll_failed answer ≡ true → CountsFaults old new true ⊎ PollerFailed faults before after
+abbrev pub HasCause : {P : Type 0} (faults : P → ℕ) → Poll (Result (Unit {0}) IoFault) → (old new : ℕ) → (made_old made_new : ℕ) → (before after : Option P) → Type 0
+HasCause faults answer old new made_old made_new before after = poll_failed answer ≡ true → CountsFaults old new true ⊎ PollerFailed faults made_old made_new before after

@@ -1,4 +1,4 @@
-ghost use Rattle.std.specs.Prelude.{◌≡◌, ℕ, Bool, List, MatchResult, IfErr, IfOk};
+ghost use Rattle.std.specs.Prelude.{◌≡◌, ◌≤◌, ℕ, Bool, List, MatchResult, IfErr, IfOk, IsOk};
 ghost use Rattle.futures.specs.Poll.{IfReady, OnPending};
 ghost use Rattle.futures.specs.Task.{IsArmed, Keeps};
 ghost use Rattle.futures.specs.declared.task.Poll.{Poll as APoll};
@@ -20,7 +20,8 @@ use qh_base::{Memory, Moment};
 use qh_book::{Call, Reply};
 use qh_runtime::{AsyncUdpSocket, IoFault};
 
-/// Where calls are made: at the state of a connection itself, or at one that is shared. Each call is one step of that state, done while nobody else has it.
+/// Where calls are made: at the state of a connection itself, or at one that is shared. What a call does there is as whoever implements this says; it is meant
+/// to be one step of that state, done while nobody else has it.
 pub trait At {
     /// What the handshake tells of the peer.
     type HandshakeData: Drop;
@@ -28,8 +29,11 @@ pub trait At {
     /// The call was made and replied so.
     ghost acts: { Self → ACall → AReply (AToldValue Self.HandshakeData) → Self → Type 0 };
 
-    /// No call of this one was made, for want of memory.
+    /// A call was tried, and wasn't made for want of memory.
     ghost stays: { Self → Self → Type 0 };
+
+    /// This call takes no memory: it is made, whatever the allocator has.
+    ghost takes_none: { Self → ACall → Type 0 };
 
     /// A turn of the driver was made at this moment, while it was held or wasn't; it handed these messages to the socket and answered so. The last flag says
     /// whether there is more to send than one turn may.
@@ -44,6 +48,7 @@ pub trait At {
         requires polled { IsPolled call → HasContext cx }
         requires no_turn { IsDrive call → ⊥ }
         ensures value { MatchResult result (λ r. acts self.old call r self.new) (λ _. stays self.old self.new) }
+        ensures free { takes_none self.old call → IsOk result }
         ensures armed { IfOk result (λ r. r ≡ reply.Pending → ContextArmed cx.entry cx.exit) }
         ensures kept { ContextKept cx.entry cx.exit };
 
@@ -57,14 +62,12 @@ pub trait At {
     ) -> Poll<Result<(), IoFault>>
         ensures value { (out : List AnOutMessage) × drives self.old now part.old.is_held out result part.new.keeps_going self.new × AreSent out (X.departed socket.old) (X.departed socket.new) }
         ensures arrived { X.arrived socket.new ≡ X.arrived socket.old }
-        ensures cause { HasCause X.Poller.faults result (X.faults socket.old) (X.faults socket.new) part.old.poller part.new.poller }
+        ensures cause { HasCause X.Poller.faults result (X.faults socket.old) (X.faults socket.new) part.old.made part.new.made part.old.poller part.new.poller }
+        ensures made { part.old.made ≤ part.new.made }
         ensures errors { IfReady result (λ r. IfErr r IsTurnFault) }
         ensures held { part.new.is_held ≡ part.old.is_held }
         ensures armed { OnPending result (IsArmed cx.new) }
         ensures kept { Keeps cx.old cx.new };
-
-    /// If nothing is done no call is made.
-    ghost rests: { (x : Self) → stays x x };
 
     /// The reply has a form that the call may have.
     ghost fits: { (x y : Self) (c : ACall) (r : AReply (AToldValue Self.HandshakeData)) → acts x c r y → MayReply c r };
@@ -75,6 +78,8 @@ pub trait At {
 pub struct DriverPart<X: AsyncUdpSocket> {
     /// What tells that the socket can be written to, if it was asked for yet.
     pub poller: Option<X::Poller>,
+    /// How many of those were made. At its end the number stands still.
+    pub made: u64,
     /// Whether it makes no datagram for now.
     pub is_held: bool,
     /// Whether the last turn ended because it had sent as many datagrams as one may, and not because none was left.

@@ -1,4 +1,4 @@
-ghost use Rattle.std.specs.Prelude.{◌≡◌, ◌⊎◌, MatchResult};
+ghost use Rattle.std.specs.Prelude.{◌≡◌, ◌⊎◌, MatchResult, true, false};
 ghost use Rattle.futures.specs.Poll.{OnPending};
 ghost use Rattle.futures.specs.Task.{IsArmed, Keeps};
 ghost use Rattle.qh_book.specs.declared.call.Call.TheVariants as call;
@@ -20,22 +20,34 @@ use std::net::{IpAddr, SocketAddr};
 /// without `end` stays counted, so the connection isn't closed for want of handles.
 #[derive(Drop)]
 pub struct Connecting {
-    counted: (),
+    // Whether it was answered: then the connection is the handle that is counted, in its place.
+    is_given: bool,
 }
 
 impl Connecting {
     /// Hands out the handle that a new state counts (own).
-    pub fn of_state() -> Connecting {
-        Connecting { counted: () }
+    pub fn of_state() -> Connecting
+        ensures { result.is_given ≡ false }
+    {
+        Connecting { is_given: false }
+    }
+
+    /// Whether the connection was given: it is counted now in place of this one, which isn't polled any more.
+    pub fn is_given(&self) -> bool
+        ensures { result ≡ self.now.is_given }
+    {
+        self.is_given
     }
 
     /// Waits until the handshake is complete. The error is the one by which the connection was lost, or `Memory`: then this call wanted memory, and wasn't
-    /// made, or the connection was lost for want of it.
+    /// made, or the connection was lost for want of it. Once the connection was given this one isn't polled any more; after an error a further poll asks again.
     pub fn poll<A: At>(
         &mut self,
         at: &mut A,
         cx: &mut Context<'_>,
     ) -> Poll<Result<Connection, ConnectionError>>
+        requires { self.old.is_given ≡ false }
+        ensures given { MatchAnswer result (λ _. self.new.is_given ≡ true) (λ _. self.new.is_given ≡ false) (self.new.is_given ≡ false) }
         ensures value { MatchAnswer result (λ _. A.acts at.old call.Connecting answer.Done at.new)
             (λ e. IsLostBy e (λ r. A.acts at.old call.Connecting r at.new) (A.stays at.old at.new))
             (A.acts at.old call.Connecting answer.Pending at.new) }
@@ -46,7 +58,10 @@ impl Connecting {
             return Poll::Ready(Err(ConnectionError::Memory));
         };
         match reply {
-            Reply::Done => Poll::Ready(Ok(Connection::of_state())),
+            Reply::Done => {
+                self.is_given = true;
+                Poll::Ready(Ok(Connection::of_state()))
+            }
             Reply::ConnectionLost(error) => Poll::Ready(Err(error)),
             Reply::Pending => Poll::Pending,
             _ => unreachable!(),
@@ -78,10 +93,16 @@ impl Connecting {
         }
     }
 
-    /// Ends the handle. If it was the last one, and no error is kept, the connection is closed with code 0 and an empty reason.
+    /// Ends the handle. If it was the last one, and no error is kept, the connection is closed with code 0 and an empty reason. One that gave the connection
+    /// isn't counted any more, and makes no call.
     pub fn end<A: At>(self, at: &mut A)
-        ensures { A.acts at.old call.EndHandle answer.Done at.new ⊎ A.stays at.old at.new }
+        ensures given { self.is_given ≡ true → at.new ≡ at.old }
+        ensures value { self.is_given ≡ false → A.acts at.old call.EndHandle answer.Done at.new ⊎ A.stays at.old at.new }
+        ensures free { self.is_given ≡ false → A.takes_none at.old call.EndHandle → A.acts at.old call.EndHandle answer.Done at.new }
     {
+        if self.is_given {
+            return;
+        }
         match at.act(Call::EndHandle, None) {
             Ok(Reply::Done) | Err(Memory) => {}
             Ok(_) => unreachable!(),
@@ -97,7 +118,7 @@ pub struct HandshakeData {
 
 impl HandshakeData {
     /// The data. The error is the one by which the connection was lost, or `Memory`: then this call wanted memory, and wasn't made, or the connection was
-    /// lost for want of it.
+    /// lost for want of it. A further poll asks again.
     pub fn poll<A: At>(
         &mut self,
         at: &mut A,

@@ -1,4 +1,4 @@
-ghost use Rattle.std.specs.Prelude.{◌≡◌, ◌⊎◌, IfOk, MatchOption, MatchResult, false, take, true};
+ghost use Rattle.std.specs.Prelude.{◌≡◌, ◌⊎◌, IfOk, IsOk, MatchOption, MatchResult, false, take, true};
 ghost use Rattle.futures.specs.Poll.{IfReady, OnPending};
 ghost use Rattle.futures.specs.Task.{IsArmed, Keeps};
 ghost use Rattle.qh_book.specs.declared.call.Call.TheVariants as call;
@@ -102,7 +102,7 @@ impl Connection {
         }
     }
 
-    /// Closes the connection at this moment, with this code of the application (RFC 9000, section 10.2). Of the reason the first 128 bytes are sent.
+    /// Closes the connection at this moment, with this code of the application (RFC 9000, section 10.2). Of the reason the first 128 bytes are kept.
     pub fn close<A: At>(
         &self,
         at: &mut A,
@@ -240,7 +240,8 @@ impl Connection {
         at: &mut A,
         count: VarInt,
     ) -> Result<(), Memory>
-        ensures { MatchResult result (λ _. A.acts at.old (call.Set (setting.MaxConcurrentUniStreams count)) answer.Done at.new) (λ _. A.stays at.old at.new) }
+        ensures value { MatchResult result (λ _. A.acts at.old (call.Set (setting.MaxConcurrentUniStreams count)) answer.Done at.new) (λ _. A.stays at.old at.new) }
+        ensures free { A.takes_none at.old (call.Set (setting.MaxConcurrentUniStreams count)) → IsOk result }
     {
         match at.act(Call::Set(Setting::MaxConcurrentUniStreams(count)), None)? {
             Reply::Done => Ok(()),
@@ -254,7 +255,8 @@ impl Connection {
         at: &mut A,
         count: VarInt,
     ) -> Result<(), Memory>
-        ensures { MatchResult result (λ _. A.acts at.old (call.Set (setting.MaxConcurrentBiStreams count)) answer.Done at.new) (λ _. A.stays at.old at.new) }
+        ensures value { MatchResult result (λ _. A.acts at.old (call.Set (setting.MaxConcurrentBiStreams count)) answer.Done at.new) (λ _. A.stays at.old at.new) }
+        ensures free { A.takes_none at.old (call.Set (setting.MaxConcurrentBiStreams count)) → IsOk result }
     {
         match at.act(Call::Set(Setting::MaxConcurrentBiStreams(count)), None)? {
             Reply::Done => Ok(()),
@@ -264,7 +266,8 @@ impl Connection {
 
     /// How many bytes may be written and not yet acknowledged.
     pub fn set_send_window<A: At>(&self, at: &mut A, bytes: u64) -> Result<(), Memory>
-        ensures { MatchResult result (λ _. A.acts at.old (call.Set (setting.SendWindow bytes)) answer.Done at.new) (λ _. A.stays at.old at.new) }
+        ensures value { MatchResult result (λ _. A.acts at.old (call.Set (setting.SendWindow bytes)) answer.Done at.new) (λ _. A.stays at.old at.new) }
+        ensures free { A.takes_none at.old (call.Set (setting.SendWindow bytes)) → IsOk result }
     {
         match at.act(Call::Set(Setting::SendWindow(bytes)), None)? {
             Reply::Done => Ok(()),
@@ -274,7 +277,8 @@ impl Connection {
 
     /// How many bytes of all streams the peer may send before they are read (RFC 9000, section 4.1).
     pub fn set_receive_window<A: At>(&self, at: &mut A, bytes: VarInt) -> Result<(), Memory>
-        ensures { MatchResult result (λ _. A.acts at.old (call.Set (setting.ReceiveWindow bytes)) answer.Done at.new) (λ _. A.stays at.old at.new) }
+        ensures value { MatchResult result (λ _. A.acts at.old (call.Set (setting.ReceiveWindow bytes)) answer.Done at.new) (λ _. A.stays at.old at.new) }
+        ensures free { A.takes_none at.old (call.Set (setting.ReceiveWindow bytes)) → IsOk result }
     {
         match at.act(Call::Set(Setting::ReceiveWindow(bytes)), None)? {
             Reply::Done => Ok(()),
@@ -294,7 +298,8 @@ impl Connection {
 
     /// Ends the handle. If it was the last one, and no error is kept, the connection is closed with code 0 and an empty reason.
     pub fn end<A: At>(self, at: &mut A)
-        ensures { A.acts at.old call.EndHandle answer.Done at.new ⊎ A.stays at.old at.new }
+        ensures value { A.acts at.old call.EndHandle answer.Done at.new ⊎ A.stays at.old at.new }
+        ensures free { A.takes_none at.old call.EndHandle → A.acts at.old call.EndHandle answer.Done at.new }
     {
         match at.act(Call::EndHandle, None) {
             Ok(Reply::Done) | Err(Memory) => {}
@@ -311,7 +316,7 @@ pub struct OpenUni {
 
 impl OpenUni {
     /// The stream. The error is the one by which the connection was lost, or `Memory`: then this call wanted memory, and wasn't made, or the connection was
-    /// lost for want of it.
+    /// lost for want of it. A further poll opens another stream.
     pub fn poll<A: At>(
         &mut self,
         at: &mut A,
@@ -339,7 +344,7 @@ pub struct OpenBi {
 
 impl OpenBi {
     /// The halves of the stream. The error is the one by which the connection was lost, or `Memory`: then this call wanted memory, and wasn't made, or the
-    /// connection was lost for want of it.
+    /// connection was lost for want of it. A further poll opens another stream.
     pub fn poll<A: At>(
         &mut self,
         at: &mut A,
@@ -368,7 +373,7 @@ pub struct AcceptUni {
 
 impl AcceptUni {
     /// The stream. One that waits comes before an error. The error is the one by which the connection was lost, or `Memory`: then this call wanted memory, and
-    /// wasn't made, or the connection was lost for want of it.
+    /// wasn't made, or the connection was lost for want of it. A further poll accepts the next stream.
     pub fn poll<A: At>(
         &mut self,
         at: &mut A,
@@ -396,7 +401,7 @@ pub struct AcceptBi {
 
 impl AcceptBi {
     /// The halves of the stream. One that waits comes before an error. The error is the one by which the connection was lost, or `Memory`: then this call
-    /// wanted memory, and wasn't made, or the connection was lost for want of it.
+    /// wanted memory, and wasn't made, or the connection was lost for want of it. A further poll accepts the next stream.
     pub fn poll<A: At>(
         &mut self,
         at: &mut A,
@@ -471,7 +476,7 @@ pub struct ReadDatagram {
 
 impl ReadDatagram {
     /// The payload of the oldest datagram. One that waits comes before an error. The error is the one by which the connection was lost, or `Memory`: then
-    /// this call wanted memory, and wasn't made, or the connection was lost for want of it.
+    /// this call wanted memory, and wasn't made, or the connection was lost for want of it. A further poll reads the next datagram.
     pub fn poll<A: At>(
         &mut self,
         at: &mut A,
@@ -502,7 +507,7 @@ pub struct SendDatagram {
 }
 
 impl SendDatagram {
-    /// Queues the datagram once there is room for it. After it was queued a further poll queues it again.
+    /// Queues the datagram once there is room for it. After it was queued a further poll queues it again. `Memory`: this call wanted memory, and wasn't made.
     pub fn poll<A: At>(
         &mut self,
         at: &mut A,
@@ -510,7 +515,7 @@ impl SendDatagram {
     ) -> Poll<Result<(), SendDatagramError>>
         ensures same { self.new.payload ≡ self.old.payload }
         ensures value { MatchAnswer result (λ _. A.acts at.old (call.SendDatagram self.old.payload true) answer.Done at.new)
-            (λ e. IsFrom (datagram_origin e) (λ r. A.acts at.old (call.SendDatagram self.old.payload true) r at.new) (A.stays at.old at.new))
+            (λ e. IsFrom (datagram_origin e) (λ r. A.acts at.old (call.SendDatagram self.old.payload true) r at.new) (A.stays at.old at.new ⊎ (at.new ≡ at.old)))
             (A.acts at.old (call.SendDatagram self.old.payload true) answer.Pending at.new) }
         ensures armed { OnPending result (IsArmed cx.new) }
         ensures kept { Keeps cx.old cx.new }
@@ -546,7 +551,8 @@ pub struct Closed {
 }
 
 impl Closed {
-    /// The error by which the connection was lost, or `Memory`: then this call wanted memory, and wasn't made, or the connection was lost for want of it.
+    /// The error by which the connection was lost, or `Memory`: then this call wanted memory, and wasn't made, or the connection was lost for want of it. A
+    /// further poll asks again.
     pub fn poll<A: At>(&mut self, at: &mut A, cx: &mut Context<'_>) -> Poll<ConnectionError>
         ensures value { MatchPoll result (λ e. IsLostBy e (λ r. A.acts at.old call.Closed r at.new) (A.stays at.old at.new)) (A.acts at.old call.Closed answer.Pending at.new) }
         ensures armed { OnPending result (IsArmed cx.new) }

@@ -1,4 +1,4 @@
-ghost use Rattle.std.specs.Prelude.{◌≡◌, List, None, false, IfErr};
+ghost use Rattle.std.specs.Prelude.{◌≡◌, ◌≤◌, List, None, false, IfErr};
 ghost use Rattle.futures.specs.Poll.{IfReady, OnPending};
 ghost use Rattle.futures.specs.Task.{IsArmed, Keeps};
 ghost use Rattle.qh_handles.specs.Turns.{AreSent, HasCause, IsTurnFault};
@@ -20,12 +20,14 @@ impl<X: AsyncUdpSocket> ConnectionDriver<X> {
     /// The driver of a new state (own).
     pub fn of_state() -> ConnectionDriver<X>
         ensures poller { result.part.poller ≡ None }
+        ensures made { result.part.made ≡ 0 }
         ensures held { result.part.is_held ≡ false }
         ensures going { result.part.keeps_going ≡ false }
     {
         ConnectionDriver {
             part: DriverPart {
                 poller: None,
+                made: 0,
                 is_held: false,
                 keeps_going: false,
             },
@@ -42,7 +44,8 @@ impl<X: AsyncUdpSocket> ConnectionDriver<X> {
     ) -> Poll<Result<(), IoFault>>
         ensures value { (out : List AnOutMessage) × A.drives at.old now self.old.part.is_held out result self.new.part.keeps_going at.new × AreSent out (X.departed socket.old) (X.departed socket.new) }
         ensures arrived { X.arrived socket.new ≡ X.arrived socket.old }
-        ensures cause { HasCause X.Poller.faults result (X.faults socket.old) (X.faults socket.new) self.old.part.poller self.new.part.poller }
+        ensures cause { HasCause X.Poller.faults result (X.faults socket.old) (X.faults socket.new) self.old.part.made self.new.part.made self.old.part.poller self.new.part.poller }
+        ensures made { self.old.part.made ≤ self.new.part.made }
         ensures errors { IfReady result (λ r. IfErr r IsTurnFault) }
         ensures held { self.new.part.is_held ≡ self.old.part.is_held }
         ensures armed { OnPending result (IsArmed cx.new) }
@@ -62,6 +65,7 @@ impl<X: AsyncUdpSocket> ConnectionDriver<X> {
     pub fn hold(&mut self, held: bool)
         ensures held { self.new.part.is_held ≡ held }
         ensures poller { self.new.part.poller ≡ self.old.part.poller }
+        ensures made { self.new.part.made ≡ self.old.part.made }
         ensures going { self.new.part.keeps_going ≡ self.old.part.keeps_going }
     {
         self.part.is_held = held;

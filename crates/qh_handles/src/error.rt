@@ -14,7 +14,7 @@ pub enum ReadError {
     /// The connection is lost, by this error.
     #[error("connection lost")]
     ConnectionLost(ConnectionError),
-    /// The stream was never there.
+    /// No handle holds the receiving half of the stream, or there never was one.
     #[error("closed stream")]
     ClosedStream,
     /// An ordered read after an unordered one.
@@ -187,7 +187,7 @@ pub enum WriteError {
     /// The connection is lost, by this error.
     #[error("connection lost")]
     ConnectionLost(ConnectionError),
-    /// The stream was finished or reset, or was never there.
+    /// The stream was finished or reset, or no handle holds its sending half, or there never was one.
     #[error("closed stream")]
     ClosedStream,
     /// The peer refused data that was sent before the handshake. No call answers it: there is no such data here.

@@ -1,5 +1,6 @@
 //! What users of a connection hold in their hands, as `quinn` has it: the connection, its streams, the calls on them that wait, and its driver. Each call is
-//! made at a connection's state, which is handed in, or at one that is shared (the trait `At`), and is one step of a book that can be read (`qh_book`).
+//! made at a connection's state, which is handed in, or at one that is shared (the trait `At`). What it does there, and whether it is one step of a book that
+//! can be read (`qh_book`), is as whoever implements `At` says.
 #![tactic(auto)]
 
 mod ask;

@@ -1,4 +1,4 @@
-ghost use Rattle.std.specs.Prelude.{◌≡◌, ◌⊎◌, ◌<◌, ◌≤◌, ◌-◌, ◌++◌, ◌∷◌, ℕ, [], None, Some, IfErr, IfSome, MatchOption, MatchResult, OnOk, true, false, length, ⊤};
+ghost use Rattle.std.specs.Prelude.{◌≡◌, ◌⊎◌, ◌<◌, ◌≤◌, ◌-◌, ◌++◌, ◌∷◌, ℕ, [], None, Some, IfErr, IfSome, MatchOption, MatchResult, IsOk, OnOk, true, false, is_some, length, ⊤};
 ghost use Rattle.futures.specs.Poll.{IfReady, OnPending};
 ghost use Rattle.futures.specs.Task.{IsArmed, Keeps};
 ghost use Rattle.qh_book.specs.declared.call.Call.TheVariants as call;
@@ -6,7 +6,7 @@ ghost use Rattle.qh_book.specs.declared.reply.Reply.{Reply as AReply};
 ghost use Rattle.qh_book.specs.declared.reply.Reply.TheVariants as answer;
 ghost use Rattle.qh_parts.specs.ReadToEndBuffer.{PlainBuffer as ABuffer, widened};
 ghost use Rattle.qh_handles.specs.declared.told.Told.{Told as AToldValue};
-ghost use Rattle.qh_handles.specs.Chains.{AreAll, EndsReads, IsExactError, IsFilled, IsGathered, IsKeepError, IsPlaced, IsToEndError, buffer_or, is_reset};
+ghost use Rattle.qh_handles.specs.Chains.{AreAll, EndsReads, IsExactError, FitsLimit, IsFilled, IsGathered, IsHalt, IsKeepError, IsPlaced, IsToEndError, IsTooLong, buffer_or, is_reset};
 ghost use Rattle.qh_handles.specs.Origins.{IsFrom, read_origin, reset_origin};
 ghost use Rattle.qh_handles.specs.Polls.{MatchAnswer};
 ghost use Rattle.qh_handles.specs.Streams.{IsReadInto, IsReadOrEnded, chunk_reply};
@@ -104,7 +104,11 @@ impl RecvStream {
         ensures lent { result.bufs.ghost_name ≡ bufs.entry.ghost_name }
         ensures chunks { result.bufs.now ≡ bufs.old }
     {
-        ReadChunks { id: self.id, bufs }
+        ReadChunks {
+            id: self.id,
+            bufs,
+            count: 0,
+        }
     }
 
     /// Reads all of the stream, which may be so many bytes long: a call that waits for its end. Its reads are in no order.
@@ -113,11 +117,13 @@ impl RecvStream {
         ensures stream { result.id ≡ self.old.id }
         ensures limit { result.size_limit ≡ size_limit }
         ensures none { result.buffer ≡ None }
+        ensures over { result.is_over ≡ false }
     {
         ReadToEnd {
             id: self.id,
             size_limit,
             buffer: None,
+            is_over: false,
         }
     }
 
@@ -138,6 +144,7 @@ impl RecvStream {
         ensures same { self.new ≡ self.old }
         ensures value { MatchResult result (λ r. MatchResult r (λ _. A.acts at.old (call.Stop self.old.id code) answer.Done at.new)
             (λ _. A.acts at.old (call.Stop self.old.id code) answer.ClosedStream at.new)) (λ _. A.stays at.old at.new) }
+        ensures free { A.takes_none at.old (call.Stop self.old.id code) → IsOk result }
     {
         match at.act(Call::Stop { id: self.id, code }, None)? {
             Reply::Done => Ok(Ok(())),
@@ -162,7 +169,8 @@ impl RecvStream {
 
     /// Ends the handle. The stream is stopped with code 0, unless its end or an error was given, or it was stopped, or the connection is lost.
     pub fn end<A: At>(self, at: &mut A)
-        ensures { A.acts at.old (call.EndRecv self.id) answer.Done at.new ⊎ A.stays at.old at.new }
+        ensures value { A.acts at.old (call.EndRecv self.id) answer.Done at.new ⊎ A.stays at.old at.new }
+        ensures free { A.takes_none at.old (call.EndRecv self.id) → A.acts at.old (call.EndRecv self.id) answer.Done at.new }
     {
         match at.act(Call::EndRecv(self.id), None) {
             Ok(Reply::Done) | Err(Memory) => {}
@@ -256,7 +264,7 @@ pub struct Read<'a> {
 }
 
 impl Read<'_> {
-    /// How many bytes were read into the front of the buffer. None at the end.
+    /// How many bytes were read into the front of the buffer. None at the end. A further poll reads the next bytes over these.
     pub fn poll<A: At>(
         &mut self,
         at: &mut A,
@@ -287,8 +295,8 @@ pub struct ReadExact<'a> {
 }
 
 impl ReadExact<'_> {
-    /// Done once the buffer is full. If it waits, what was read stands in the buffer's front, and a further poll goes on behind it. If the stream ends before,
-    /// `FinishedEarly` says how many bytes were read.
+    /// Done once the buffer is full; a further poll is done at once then. If it waits, or answers an error, what was read stands in the buffer's front, and a
+    /// further poll goes on behind it. If the stream ends before, `FinishedEarly` says how many bytes were read.
     pub fn poll<A: At>(
         &mut self,
         at: &mut A,
@@ -298,8 +306,8 @@ impl ReadExact<'_> {
         ensures lent { self.new.buf.ghost_name ≡ self.old.buf.ghost_name }
         ensures value { (mid : A) × IsFilled A.acts self.old.id self.old.buf.now self.old.filled at.old self.new.buf.now self.new.filled mid
             × MatchAnswer result (λ _. (length self.old.buf.now ≤ self.new.filled) × (mid ≡ at.new))
-            (λ e. IsExactError e self.new.filled (λ r. A.acts mid (call.Read self.old.id (length self.old.buf.now - self.new.filled) true) r at.new) (A.stays mid at.new))
-            (A.acts mid (call.Read self.old.id (length self.old.buf.now - self.new.filled) true) answer.Pending at.new) }
+            (λ e. (self.new.filled < length self.old.buf.now) × IsExactError e self.new.filled (λ r. A.acts mid (call.Read self.old.id (length self.old.buf.now - self.new.filled) true) r at.new) (A.stays mid at.new))
+            ((self.new.filled < length self.old.buf.now) × A.acts mid (call.Read self.old.id (length self.old.buf.now - self.new.filled) true) answer.Pending at.new) }
         ensures armed { OnPending result (IsArmed cx.new) }
         ensures kept { Keeps cx.old cx.new }
     {
@@ -319,8 +327,8 @@ fn fill<A: At>(
 ) -> Poll<Result<(), ReadExactError>>
     ensures value { (mid : A) × IsFilled A.acts id buf.old filled.old at.old buf.new filled.new mid
         × MatchAnswer result (λ _. (length buf.old ≤ filled.new) × (mid ≡ at.new))
-        (λ e. IsExactError e filled.new (λ r. A.acts mid (call.Read id (length buf.old - filled.new) true) r at.new) (A.stays mid at.new))
-        (A.acts mid (call.Read id (length buf.old - filled.new) true) answer.Pending at.new) }
+        (λ e. (filled.new < length buf.old) × IsExactError e filled.new (λ r. A.acts mid (call.Read id (length buf.old - filled.new) true) r at.new) (A.stays mid at.new))
+        ((filled.new < length buf.old) × A.acts mid (call.Read id (length buf.old - filled.new) true) answer.Pending at.new) }
     ensures armed { OnPending result (IsArmed cx.new) }
     ensures kept { Keeps cx.old cx.new }
 {
@@ -347,7 +355,7 @@ pub struct ReadChunk {
 }
 
 impl ReadChunk {
-    /// The piece, with its offset. None at the end.
+    /// The piece, with its offset. None at the end. A further poll reads another piece.
     pub fn poll<A: At>(
         &mut self,
         at: &mut A,
@@ -369,11 +377,14 @@ impl ReadChunk {
 pub struct ReadChunks<'a> {
     id: StreamId,
     bufs: &'a mut [Bytes],
+    // How many pieces the last poll read.
+    count: usize,
 }
 
 impl ReadChunks<'_> {
     /// How many pieces were read into the front of the list. None at the end, and 0 if the list is empty. The first piece is waited for; then what came is
-    /// taken. If a later read gives none, what was read is answered, and the next call tells why; but a reset, which is told once, is answered at once.
+    /// taken. If a later read gives none, what was read is answered, and the next call tells why; but a reset, which is told once, is answered at once, and
+    /// then `count` says how many pieces were read before it. A further poll reads the next pieces over these.
     pub fn poll<A: At>(
         &mut self,
         at: &mut A,
@@ -381,52 +392,61 @@ impl ReadChunks<'_> {
     ) -> Poll<Result<Option<usize>, ReadError>>
         ensures same { self.new.id ≡ self.old.id }
         ensures lent { self.new.bufs.ghost_name ≡ self.old.bufs.ghost_name }
-        ensures value { (mid : A) × (count : ℕ) × IsPlaced A.acts self.old.id self.old.bufs.now at.old self.new.bufs.now mid count
+        ensures value { (mid : A) × IsPlaced A.acts self.old.id self.old.bufs.now at.old self.new.bufs.now mid self.new.count
             × MatchAnswer result
-            (λ answered. MatchOption answered ((count ≡ 0) × A.acts mid (call.Read self.old.id usize.MAX true) answer.Ended at.new)
-            (λ n. (n ≡ count) × (((n ≡ length self.old.bufs.now) × (mid ≡ at.new))
-            ⊎ ((0 < n) × (A.stays mid at.new ⊎ ((r : AReply (AToldValue A.HandshakeData)) × A.acts mid (call.Read self.old.id usize.MAX true) r at.new × EndsReads r))))))
-            (λ e. IsFrom (read_origin e) (λ r. A.acts mid (call.Read self.old.id usize.MAX true) r at.new × ((count ≡ 0) ⊎ (is_reset e ≡ true))) (A.stays mid at.new × (count ≡ 0)))
-            (A.acts mid (call.Read self.old.id usize.MAX true) answer.Pending at.new × (count ≡ 0)) }
+            (λ answered. MatchOption answered ((self.new.count ≡ 0) × (0 < length self.old.bufs.now) × A.acts mid (call.Read self.old.id usize.MAX true) answer.Ended at.new)
+            (λ n. (n ≡ self.new.count) × (((n ≡ length self.old.bufs.now) × (mid ≡ at.new))
+            ⊎ ((0 < n) × (n < length self.old.bufs.now) × (A.stays mid at.new ⊎ ((r : AReply (AToldValue A.HandshakeData)) × A.acts mid (call.Read self.old.id usize.MAX true) r at.new × EndsReads r))))))
+            (λ e. (self.new.count < length self.old.bufs.now) × IsFrom (read_origin e) (λ r. A.acts mid (call.Read self.old.id usize.MAX true) r at.new × ((self.new.count ≡ 0) ⊎ (is_reset e ≡ true))) (A.stays mid at.new × (self.new.count ≡ 0)))
+            ((self.new.count ≡ 0) × (0 < length self.old.bufs.now) × A.acts mid (call.Read self.old.id usize.MAX true) answer.Pending at.new) }
         ensures armed { OnPending result (IsArmed cx.new) }
         ensures kept { Keeps cx.old cx.new }
     {
         let bufs = &mut *self.bufs;
-        read_each(self.id, at, bufs, cx)
+        let count = &mut self.count;
+        read_each(self.id, at, bufs, count, cx)
+    }
+
+    /// How many pieces the last poll read, also if it answered a reset that came behind them. They stand in the front of the list.
+    pub fn count(&self) -> usize
+        ensures { result ≡ self.now.count }
+    {
+        self.count
     }
 }
 
-// Reads pieces into the front of a list until there is none.
+// Reads pieces into the front of a list until there is none, and counts them.
 fn read_each<A: At>(
     id: StreamId,
     at: &mut A,
     bufs: &mut [Bytes],
+    count: &mut usize,
     cx: &mut Context<'_>,
 ) -> Poll<Result<Option<usize>, ReadError>>
-    ensures value { (mid : A) × (count : ℕ) × IsPlaced A.acts id bufs.old at.old bufs.new mid count
+    ensures value { (mid : A) × IsPlaced A.acts id bufs.old at.old bufs.new mid count.new
         × MatchAnswer result
-        (λ answered. MatchOption answered ((count ≡ 0) × A.acts mid (call.Read id usize.MAX true) answer.Ended at.new)
-        (λ n. (n ≡ count) × (((n ≡ length bufs.old) × (mid ≡ at.new))
-        ⊎ ((0 < n) × (A.stays mid at.new ⊎ ((r : AReply (AToldValue A.HandshakeData)) × A.acts mid (call.Read id usize.MAX true) r at.new × EndsReads r))))))
-        (λ e. IsFrom (read_origin e) (λ r. A.acts mid (call.Read id usize.MAX true) r at.new × ((count ≡ 0) ⊎ (is_reset e ≡ true))) (A.stays mid at.new × (count ≡ 0)))
-        (A.acts mid (call.Read id usize.MAX true) answer.Pending at.new × (count ≡ 0)) }
+        (λ answered. MatchOption answered ((count.new ≡ 0) × (0 < length bufs.old) × A.acts mid (call.Read id usize.MAX true) answer.Ended at.new)
+        (λ n. (n ≡ count.new) × (((n ≡ length bufs.old) × (mid ≡ at.new))
+        ⊎ ((0 < n) × (n < length bufs.old) × (A.stays mid at.new ⊎ ((r : AReply (AToldValue A.HandshakeData)) × A.acts mid (call.Read id usize.MAX true) r at.new × EndsReads r))))))
+        (λ e. (count.new < length bufs.old) × IsFrom (read_origin e) (λ r. A.acts mid (call.Read id usize.MAX true) r at.new × ((count.new ≡ 0) ⊎ (is_reset e ≡ true))) (A.stays mid at.new × (count.new ≡ 0)))
+        ((count.new ≡ 0) × (0 < length bufs.old) × A.acts mid (call.Read id usize.MAX true) answer.Pending at.new) }
     ensures armed { OnPending result (IsArmed cx.new) }
     ensures kept { Keeps cx.old cx.new }
 {
-    let mut count = 0;
-    while count < bufs.len() {
+    *count = 0;
+    while *count < bufs.len() {
         match poll_chunk(id, at, usize::MAX, true, cx) {
             Poll::Ready(Ok(Some(chunk))) => {
-                bufs[count] = chunk.bytes;
-                count += 1;
+                bufs[*count] = chunk.bytes;
+                *count += 1;
             }
-            Poll::Ready(Err(error)) => return Poll::Ready(after_error(count, error)),
-            Poll::Ready(Ok(None)) if count == 0 => return Poll::Ready(Ok(None)),
-            Poll::Pending if count == 0 => return Poll::Pending,
-            _ => return Poll::Ready(Ok(Some(count))),
+            Poll::Ready(Err(error)) => return Poll::Ready(after_error(*count, error)),
+            Poll::Ready(Ok(None)) if *count == 0 => return Poll::Ready(Ok(None)),
+            Poll::Pending if *count == 0 => return Poll::Pending,
+            _ => return Poll::Ready(Ok(Some(*count))),
         }
     }
-    Poll::Ready(Ok(Some(count)))
+    Poll::Ready(Ok(Some(*count)))
 }
 
 // What is answered if a read fails behind so many that gave pieces.
@@ -445,25 +465,31 @@ fn after_error(count: usize, error: ReadError) -> Result<Option<usize>, ReadErro
 pub struct ReadToEnd {
     id: StreamId,
     size_limit: usize,
-    // What was read; None before the first poll, and once it was answered.
+    // What was read; None before the first poll, and once the call is over.
     buffer: Option<ReadToEndBuffer>,
+    // Whether it was answered for good.
+    is_over: bool,
 }
 
 impl ReadToEnd {
-    /// The bytes of the stream, from the least offset that wasn't read yet to its end; where a byte was read before, there is a 0. If it waits, what was
-    /// read is kept, and a further poll goes on. An error drops it. Want of memory may lose a piece that was read.
+    /// The bytes of the stream, from the least offset to the greatest end of the pieces that this call read; where a byte was read before, there is a 0. If it
+    /// waits, or memory was wanting for a read, what was read is kept, and a further poll goes on. With every other answer the call is over: it isn't polled any
+    /// more. Want of memory that ends it loses what was read.
     pub fn poll<A: At>(
         &mut self,
         at: &mut A,
         alloc: Global,
         cx: &mut Context<'_>,
     ) -> Poll<Result<Vec<u8>, ReadToEndError>>
+        requires { self.old.is_over ≡ false }
         ensures same { (self.new.id ≡ self.old.id) × (self.new.size_limit ≡ self.old.size_limit) }
         ensures value { (mid : A) × (b : ABuffer) × IsGathered A.acts self.old.id (buffer_or self.old.buffer self.old.size_limit) at.old b mid
-            × MatchAnswer result (λ bytes. A.acts mid (call.Read self.old.id usize.MAX false) answer.Ended at.new × AreAll b bytes.items)
-            (λ e. IsToEndError e b (λ r. A.acts mid (call.Read self.old.id usize.MAX false) r at.new) (A.stays mid at.new))
-            (A.acts mid (call.Read self.old.id usize.MAX false) answer.Pending at.new × (self.new.buffer ≡ Some b)) }
-        ensures dropped { IfReady result (λ _. self.new.buffer ≡ None) }
+            × MatchAnswer result (λ bytes. A.acts mid (call.Read self.old.id usize.MAX false) answer.Ended at.new × AreAll b bytes.items × (self.new.is_over ≡ true))
+            (λ e. ((e ≡ ReadToEndError.Read ReadError.Memory) × A.stays mid at.new × (self.new.buffer ≡ Some b) × (self.new.is_over ≡ false))
+            ⊎ (IsToEndError e b (λ r. A.acts mid (call.Read self.old.id usize.MAX false) r at.new) (mid ≡ at.new) × (self.new.is_over ≡ true)))
+            (A.acts mid (call.Read self.old.id usize.MAX false) answer.Pending at.new × (self.new.buffer ≡ Some b) × (self.new.is_over ≡ false)) }
+        ensures dropped { self.new.is_over ≡ true → self.new.buffer ≡ None }
+        ensures limit { FitsLimit self.old.buffer self.old.size_limit → MatchAnswer result (λ bytes. length bytes.items ≤ self.old.size_limit) (λ _. ⊤) ⊤ × FitsLimit self.new.buffer self.old.size_limit }
         ensures armed { OnPending result (IsArmed cx.new) }
         ensures kept { Keeps cx.old cx.new }
     {
@@ -472,16 +498,50 @@ impl ReadToEnd {
             None => ReadToEndBuffer::new(alloc, self.size_limit),
         };
         match gather(self.id, at, &mut buffer, cx) {
-            Poll::Ready(Ok(())) => match buffer.finish() {
-                Ok(bytes) => Poll::Ready(Ok(bytes)),
-                Err(Memory) => Poll::Ready(Err(ReadToEndError::Read(ReadError::Memory))),
-            },
-            Poll::Ready(Err(error)) => Poll::Ready(Err(error)),
+            Poll::Ready(Ok(())) => {
+                self.is_over = true;
+                match put_together(buffer) {
+                    Ok(bytes) => Poll::Ready(Ok(bytes)),
+                    Err(error) => Poll::Ready(Err(error)),
+                }
+            }
+            Poll::Ready(Err(Halt::Over(error))) => {
+                self.is_over = true;
+                Poll::Ready(Err(error))
+            }
+            Poll::Ready(Err(Halt::Wanting)) => {
+                self.buffer = Some(buffer);
+                Poll::Ready(Err(ReadToEndError::Read(ReadError::Memory)))
+            }
             Poll::Pending => {
                 self.buffer = Some(buffer);
                 Poll::Pending
             }
         }
+    }
+
+    /// Whether the call was answered, so that it isn't polled any more. It isn't over if it waits, or memory was wanting for a read.
+    pub fn is_over(&self) -> bool
+        ensures { result ≡ self.now.is_over }
+    {
+        self.is_over
+    }
+}
+
+// Why reads stop before the end: memory was wanting for one, or the call is over.
+#[derive(Drop)]
+pub enum Halt {
+    Wanting,
+    Over(ReadToEndError),
+}
+
+// The bytes of a buffer.
+fn put_together(buffer: ReadToEndBuffer) -> Result<Vec<u8>, ReadToEndError>
+    ensures { MatchResult result (λ bytes. AreAll buffer bytes.items) (λ e. (e ≡ ReadToEndError.Read ReadError.Memory) × (is_some buffer.extent ≡ true)) }
+{
+    match buffer.finish() {
+        Ok(bytes) => Ok(bytes),
+        Err(Memory) => Err(ReadToEndError::Read(ReadError::Memory)),
     }
 }
 
@@ -491,10 +551,10 @@ fn gather<A: At>(
     at: &mut A,
     buffer: &mut ReadToEndBuffer,
     cx: &mut Context<'_>,
-) -> Poll<Result<(), ReadToEndError>>
+) -> Poll<Result<(), Halt>>
     ensures value { (mid : A) × (b : ABuffer) × IsGathered A.acts id buffer.old at.old b mid
         × MatchAnswer result (λ _. A.acts mid (call.Read id usize.MAX false) answer.Ended at.new × (buffer.new ≡ b))
-        (λ e. IsToEndError e b (λ r. A.acts mid (call.Read id usize.MAX false) r at.new) (A.stays mid at.new))
+        (λ h. IsHalt h b (λ r. A.acts mid (call.Read id usize.MAX false) r at.new) (A.stays mid at.new × (buffer.new ≡ b)) (mid ≡ at.new))
         (A.acts mid (call.Read id usize.MAX false) answer.Pending at.new × (buffer.new ≡ b)) }
     ensures armed { OnPending result (IsArmed cx.new) }
     ensures kept { Keeps cx.old cx.new }
@@ -503,14 +563,17 @@ fn gather<A: At>(
         match poll_chunk(id, at, usize::MAX, false, cx) {
             Poll::Ready(Ok(Some(chunk))) => match keep(buffer, chunk) {
                 Ok(()) => {}
-                Err(error) => return Poll::Ready(Err(error)),
+                Err(error) => return Poll::Ready(Err(Halt::Over(error))),
             },
             Poll::Ready(Ok(None)) => return Poll::Ready(Ok(())),
-            Poll::Ready(Err(error)) => return Poll::Ready(Err(ReadToEndError::Read(error))),
+            Poll::Ready(Err(ReadError::Memory)) => return Poll::Ready(Err(Halt::Wanting)),
+            Poll::Ready(Err(error)) => {
+                return Poll::Ready(Err(Halt::Over(ReadToEndError::Read(error))));
+            }
             Poll::Pending => return Poll::Pending,
         }
     }
-    Poll::Ready(Err(ReadToEndError::TooLong))
+    Poll::Ready(Err(Halt::Over(ReadToEndError::TooLong)))
 }
 
 // Keeps a piece, if what came isn't too long with it.
@@ -520,6 +583,7 @@ fn keep(buffer: &mut ReadToEndBuffer, chunk: Chunk) -> Result<(), ReadToEndError
       extent = Some (widened buffer.old.extent chunk);
       size_limit = buffer.old.size_limit;
     }) }
+    ensures fits { OnOk result (IsTooLong buffer.old chunk → ⊥) }
     ensures err { IfErr result (λ e. IsKeepError e buffer.old chunk) }
 {
     if chunk.bytes.len() as u64 > u64::MAX - chunk.offset {
@@ -539,7 +603,7 @@ pub struct ReceivedReset {
 }
 
 impl ReceivedReset {
-    /// The code of the reset, also if a read told it before. None once the stream was stopped or its end was read.
+    /// The code of the reset, also if a read told it before. None once the stream was stopped or its end was read. A further poll asks again.
     pub fn poll<A: At>(
         &mut self,
         at: &mut A,

@@ -1,10 +1,10 @@
-ghost use Rattle.std.specs.Prelude.{◌≡◌, ◌⊎◌, ◌<◌, ◌≤◌, [], ◌∷◌, IfOk, MatchResult, drop, length, take};
+ghost use Rattle.std.specs.Prelude.{◌≡◌, ◌⊎◌, ◌<◌, ◌≤◌, [], ◌∷◌, IfOk, IsOk, MatchResult, drop, length, take};
 ghost use Rattle.std.specs.List.{concat};
 ghost use Rattle.futures.specs.Poll.{IfReady, OnPending};
 ghost use Rattle.futures.specs.Task.{IsArmed, Keeps};
 ghost use Rattle.qh_book.specs.declared.call.Call.TheVariants as call;
 ghost use Rattle.qh_book.specs.declared.reply.Reply.TheVariants as answer;
-ghost use Rattle.qh_handles.specs.Chains.{IsPartly, IsWritten, OfChunk, text_left};
+ghost use Rattle.qh_handles.specs.Chains.{IsPartly, IsWritten, IsWrittenOf, OfChunk};
 ghost use Rattle.qh_handles.specs.Bufs.{AreLent, SameBufs, chunks_of};
 ghost use Rattle.qh_handles.specs.Origins.{IsFrom, stopped_origin, write_origin};
 ghost use Rattle.qh_handles.specs.Polls.{MatchAnswer};
@@ -43,7 +43,7 @@ impl SendStream {
     ) -> Poll<Result<usize, WriteError>>
         ensures same { self.new ≡ self.old }
         ensures value { MatchAnswer result (λ count. A.acts at.old (call.Write self.old.id buf.now) (answer.Count count) at.new)
-            (λ e. IsFrom (write_origin e) (λ r. A.acts at.old (call.Write self.old.id buf.now) r at.new) (A.stays at.old at.new))
+            (λ e. IsFrom (write_origin e) (λ r. A.acts at.old (call.Write self.old.id buf.now) r at.new) (A.stays at.old at.new ⊎ (at.new ≡ at.old)))
             (A.acts at.old (call.Write self.old.id buf.now) answer.Pending at.new) }
         ensures armed { OnPending result (IsArmed cx.new) }
         ensures kept { Keeps cx.old cx.new }
@@ -118,6 +118,7 @@ impl SendStream {
         ensures same { self.new ≡ self.old }
         ensures value { MatchResult result (λ r. MatchResult r (λ _. A.acts at.old (call.Finish self.old.id) answer.Done at.new)
             (λ _. A.acts at.old (call.Finish self.old.id) answer.ClosedStream at.new)) (λ _. A.stays at.old at.new) }
+        ensures free { A.takes_none at.old (call.Finish self.old.id) → IsOk result }
     {
         match at.act(Call::Finish(self.id), None)? {
             Reply::Done => Ok(Ok(())),
@@ -135,6 +136,7 @@ impl SendStream {
         ensures same { self.new ≡ self.old }
         ensures value { MatchResult result (λ r. MatchResult r (λ _. A.acts at.old (call.Reset self.old.id code) answer.Done at.new)
             (λ _. A.acts at.old (call.Reset self.old.id code) answer.ClosedStream at.new)) (λ _. A.stays at.old at.new) }
+        ensures free { A.takes_none at.old (call.Reset self.old.id code) → IsOk result }
     {
         match at.act(Call::Reset { id: self.id, code }, None)? {
             Reply::Done => Ok(Ok(())),
@@ -149,8 +151,9 @@ impl SendStream {
         at: &mut A,
         priority: i32,
     ) -> Result<Result<(), ClosedStream>, Memory>
-        ensures { MatchResult result (λ r. MatchResult r (λ _. A.acts at.old (call.SetPriority self.now.id priority) answer.Done at.new)
+        ensures value { MatchResult result (λ r. MatchResult r (λ _. A.acts at.old (call.SetPriority self.now.id priority) answer.Done at.new)
             (λ _. A.acts at.old (call.SetPriority self.now.id priority) answer.ClosedStream at.new)) (λ _. A.stays at.old at.new) }
+        ensures free { A.takes_none at.old (call.SetPriority self.now.id priority) → IsOk result }
     {
         let call = Call::SetPriority {
             id: self.id,
@@ -165,8 +168,9 @@ impl SendStream {
 
     /// The priority of the stream.
     pub fn priority<A: At>(&self, at: &mut A) -> Result<Result<i32, ClosedStream>, Memory>
-        ensures { MatchResult result (λ r. MatchResult r (λ priority. A.acts at.old (call.Priority self.now.id) (answer.Priority priority) at.new)
+        ensures value { MatchResult result (λ r. MatchResult r (λ priority. A.acts at.old (call.Priority self.now.id) (answer.Priority priority) at.new)
             (λ _. A.acts at.old (call.Priority self.now.id) answer.ClosedStream at.new)) (λ _. A.stays at.old at.new) }
+        ensures free { A.takes_none at.old (call.Priority self.now.id) → IsOk result }
     {
         match at.act(Call::Priority(self.id), None)? {
             Reply::Priority(priority) => Ok(Ok(priority)),
@@ -191,7 +195,8 @@ impl SendStream {
 
     /// Ends the handle. The stream is finished, or reset with the peer's code if the peer stopped it, unless the connection is lost.
     pub fn end<A: At>(self, at: &mut A)
-        ensures { A.acts at.old (call.EndSend self.id) answer.Done at.new ⊎ A.stays at.old at.new }
+        ensures value { A.acts at.old (call.EndSend self.id) answer.Done at.new ⊎ A.stays at.old at.new }
+        ensures free { A.takes_none at.old (call.EndSend self.id) → A.acts at.old (call.EndSend self.id) answer.Done at.new }
     {
         match at.act(Call::EndSend(self.id), None) {
             Ok(Reply::Done) | Err(Memory) => {}
@@ -209,7 +214,7 @@ fn write_from<A: At>(
     cx: &mut Context<'_>,
 ) -> Poll<Result<usize, WriteError>>
     ensures value { MatchAnswer result (λ count. A.acts at.old (call.Write id buf.now) (answer.Count count) at.new)
-        (λ e. IsFrom (write_origin e) (λ r. A.acts at.old (call.Write id buf.now) r at.new) (A.stays at.old at.new))
+        (λ e. IsFrom (write_origin e) (λ r. A.acts at.old (call.Write id buf.now) r at.new) (A.stays at.old at.new ⊎ (at.new ≡ at.old)))
         (A.acts at.old (call.Write id buf.now) answer.Pending at.new) }
     ensures counts { IfReady result (λ r. IfOk r (λ n. (n ≤ length buf.now) × ((buf.now ≡ []) ⊎ (0 < n)))) }
     ensures armed { OnPending result (IsArmed cx.new) }
@@ -256,7 +261,7 @@ pub struct Write<'a> {
 }
 
 impl Write<'_> {
-    /// How many bytes of the buffer's front were written. If it waits, none were.
+    /// How many bytes of the buffer's front were written. If it waits, none were. A further poll writes all of the buffer again, from its front.
     pub fn poll<A: At>(
         &mut self,
         at: &mut A,
@@ -266,7 +271,7 @@ impl Write<'_> {
         ensures same { self.new.id ≡ self.old.id }
         ensures bytes { self.new.buf.now ≡ self.old.buf.now }
         ensures value { MatchAnswer result (λ count. A.acts at.old (call.Write self.old.id self.old.buf.now) (answer.Count count) at.new)
-            (λ e. IsFrom (write_origin e) (λ r. A.acts at.old (call.Write self.old.id self.old.buf.now) r at.new) (A.stays at.old at.new))
+            (λ e. IsFrom (write_origin e) (λ r. A.acts at.old (call.Write self.old.id self.old.buf.now) r at.new) (A.stays at.old at.new ⊎ (at.new ≡ at.old)))
             (A.acts at.old (call.Write self.old.id self.old.buf.now) answer.Pending at.new) }
         ensures armed { OnPending result (IsArmed cx.new) }
         ensures kept { Keeps cx.old cx.new }
@@ -285,7 +290,8 @@ pub struct WriteAll<'a> {
 }
 
 impl WriteAll<'_> {
-    /// Done once all bytes are written. If it waits, some may be, and a further poll goes on behind them.
+    /// Done once all bytes are written; a further poll is done at once then. If it waits, or answers an error, some may be written, and a further poll goes on
+    /// behind them. Each write is of all bytes that are left.
     pub fn poll<A: At>(
         &mut self,
         at: &mut A,
@@ -296,8 +302,8 @@ impl WriteAll<'_> {
         ensures bytes { self.new.buf.now ≡ self.old.buf.now }
         ensures value { (mid : A) × IsWritten A.acts self.old.id (drop self.old.written self.old.buf.now) at.old (drop self.new.written self.old.buf.now) mid
             × MatchAnswer result (λ _. (length self.old.buf.now ≤ self.new.written) × (mid ≡ at.new))
-            (λ e. IsFrom (write_origin e) (λ r. A.acts mid (call.Write self.old.id (drop self.new.written self.old.buf.now)) r at.new) (A.stays mid at.new))
-            (A.acts mid (call.Write self.old.id (drop self.new.written self.old.buf.now)) answer.Pending at.new) }
+            (λ e. (self.new.written < length self.old.buf.now) × IsFrom (write_origin e) (λ r. A.acts mid (call.Write self.old.id (drop self.new.written self.old.buf.now)) r at.new) (A.stays mid at.new ⊎ (at.new ≡ mid)))
+            ((self.new.written < length self.old.buf.now) × A.acts mid (call.Write self.old.id (drop self.new.written self.old.buf.now)) answer.Pending at.new) }
         ensures armed { OnPending result (IsArmed cx.new) }
         ensures kept { Keeps cx.old cx.new }
     {
@@ -317,8 +323,8 @@ fn write_rest<A: At>(
 ) -> Poll<Result<(), WriteError>>
     ensures value { (mid : A) × IsWritten A.acts id (drop written.old buf.now) at.old (drop written.new buf.now) mid
         × MatchAnswer result (λ _. (length buf.now ≤ written.new) × (mid ≡ at.new))
-        (λ e. IsFrom (write_origin e) (λ r. A.acts mid (call.Write id (drop written.new buf.now)) r at.new) (A.stays mid at.new))
-        (A.acts mid (call.Write id (drop written.new buf.now)) answer.Pending at.new) }
+        (λ e. (written.new < length buf.now) × IsFrom (write_origin e) (λ r. A.acts mid (call.Write id (drop written.new buf.now)) r at.new) (A.stays mid at.new ⊎ (at.new ≡ mid)))
+        ((written.new < length buf.now) × A.acts mid (call.Write id (drop written.new buf.now)) answer.Pending at.new) }
     ensures armed { OnPending result (IsArmed cx.new) }
     ensures kept { Keeps cx.old cx.new }
 {
@@ -340,7 +346,7 @@ fn write_front<A: At>(
     cx: &mut Context<'_>,
 ) -> Poll<Result<usize, WriteError>>
     ensures value { MatchAnswer result (λ count. A.acts at.old (call.Write id chunk.old) (answer.Count count) at.new)
-        (λ e. IsFrom (write_origin e) (λ r. A.acts at.old (call.Write id chunk.old) r at.new) (A.stays at.old at.new))
+        (λ e. IsFrom (write_origin e) (λ r. A.acts at.old (call.Write id chunk.old) r at.new) (A.stays at.old at.new ⊎ (at.new ≡ at.old)))
         (A.acts at.old (call.Write id chunk.old) answer.Pending at.new) }
     ensures left { MatchAnswer result (λ count. chunk.new ≡ drop count chunk.old) (λ _. chunk.new ≡ chunk.old) (chunk.new ≡ chunk.old) }
     ensures counts { IfReady result (λ r. IfOk r (λ n. (n ≤ length chunk.old) × ((chunk.old ≡ []) ⊎ (0 < n)))) }
@@ -369,7 +375,8 @@ pub struct WriteChunks<'a> {
 
 impl WriteChunks<'_> {
     /// How many bytes were written, and how many chunks whole. Those are empty then, and of one that was written in part the rest is left. It waits until some
-    /// are written. If a later write gives none, what was written is answered, and the next call tells why.
+    /// are written. If a later write gives none, what was written is answered, and the next call tells why. It is answered too if memory is wanting for a later
+    /// write, which takes some before it is made. A further poll writes what is left of the chunks, from the first of them on.
     pub fn poll<A: At>(
         &mut self,
         at: &mut A,
@@ -378,7 +385,7 @@ impl WriteChunks<'_> {
         ensures same { self.new.id ≡ self.old.id }
         ensures lent { self.new.bufs.ghost_name ≡ self.old.bufs.ghost_name }
         ensures value { MatchAnswer result (λ w. IsPartly A.acts A.stays self.old.id self.old.bufs.now at.old self.new.bufs.now at.new w.bytes w.chunks)
-            (λ e. (self.new.bufs.now ≡ self.old.bufs.now) × IsFrom (write_origin e) (λ r. OfChunk self.old.bufs.now 0 (λ chunk. A.acts at.old (call.Write self.old.id chunk) r at.new)) (A.stays at.old at.new))
+            (λ e. (self.new.bufs.now ≡ self.old.bufs.now) × (0 < length self.old.bufs.now) × IsFrom (write_origin e) (λ r. OfChunk self.old.bufs.now 0 (λ chunk. A.acts at.old (call.Write self.old.id chunk) r at.new)) (A.stays at.old at.new ⊎ (at.new ≡ at.old)))
             ((self.new.bufs.now ≡ self.old.bufs.now) × OfChunk self.old.bufs.now 0 (λ chunk. A.acts at.old (call.Write self.old.id chunk) answer.Pending at.new)) }
         ensures armed { OnPending result (IsArmed cx.new) }
         ensures kept { Keeps cx.old cx.new }
@@ -396,7 +403,7 @@ fn write_some<A: At>(
     cx: &mut Context<'_>,
 ) -> Poll<Result<Written, WriteError>>
     ensures value { MatchAnswer result (λ w. IsPartly A.acts A.stays id bufs.old at.old bufs.new at.new w.bytes w.chunks)
-        (λ e. (bufs.new ≡ bufs.old) × IsFrom (write_origin e) (λ r. OfChunk bufs.old 0 (λ chunk. A.acts at.old (call.Write id chunk) r at.new)) (A.stays at.old at.new))
+        (λ e. (bufs.new ≡ bufs.old) × (0 < length bufs.old) × IsFrom (write_origin e) (λ r. OfChunk bufs.old 0 (λ chunk. A.acts at.old (call.Write id chunk) r at.new)) (A.stays at.old at.new ⊎ (at.new ≡ at.old)))
         ((bufs.new ≡ bufs.old) × OfChunk bufs.old 0 (λ chunk. A.acts at.old (call.Write id chunk) answer.Pending at.new)) }
     ensures armed { OnPending result (IsArmed cx.new) }
     ensures kept { Keeps cx.old cx.new }
@@ -447,13 +454,14 @@ pub struct WriteAllChunks<'a> {
 }
 
 impl WriteAllChunks<'_> {
-    /// Done once all chunks are written; they are empty then. If it waits, some may be written, and a further poll goes on behind them.
+    /// Done once all chunks are written; they are empty then, and a further poll is done at once. If it waits, or answers an error, some may be written, and a
+    /// further poll goes on behind them.
     pub fn poll<A: At>(&mut self, at: &mut A, cx: &mut Context<'_>) -> Poll<Result<(), WriteError>>
         ensures same { self.new.id ≡ self.old.id }
         ensures lent { SameBufs self.old.bufs self.new.bufs }
-        ensures value { (mid : A) × IsWritten A.acts self.old.id (text_left (chunks_of self.old.bufs) self.old.done) at.old (text_left (chunks_of self.new.bufs) self.new.done) mid
+        ensures value { (mid : A) × IsWrittenOf A.acts self.old.id (drop self.old.done (chunks_of self.old.bufs)) at.old (drop self.new.done (chunks_of self.new.bufs)) mid
             × MatchAnswer result (λ _. (length (chunks_of self.old.bufs) ≤ self.new.done) × (mid ≡ at.new))
-            (λ e. IsFrom (write_origin e) (λ r. OfChunk (chunks_of self.new.bufs) self.new.done (λ chunk. A.acts mid (call.Write self.old.id chunk) r at.new)) (A.stays mid at.new))
+            (λ e. (self.new.done < length (chunks_of self.new.bufs)) × IsFrom (write_origin e) (λ r. OfChunk (chunks_of self.new.bufs) self.new.done (λ chunk. A.acts mid (call.Write self.old.id chunk) r at.new)) (A.stays mid at.new ⊎ (at.new ≡ mid)))
             (OfChunk (chunks_of self.new.bufs) self.new.done (λ chunk. A.acts mid (call.Write self.old.id chunk) answer.Pending at.new)) }
         ensures emptied { concat (take self.old.done (chunks_of self.old.bufs)) ≡ [] → concat (take self.new.done (chunks_of self.new.bufs)) ≡ [] }
         ensures armed { OnPending result (IsArmed cx.new) }
@@ -475,9 +483,9 @@ fn write_each<A: At>(
     done: &mut usize,
     cx: &mut Context<'_>,
 ) -> Poll<Result<(), WriteError>>
-    ensures value { (mid : A) × IsWritten A.acts id (text_left bufs.old done.old) at.old (text_left bufs.new done.new) mid
+    ensures value { (mid : A) × IsWrittenOf A.acts id (drop done.old bufs.old) at.old (drop done.new bufs.new) mid
         × MatchAnswer result (λ _. (length bufs.old ≤ done.new) × (mid ≡ at.new))
-        (λ e. IsFrom (write_origin e) (λ r. OfChunk bufs.new done.new (λ chunk. A.acts mid (call.Write id chunk) r at.new)) (A.stays mid at.new))
+        (λ e. (done.new < length bufs.new) × IsFrom (write_origin e) (λ r. OfChunk bufs.new done.new (λ chunk. A.acts mid (call.Write id chunk) r at.new)) (A.stays mid at.new ⊎ (at.new ≡ mid)))
         (OfChunk bufs.new done.new (λ chunk. A.acts mid (call.Write id chunk) answer.Pending at.new)) }
     ensures emptied { concat (take done.old bufs.old) ≡ [] → concat (take done.new bufs.new) ≡ [] }
     ensures armed { OnPending result (IsArmed cx.new) }
@@ -505,7 +513,7 @@ pub struct Stopped {
 }
 
 impl Stopped {
-    /// The code with which the peer stopped the stream. None once its reset, or its end and all bytes before it, were acknowledged.
+    /// The code with which the peer stopped the stream. None once its reset, or its end and all bytes before it, were acknowledged. A further poll asks again.
     pub fn poll<A: At>(
         &mut self,
         at: &mut A,

@@ -1,4 +1,4 @@
-use Rattle.qh_handles.proofs.ChainLaws.{chunk_written, chunk_done, chunk_kept, chunk_failed, empty_is, front_grown, front_kept}
+use Rattle.qh_handles.proofs.ChainLaws.{chunk_part, chunk_whole, chunk_kept, chunk_failed, empty_is, front_grown, front_kept, part_is, some_is, whole_is}
 use Rattle.qh_handles.proofs.send_stream.write_each.Goals as goal
 
 pub loop-done-preserved-then-is_empty : goal.loop-done-preserved-then-is_empty
@@ -6,8 +6,7 @@ loop-done-preserved-then-is_empty g c =
     let turn = rw c.in-Ready-Ok.field-0-is at c.in-Ready-Ok.ensures in
     let inv = c.loop-done.invariant in
     let empty = empty_is c.loop-done.bufs c.loop-done.done _ _ c.loop-done-test.true c.if-is_empty.ensures in (
-      chunk_done g.A.At.acts c.args.id _ _ _ c.loop-done.bufs c.loop-done.done _ c.loop-done-test.true empty
-          (chunk_written g.A.At.acts c.args.id _ _ _ _ c.loop-done.bufs c.loop-done.done _ _ _ inv.0 c.loop-done-test.true turn.counts.0 turn.value turn.left),
+      chunk_whole g.A.At.acts c.args.id _ _ _ _ c.loop-done.bufs c.loop-done.done _ _ _ inv.0 c.loop-done-test.true (whole_is _ _ _ turn.counts.0 turn.left empty) turn.value,
       λ fact h. turn.kept fact (inv.1 fact h),
       λ none. front_grown c.loop-done.bufs c.loop-done.done _ c.loop-done-test.true empty (inv.2 none),
     )
@@ -15,8 +14,9 @@ loop-done-preserved-then-is_empty g c =
 pub loop-done-preserved : goal.loop-done-preserved
 loop-done-preserved g c =
     let turn = rw c.in-Ready-Ok.field-0-is at c.in-Ready-Ok.ensures in
-    let inv = c.loop-done.invariant in (
-      chunk_written g.A.At.acts c.args.id _ _ _ _ c.loop-done.bufs c.loop-done.done _ _ _ inv.0 c.loop-done-test.true turn.counts.0 turn.value turn.left,
+    let inv = c.loop-done.invariant in
+    let some = some_is c.loop-done.bufs c.loop-done.done _ _ c.loop-done-test.true c.if-is_empty.ensures in (
+      chunk_part g.A.At.acts c.args.id _ _ _ _ c.loop-done.bufs c.loop-done.done _ _ _ inv.0 c.loop-done-test.true (part_is _ _ _ turn.left some) turn.value turn.left,
       λ fact h. turn.kept fact (inv.1 fact h),
       λ none. front_kept c.loop-done.bufs c.loop-done.done _ (inv.2 none),
     )

@@ -1,12 +1,12 @@
-use Rattle.std.proofs.Common.{◌≡◌, ◌+◌, ◌-◌, [], length, take}
+use Rattle.std.proofs.Common.{◌≡◌, ◌+◌, ◌-◌, [], drop, length, take}
 use Rattle.std.specs.List.{concat}
 use Rattle.futures.specs.Task.{Keeps}
-use Rattle.qh_handles.specs.Chains.{IsWritten, text_left}
+use Rattle.qh_handles.specs.Chains.{IsWrittenOf, text_left}
 use Rattle.qh_handles.proofs.send_stream.write_each.Given as goal
 
 abbrev pub invariant-loop-done : goal.invariant-loop-done
 invariant-loop-done g l =
-    IsWritten g.A.At.acts l.id (text_left l.initial.bufs l.initial.done) l.initial.at (text_left l.bufs l.done) l.at × Keeps l.initial.cx l.cx
+    IsWrittenOf g.A.At.acts l.id (drop l.initial.done l.initial.bufs) l.initial.at (drop l.done l.bufs) l.at × Keeps l.initial.cx l.cx
     × (concat (take l.initial.done l.initial.bufs) ≡ [] → concat (take l.done l.bufs) ≡ [])
 
 abbrev pub decreases-loop-done : goal.decreases-loop-done

@@ -1,7 +1,7 @@
 use Rattle.std.proofs.Common.{arith, inr}
 use Rattle.std.proofs.lemmas.List.{length-set}
 use Rattle.qh_book.specs.declared.reply.Reply.TheVariants as reply
-use Rattle.qh_handles.proofs.ChainLaws.{all_taken, chunk_done, chunk_written, counted_whole, front_grown, partly_written, partly_failed, partly_kept, not_none}
+use Rattle.qh_handles.proofs.ChainLaws.{all_taken, chunk_whole, counted_whole, front_grown, partly_written, partly_failed, partly_kept, not_none, whole_is}
 use Rattle.qh_handles.proofs.send_stream.write_some.Goals as goal
 
 pub returns-then-count-size-clause-value : goal.returns-then-count-size-clause-value
@@ -16,8 +16,7 @@ loop-chunks-preserved g c =
     let turn = rw c.in-Ready-Ok.field-0-is at c.in-Ready-Ok.ensures in
     let inv = c.loop-chunks.invariant in
     let empty = all_taken _ _ _ _ turn.left c.len-size.ensures.value c.if-count-size.false in (
-      chunk_done g.A.At.acts c.args.id _ _ _ c.loop-chunks.bufs c.loop-chunks.chunks _ c.loop-chunks-test.true empty
-          (chunk_written g.A.At.acts c.args.id _ _ _ _ c.loop-chunks.bufs c.loop-chunks.chunks _ _ _ inv.0 c.loop-chunks-test.true turn.counts.0 turn.value turn.left),
+      chunk_whole g.A.At.acts c.args.id _ _ _ _ c.loop-chunks.bufs c.loop-chunks.chunks _ _ _ inv.0 c.loop-chunks-test.true (whole_is _ _ _ turn.counts.0 turn.left empty) turn.value,
       front_grown c.loop-chunks.bufs c.loop-chunks.chunks _ c.loop-chunks-test.true empty inv.1,
       counted_whole _ c.loop-chunks.bytes _ c.loop-chunks.bufs c.loop-chunks.chunks _ _ inv.2 c.loop-chunks-test.true turn.counts.0 turn.left empty,
       (λ never. absurd (not_none c.loop-chunks.chunks never)),
