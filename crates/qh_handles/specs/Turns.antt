@@ -26,7 +26,8 @@ IsTurnFault other = Unit {0}
 abbrev pub AreSent : List OutMessage → (old new : Option (List OutMessage)) → Type 0
 AreSent out old new = new ≡ option_map (λ (sent : List OutMessage). sent ++ out) old
 
--- How often a poller failed: the one that was there, if none was made meanwhile, or else one that was. So many were made before and after; that number stands still at its end.
+-- How often a poller failed: the one that was there, if none was made meanwhile, or else one that was made. `made_old` and `made_new` say how many were made before the turn and after it;
+-- that number stands still at its end.
 module _ {P : Type 0} (faults : P → ℕ) where
   abbrev pub count_of : Option P → ℕ
   count_of None = 0

@@ -1,5 +1,5 @@
-ghost use Rattle.std.specs.Prelude.{◌≡◌, ◌⊎◌, ◌<◌, ◌≤◌, ◌-◌, ◌++◌, ◌∷◌, ℕ, [], None, Some, IfErr, IfSome, MatchOption, MatchResult, IsOk, OnOk, true, false, is_some, length, ⊤};
-ghost use Rattle.futures.specs.Poll.{IfReady, OnPending};
+ghost use Rattle.std.specs.Prelude.{◌≡◌, ◌⊎◌, ◌<◌, ◌≤◌, ◌-◌, ◌++◌, ◌∷◌, [], None, Some, IfErr, IfSome, MatchOption, MatchResult, IsOk, OnOk, true, false, is_some, length, ⊤};
+ghost use Rattle.futures.specs.Poll.{OnPending};
 ghost use Rattle.futures.specs.Task.{IsArmed, Keeps};
 ghost use Rattle.qh_book.specs.declared.call.Call.TheVariants as call;
 ghost use Rattle.qh_book.specs.declared.reply.Reply.{Reply as AReply};
