@@ -26,6 +26,11 @@ IsTurnFault other = Unit {0}
 abbrev pub AreSent : List OutMessage → (old new : Option (List OutMessage)) → Type 0
 AreSent out old new = new ≡ option_map (λ (sent : List OutMessage). sent ++ out) old
 
+-- neither the socket nor the poller, if there is one, has to be waited for
+abbrev pub AreReady : {X P : Type 0} → (X → Type 0) → (P → Type 0) → X → Option P → Type 0
+AreReady socket_ready poller_ready socket None = socket_ready socket
+AreReady socket_ready poller_ready socket (Some poller) = socket_ready socket × poller_ready poller
+
 -- How often a poller failed: the one that was there, if none was made meanwhile, or else one that was made. `made_old` and `made_new` say how many were made before the turn and after it;
 -- that number stands still at its end.
 module _ {P : Type 0} (faults : P → ℕ) where

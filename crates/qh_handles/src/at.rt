@@ -1,6 +1,7 @@
-ghost use Rattle.std.specs.Prelude.{◌≡◌, ◌≤◌, ℕ, Bool, List, MatchResult, IfErr, IfOk, IsOk};
+ghost use Rattle.std.specs.Prelude.{◌≡◌, ◌≤◌, ℕ, Bool, List, MatchResult, IfErr, IfOk, IsOk, false};
 ghost use Rattle.futures.specs.Poll.{IfReady, OnPending};
 ghost use Rattle.futures.specs.Task.{IsArmed, Keeps};
+ghost use Rattle.futures.specs.declared.task.Poll.TheVariants as polls;
 ghost use Rattle.futures.specs.declared.task.Poll.{Poll as APoll};
 ghost use Rattle.std.specs.Prelude.{Result as AResult};
 ghost use Rattle.qh_base.specs.declared.time.Moment.{Moment as AMoment};
@@ -9,7 +10,7 @@ ghost use Rattle.qh_book.specs.declared.reply.Reply.{Reply as AReply};
 ghost use Rattle.qh_book.specs.declared.reply.Reply.TheVariants as reply;
 ghost use Rattle.qh_handles.specs.Contexts.{ContextArmed, ContextKept, HasContext};
 ghost use Rattle.qh_handles.specs.Told.{IsDrive, IsPolled, MayReply};
-ghost use Rattle.qh_handles.specs.Turns.{AreSent, HasCause, IsTurnFault};
+ghost use Rattle.qh_handles.specs.Turns.{AreReady, AreSent, HasCause, IsTurnFault};
 ghost use Rattle.qh_handles.specs.declared.told.Told.{Told as AToldValue};
 ghost use Rattle.qh_runtime.specs.declared.runtime.IoFault.{IoFault as AFault};
 ghost use Rattle.qh_runtime.specs.declared.runtime.OutMessage.{OutMessage as AnOutMessage};
@@ -39,6 +40,9 @@ pub trait At {
     /// whether there is more to send than one turn may.
     ghost drives: { Self → AMoment → Bool → List AnOutMessage → APoll (AResult (Unit {0}) AFault) → Bool → Self → Type 0 };
 
+    /// The connection has nothing left to send for now, and no datagram of it waits for the socket.
+    ghost is_sent: { Self → Type 0 };
+
     /// Makes a call that is none of the driver's. One that may have to wait needs a context to wait by.
     fn act(
         &mut self,
@@ -63,6 +67,8 @@ pub trait At {
         ensures value { (out : List AnOutMessage) × drives self.old now part.old.is_held out result part.new.keeps_going self.new × AreSent out (X.departed socket.old) (X.departed socket.new) }
         ensures arrived { X.arrived socket.new ≡ X.arrived socket.old }
         ensures cause { HasCause X.Poller.faults result (X.faults socket.old) (X.faults socket.new) part.old.made part.new.made part.old.poller part.new.poller }
+        ensures sent { part.old.is_held ≡ false → AreReady X.never_blocks X.Poller.never_blocks socket.old part.old.poller → result ≡ polls.Pending → part.new.keeps_going ≡ false → is_sent self.new }
+        ensures ready { AreReady X.never_blocks X.Poller.never_blocks socket.old part.old.poller → AreReady X.never_blocks X.Poller.never_blocks socket.new part.new.poller }
         ensures made { part.old.made ≤ part.new.made }
         ensures errors { IfReady result (λ r. IfErr r IsTurnFault) }
         ensures held { part.new.is_held ≡ part.old.is_held }

@@ -92,8 +92,9 @@ impl Connection {
 
     /// Why the connection is lost, if it is.
     pub fn close_reason<A: At>(&self, at: &mut A) -> Result<Option<ConnectionError>, Memory>
-        ensures { MatchResult result (λ lost. MatchOption lost (A.acts at.old call.CloseReason answer.Done at.new)
+        ensures value { MatchResult result (λ lost. MatchOption lost (A.acts at.old call.CloseReason answer.Done at.new)
             (λ e. A.acts at.old call.CloseReason (answer.ConnectionLost e) at.new)) (λ _. A.stays at.old at.new) }
+        ensures free { A.takes_none at.old call.CloseReason → IsOk result }
     {
         match at.act(Call::CloseReason, None)? {
             Reply::ConnectionLost(error) => Ok(Some(error)),
@@ -110,7 +111,8 @@ impl Connection {
         error_code: VarInt,
         reason: &[u8],
     ) -> Result<(), Memory>
-        ensures { MatchResult result (λ _. A.acts at.old (call.Close now error_code (take 128 reason.now)) answer.Done at.new) (λ _. A.stays at.old at.new) }
+        ensures value { MatchResult result (λ _. A.acts at.old (call.Close now error_code (take 128 reason.now)) answer.Done at.new) (λ _. A.stays at.old at.new) }
+        ensures free { A.takes_none at.old (call.Close now error_code (take 128 reason.now)) → IsOk result }
     {
         let call = Call::Close {
             now,
@@ -125,7 +127,8 @@ impl Connection {
 
     /// How many bytes the longest datagram has that may be sent (RFC 9221, section 3). None if the peer takes none, or it isn't known yet.
     pub fn max_datagram_size<A: At>(&self, at: &mut A) -> Result<Option<usize>, Memory>
-        ensures { MatchResult result (λ size. A.acts at.old (call.Get getter.MaxDatagramSize) (answer.MaxDatagramSize size) at.new) (λ _. A.stays at.old at.new) }
+        ensures value { MatchResult result (λ size. A.acts at.old (call.Get getter.MaxDatagramSize) (answer.MaxDatagramSize size) at.new) (λ _. A.stays at.old at.new) }
+        ensures free { A.takes_none at.old (call.Get getter.MaxDatagramSize) → IsOk result }
     {
         match at.act(Call::Get(Getter::MaxDatagramSize), None)? {
             Reply::MaxDatagramSize(Some(size)) => Ok(Some(size as usize)),
@@ -136,7 +139,8 @@ impl Connection {
 
     /// How many bytes of datagrams may be queued beside those that are.
     pub fn datagram_send_buffer_space<A: At>(&self, at: &mut A) -> Result<usize, Memory>
-        ensures { MatchResult result (λ bytes. A.acts at.old (call.Get getter.DatagramSendBufferSpace) (answer.Number bytes) at.new) (λ _. A.stays at.old at.new) }
+        ensures value { MatchResult result (λ bytes. A.acts at.old (call.Get getter.DatagramSendBufferSpace) (answer.Number bytes) at.new) (λ _. A.stays at.old at.new) }
+        ensures free { A.takes_none at.old (call.Get getter.DatagramSendBufferSpace) → IsOk result }
     {
         match at.act(Call::Get(Getter::DatagramSendBufferSpace), None)? {
             Reply::Number(bytes) => Ok(bytes as usize),
@@ -146,7 +150,8 @@ impl Connection {
 
     /// Which end this is.
     pub fn side<A: At>(&self, at: &mut A) -> Result<Side, Memory>
-        ensures { MatchResult result (λ side. A.acts at.old (call.Get getter.Side) (answer.Side side) at.new) (λ _. A.stays at.old at.new) }
+        ensures value { MatchResult result (λ side. A.acts at.old (call.Get getter.Side) (answer.Side side) at.new) (λ _. A.stays at.old at.new) }
+        ensures free { A.takes_none at.old (call.Get getter.Side) → IsOk result }
     {
         match at.act(Call::Get(Getter::Side), None)? {
             Reply::Side(side) => Ok(side),
@@ -156,7 +161,8 @@ impl Connection {
 
     /// The peer's address.
     pub fn remote_address<A: At>(&self, at: &mut A) -> Result<SocketAddr, Memory>
-        ensures { MatchResult result (λ address. A.acts at.old (call.Get getter.RemoteAddress) (answer.RemoteAddress address) at.new) (λ _. A.stays at.old at.new) }
+        ensures value { MatchResult result (λ address. A.acts at.old (call.Get getter.RemoteAddress) (answer.RemoteAddress address) at.new) (λ _. A.stays at.old at.new) }
+        ensures free { A.takes_none at.old (call.Get getter.RemoteAddress) → IsOk result }
     {
         match at.act(Call::Get(Getter::RemoteAddress), None)? {
             Reply::RemoteAddress(address) => Ok(address),
@@ -166,7 +172,8 @@ impl Connection {
 
     /// This end's address, if it is known.
     pub fn local_ip<A: At>(&self, at: &mut A) -> Result<Option<IpAddr>, Memory>
-        ensures { MatchResult result (λ address. A.acts at.old (call.Get getter.LocalIp) (answer.LocalIp address) at.new) (λ _. A.stays at.old at.new) }
+        ensures value { MatchResult result (λ address. A.acts at.old (call.Get getter.LocalIp) (answer.LocalIp address) at.new) (λ _. A.stays at.old at.new) }
+        ensures free { A.takes_none at.old (call.Get getter.LocalIp) → IsOk result }
     {
         match at.act(Call::Get(Getter::LocalIp), None)? {
             Reply::LocalIp(address) => Ok(address),
@@ -176,7 +183,8 @@ impl Connection {
 
     /// The smoothed round-trip time (RFC 9002, section 5.3).
     pub fn rtt<A: At>(&self, at: &mut A) -> Result<Span, Memory>
-        ensures { MatchResult result (λ span. A.acts at.old (call.Get getter.Rtt) (answer.Told (tells.Rtt span)) at.new) (λ _. A.stays at.old at.new) }
+        ensures value { MatchResult result (λ span. A.acts at.old (call.Get getter.Rtt) (answer.Told (tells.Rtt span)) at.new) (λ _. A.stays at.old at.new) }
+        ensures free { A.takes_none at.old (call.Get getter.Rtt) → IsOk result }
     {
         match at.act(Call::Get(Getter::Rtt), None)? {
             Reply::Told(Told::Rtt(span)) => Ok(span),
@@ -186,7 +194,8 @@ impl Connection {
 
     /// The least round-trip time (RFC 9002, section 5.2).
     pub fn min_rtt<A: At>(&self, at: &mut A) -> Result<Span, Memory>
-        ensures { MatchResult result (λ span. A.acts at.old (call.Get getter.MinRtt) (answer.Told (tells.MinRtt span)) at.new) (λ _. A.stays at.old at.new) }
+        ensures value { MatchResult result (λ span. A.acts at.old (call.Get getter.MinRtt) (answer.Told (tells.MinRtt span)) at.new) (λ _. A.stays at.old at.new) }
+        ensures free { A.takes_none at.old (call.Get getter.MinRtt) → IsOk result }
     {
         match at.act(Call::Get(Getter::MinRtt), None)? {
             Reply::Told(Told::MinRtt(span)) => Ok(span),
@@ -196,7 +205,8 @@ impl Connection {
 
     /// What was done since the connection was made.
     pub fn stats<A: At>(&self, at: &mut A) -> Result<ConnectionStats, Memory>
-        ensures { MatchResult result (λ stats. A.acts at.old (call.Get getter.Stats) (answer.Told (tells.Stats stats)) at.new) (λ _. A.stays at.old at.new) }
+        ensures value { MatchResult result (λ stats. A.acts at.old (call.Get getter.Stats) (answer.Told (tells.Stats stats)) at.new) (λ _. A.stays at.old at.new) }
+        ensures free { A.takes_none at.old (call.Get getter.Stats) → IsOk result }
     {
         match at.act(Call::Get(Getter::Stats), None)? {
             Reply::Told(Told::Stats(stats)) => Ok(stats),
@@ -206,7 +216,8 @@ impl Connection {
 
     /// The congestion window, in bytes, and the threshold below which it grows fast (RFC 9002, section 7.3).
     pub fn congestion_state<A: At>(&self, at: &mut A) -> Result<ControllerMetrics, Memory>
-        ensures { MatchResult result (λ metrics. A.acts at.old (call.Get getter.CongestionState) (answer.Told (tells.CongestionState metrics)) at.new) (λ _. A.stays at.old at.new) }
+        ensures value { MatchResult result (λ metrics. A.acts at.old (call.Get getter.CongestionState) (answer.Told (tells.CongestionState metrics)) at.new) (λ _. A.stays at.old at.new) }
+        ensures free { A.takes_none at.old (call.Get getter.CongestionState) → IsOk result }
     {
         match at.act(Call::Get(Getter::CongestionState), None)? {
             Reply::Told(Told::CongestionState(metrics)) => Ok(metrics),
@@ -216,7 +227,8 @@ impl Connection {
 
     /// A number that stays the same as long as the connection lives.
     pub fn stable_id<A: At>(&self, at: &mut A) -> Result<u64, Memory>
-        ensures { MatchResult result (λ id. A.acts at.old (call.Get getter.StableId) (answer.Number id) at.new) (λ _. A.stays at.old at.new) }
+        ensures value { MatchResult result (λ id. A.acts at.old (call.Get getter.StableId) (answer.Number id) at.new) (λ _. A.stays at.old at.new) }
+        ensures free { A.takes_none at.old (call.Get getter.StableId) → IsOk result }
     {
         match at.act(Call::Get(Getter::StableId), None)? {
             Reply::Number(id) => Ok(id),
@@ -226,7 +238,8 @@ impl Connection {
 
     /// What the handshake tells of the peer, if it is there.
     pub fn handshake_data<A: At>(&self, at: &mut A) -> Result<Option<A::HandshakeData>, Memory>
-        ensures { MatchResult result (λ d. A.acts at.old (call.Get getter.HandshakeData) (answer.Told (tells.HandshakeData d)) at.new) (λ _. A.stays at.old at.new) }
+        ensures value { MatchResult result (λ d. A.acts at.old (call.Get getter.HandshakeData) (answer.Told (tells.HandshakeData d)) at.new) (λ _. A.stays at.old at.new) }
+        ensures free { A.takes_none at.old (call.Get getter.HandshakeData) → IsOk result }
     {
         match at.act(Call::Get(Getter::HandshakeData), None)? {
             Reply::Told(Told::HandshakeData(told)) => Ok(told),

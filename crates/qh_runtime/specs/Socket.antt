@@ -25,6 +25,11 @@ abbrev pub has_failed : {T : Type 0} → Result T IoFault → Bool
 has_failed (Ok x) = false
 has_failed (Err fault) = is_failure fault
 
+-- the socket takes no message now
+abbrev pub has_blocked : {T : Type 0} → Result T IoFault → Bool
+has_blocked (Err WouldBlock) = true
+has_blocked other = false
+
 abbrev pub poll_failed : {T : Type 0} → Poll (Result T IoFault) → Bool
 poll_failed (Ready r) = has_failed r
 poll_failed Pending = false

@@ -1,11 +1,11 @@
-ghost use Rattle.std.specs.Prelude.{◌≡◌, ◌⊎◌, ◌≤◌, ◌<◌, ◌++◌, ◌∷◌, [], List, Ok, IsOk, Some, None, length, true, IfErr, IfOk, IfSome, OnErr, OnOk};
+ghost use Rattle.std.specs.Prelude.{◌≡◌, ◌⊎◌, ◌≤◌, ◌<◌, ◌++◌, ◌∷◌, [], List, Ok, IsOk, Some, None, length, false, true, IfErr, IfOk, IfSome, OnErr, OnOk};
 ghost use Rattle.std.specs.List.{AllByRecursion};
 ghost use Rattle.futures.specs.Poll.{IfReady, OnPending};
 ghost use Rattle.futures.specs.declared.task.Poll.TheVariants as polls;
 ghost use Rattle.futures.specs.Task.{IsArmed, Keeps};
 ghost use Rattle.qh_base.specs.Io.{calls_left, fails_now, next_call as call_after, one_more};
 ghost use Rattle.qh_spec.specs.Fault.{CountsFaults};
-ghost use Rattle.qh_runtime.specs.Socket.{IsAnswerOfReceive, IsAnswerOfSend, IsDry, IsNeither, IsReceived, IsSent, has_failed, poll_failed};
+ghost use Rattle.qh_runtime.specs.Socket.{IsAnswerOfReceive, IsAnswerOfSend, IsDry, IsNeither, IsReceived, IsSent, has_blocked, has_failed, poll_failed};
 ghost use Rattle.qh_runtime.specs.declared.runtime.IoFault.TheVariants as faults;
 ghost use Rattle.qh_runtime.specs.declared.runtime.Message.{Message as AMessage};
 
@@ -47,6 +47,8 @@ pub struct QueuePoller;
 
 impl UdpPoller for QueuePoller {
     ghost faults = { λ _. 0 };
+
+    ghost never_blocks = { λ _. Unit {0} };
 
     fn poll_writable(&mut self, cx: &mut Context<'_>) -> Poll<Result<(), IoFault>>
         ensures ready { result ≡ polls.Ready (Ok tt) }
@@ -139,6 +141,8 @@ impl AsyncUdpSocket for QueueSocket {
 
     ghost faults = { λ s. s.faults };
 
+    ghost never_blocks = { λ _. Unit {0} };
+
     fn create_io_poller(&mut self) -> Result<QueuePoller, Memory>
         ensures ok { IsOk result }
         ensures same { self.new ≡ self.old }
@@ -149,6 +153,7 @@ impl AsyncUdpSocket for QueueSocket {
     fn try_send(&mut self, transmit: &Transmit, contents: &[u8]) -> Result<(), IoFault>
         ensures sent { IsSent transmit.now contents.now result (Some self.old.departed) (Some self.new.departed) }
         ensures cause { CountsFaults self.old.faults self.new.faults (has_failed result) }
+        ensures taken { has_blocked result ≡ false }
         ensures errors { IfErr result IsAnswerOfSend }
         ensures only { IfErr result (λ e. (e ≡ faults.Failed) ⊎ (e ≡ faults.Memory)) }
         ensures rest { self.new ≡ record self.old { departed = self.new.departed; fails_in = call_after self.old.fails_in; faults = self.new.faults } }

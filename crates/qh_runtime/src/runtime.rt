@@ -1,8 +1,9 @@
 ghost use Rattle.std.specs.Prelude.{◌≡◌, ◌⊎◌, ◌≤◌, ℕ, List, Option, false, length, IfErr, IfOk, IfSome};
 ghost use Rattle.futures.specs.Poll.{IfReady, OnPending};
 ghost use Rattle.futures.specs.Task.{IsArmed, Keeps};
+ghost use Rattle.futures.specs.declared.task.Poll.TheVariants as polls;
 ghost use Rattle.qh_spec.specs.Fault.{CountsFaults};
-ghost use Rattle.qh_runtime.specs.Socket.{IsAnswerOfReceive, IsAnswerOfSend, IsNeither, IsReceived, IsSent, has_failed, poll_failed};
+ghost use Rattle.qh_runtime.specs.Socket.{IsAnswerOfReceive, IsAnswerOfSend, IsNeither, IsReceived, IsSent, has_blocked, has_failed, poll_failed};
 ghost use Rattle.qh_runtime.specs.declared.runtime.Message.{Message as AMessage};
 ghost use Rattle.qh_runtime.specs.declared.runtime.OutMessage.{OutMessage as AnOutMessage};
 
@@ -80,10 +81,14 @@ pub trait UdpPoller: Drop {
     /// How often it failed.
     ghost faults: { Self → ℕ };
 
+    /// A message may be sent at any time.
+    ghost never_blocks: { Self → Type 0 };
+
     /// Ready once a message may be sent. Until then the task waits.
     fn poll_writable(&mut self, cx: &mut Context<'_>) -> Poll<Result<(), IoFault>>
         ensures cause { CountsFaults (faults self.old) (faults self.new) (poll_failed result) }
         ensures errors { IfReady result (λ r. IfErr r IsNeither) }
+        ensures ready { never_blocks self.old → never_blocks self.new × (result ≡ polls.Pending → ⊥) }
         ensures armed { OnPending result (IsArmed cx.new) }
         ensures kept { Keeps cx.old cx.new };
 }
@@ -102,9 +107,13 @@ pub trait AsyncUdpSocket: Drop {
     /// How often it failed.
     ghost faults: { Self → ℕ };
 
+    /// Whoever sends never has to wait for it.
+    ghost never_blocks: { Self → Type 0 };
+
     /// Something that tells when it can be written to again. It has not failed yet.
     fn create_io_poller(&mut self) -> Result<Self::Poller, Memory>
         ensures fresh { IfOk result (λ poller. Self.Poller.faults poller ≡ 0) }
+        ensures ready { never_blocks self.old → never_blocks self.new × IfOk result (λ poller. Self.Poller.never_blocks poller) }
         ensures arrived { arrived self.new ≡ arrived self.old }
         ensures departed { departed self.new ≡ departed self.old }
         ensures faults { faults self.new ≡ faults self.old };
@@ -114,6 +123,7 @@ pub trait AsyncUdpSocket: Drop {
         ensures sent { IsSent transmit.now contents.now result (departed self.old) (departed self.new) }
         ensures arrived { arrived self.new ≡ arrived self.old }
         ensures cause { CountsFaults (faults self.old) (faults self.new) (has_failed result) }
+        ensures ready { never_blocks self.old → never_blocks self.new × (has_blocked result ≡ false) }
         ensures errors { IfErr result IsAnswerOfSend };
 
     /// Writes the oldest message into the front of the slice, and says what is known of it. One that is longer than the slice is dropped. If none is
@@ -129,6 +139,7 @@ pub trait AsyncUdpSocket: Drop {
         ensures fits { IfReady result (λ r. IfOk r (λ _. meta.new.len ≤ length buf.new)) }
         ensures departed { departed self.new ≡ departed self.old }
         ensures cause { CountsFaults (faults self.old) (faults self.new) (poll_failed result) }
+        ensures ready { never_blocks self.old → never_blocks self.new }
         ensures errors { IfReady result (λ r. IfErr r IsAnswerOfReceive) }
         ensures armed { OnPending result (IsArmed cx.new) }
         ensures kept { Keeps cx.old cx.new };
@@ -138,6 +149,7 @@ pub trait AsyncUdpSocket: Drop {
         ensures arrived { arrived self.new ≡ arrived self.old }
         ensures departed { departed self.new ≡ departed self.old }
         ensures cause { CountsFaults (faults self.old) (faults self.new) (has_failed result) }
+        ensures ready { never_blocks self.old → never_blocks self.new }
         ensures errors { IfErr result IsNeither };
 
     /// How many datagrams a message that it receives may have.
