@@ -1,0 +1,16 @@
+use Rattle.std.proofs.Common.{refl}
+use Rattle.qh_book.specs.Book.{without_handle}
+use Rattle.qh_book.specs.Sending.{with_send_ended}
+use Rattle.qh_book.specs.declared.call.Call.TheVariants as call
+use Rattle.qh_quinn.proofs.RecvEnds.{handle_ended}
+use Rattle.qh_quinn.proofs.StatesKept.{changes}
+use Rattle.qh_quinn.specs.Acting.{recv_handle_ended}
+use Rattle.qh_quinn.proofs.inner.StateInner.answered_of_stream.Goals as goal
+
+pub returns-in-EndSend-clause-value : goal.returns-in-EndSend-clause-value
+returns-in-EndSend-clause-value g c =
+    rw c.in-EndSend.is (changes (λ b. without_handle (with_send_ended b c.in-EndSend.id.0)) c.args.self.now c.end_send.new.self (call.EndSend c.in-EndSend.id) (λ b. refl) c.end_send.ensures)
+
+pub returns-in-EndRecv-clause-value : goal.returns-in-EndRecv-clause-value
+returns-in-EndRecv-clause-value g c =
+    rw c.in-EndRecv.is (changes (recv_handle_ended c.in-EndRecv.id.0) c.args.self.now c.end_recv.new.self (call.EndRecv c.in-EndRecv.id) (λ b. handle_ended _ b c.in-EndRecv.id) c.end_recv.ensures)

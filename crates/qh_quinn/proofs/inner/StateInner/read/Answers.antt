@@ -1,0 +1,17 @@
+use Rattle.std.proofs.Common.{sym}
+use Rattle.qh_book.specs.declared.call.Call.TheVariants as call
+use Rattle.qh_book.specs.declared.reply.Reply.TheVariants as reply
+use Rattle.qh_quinn.proofs.ShutReads.{off, read_shut, unheld}
+use Rattle.qh_quinn.proofs.inner.StateInner.read.Goals as goal
+
+pub returns-in_default-clause-value : goal.returns-in_default-clause-value
+returns-in_default-clause-value g c =
+    let a = c.args in
+    unheld (call.Read a.id a.max_length a.is_ordered) reply.ClosedStream a.self.now a.id.0 c.requires (sym c.in_default.ensures) (λ b off. c.emptied_shown.ensures.unheld_read b a.id a.max_length a.is_ordered off)
+
+pub returns-then-not-reader-clause-value : goal.returns-then-not-reader-clause-value
+returns-then-not-reader-clause-value g c =
+    let s = c.args.self.now in
+    let a = c.args in
+    read_shut a.id a.max_length a.is_ordered c.read_shut.result s c.in-Some.reader c.requires (sym c.in-Some.ensures) (off _ c.if-not-reader.true)
+    (λ b p held page shut some. c.emptied_shown.ensures.shut_read b a.id a.max_length a.is_ordered p held page shut some) (λ b p held page shut. c.emptied_shown.ensures.shut_nothing b a.id a.is_ordered p 0 held page shut) c.read_shut.ensures

@@ -1,0 +1,15 @@
+use Rattle.std.proofs.Common.{refl, sym, ◌∙◌}
+use Rattle.qh_book.specs.declared.call.Call.TheVariants as call
+use Rattle.qh_book.specs.declared.reply.Reply.TheVariants as reply
+use Rattle.qh_quinn.proofs.DatagramCalls.{datagram_answers}
+use Rattle.qh_quinn.proofs.StatesKept.{rest_self}
+use Rattle.qh_shown.specs.Connections.{bounds_of}
+use Rattle.qh_quinn.proofs.inner.StateInner.read_datagram.Goals as goal
+
+pub returns-in-Some-clause-value : goal.returns-in-Some-clause-value
+returns-in-Some-clause-value g c =
+    let s = c.args.self.now in
+    let e = c.recv_datagram.ensures in
+    datagram_answers s _ call.ReadDatagram (reply.Datagram c.in-Some.payload) (record s.connection.control.datagrams { incoming = c.recv_datagram.new.self.control.datagrams.incoming }) c.requires e.whole (rest_self s)
+    (sym c.is_emptied.ensures ∙ c.if-is_emptied.false) e.rest
+    (λ b shown error. c.datagrams_shown.ensures.read s.connection.control.datagrams (record s.connection.control.datagrams { incoming = c.recv_datagram.new.self.control.datagrams.incoming }) (bounds_of s.connection.control) b c.in-Some.payload shown c.in-Some.ensures.some refl)

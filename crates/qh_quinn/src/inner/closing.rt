@@ -1,0 +1,166 @@
+ghost use Rattle.std.specs.Prelude.{◌≡◌, ◌==◌, ◌&&◌, not, None, Some, is_some};
+ghost use Rattle.qh_book.specs.Book.{Book, with_close, without_handle};
+ghost use Rattle.qh_book.specs.Pages.{SendPage, live_send};
+ghost use Rattle.qh_book.specs.Receiving.{with_recv_ended, without_reader};
+ghost use Rattle.qh_book.specs.Sending.{with_send_ended};
+ghost use Rattle.qh_book.specs.declared.call.Call.TheVariants as call;
+ghost use Rattle.qh_quinn.specs.Acting.{Answers, IsAnswered, IsChanged, lost_or_pending, recv_handle_ended};
+ghost use Rattle.qh_quinn.specs.Readers.{reader_in};
+ghost use Rattle.qh_quinn.specs.States.{IsState, Shows};
+
+use super::StateInner;
+use crate::readers::Reader;
+use qh_base::{ConnectionError, Memory, Moment, Reason, StreamId, VarInt};
+use qh_book::Reply;
+
+impl<S> StateInner<S> {
+    // Why the connection is lost, if it is.
+    pub(crate) fn close_reason<T>(&self) -> Reply<T>
+        requires { IsState self.now }
+        ensures { IsAnswered call.CloseReason result self.now self.now }
+    {
+        match self.kept_error() {
+            Some(error) => Reply::ConnectionLost(error),
+            None => Reply::Done,
+        }
+    }
+
+    // Waits until it is.
+    pub(crate) fn closed<T>(&self) -> Reply<T>
+        requires { IsState self.now }
+        ensures { IsAnswered call.Closed result self.now self.now }
+    {
+        self.closed_or_waits()
+    }
+
+    // The kept error; if there is none the call waits.
+    pub(crate) fn closed_or_waits<T>(&self) -> Reply<T>
+        ensures { result ≡ lost_or_pending self.now.error }
+    {
+        match self.kept_error() {
+            Some(error) => Reply::ConnectionLost(error),
+            None => Reply::Pending,
+        }
+    }
+
+    // Closes, with a code and a reason of the application's; the moment counts from the driver's last turn at the earliest. No call waits any more.
+    pub(crate) fn close(&mut self, now: Moment, error_code: VarInt, reason: Reason)
+        requires { IsState self.old }
+        ensures { IsChanged with_close self.old self.new }
+    {
+        qh_shown::closes_shown::<S>();
+        let now = now.max(self.last_turn);
+        self.connection.close(now, error_code, reason);
+        self.error = Some(ConnectionError::LocallyClosed);
+        self.waiting.clear();
+        self.wake();
+    }
+
+    pub(crate) fn clone_handle<T>(&mut self) -> Result<Reply<T>, Memory>
+        requires { IsState self.old }
+        ensures value { Answers call.CloneHandle result self.old self.new }
+        ensures waiting { self.new.waiting ≡ self.old.waiting }
+    {
+        let Some(handles) = self.handles.checked_add(1) else {
+            return Err(Memory);
+        };
+        self.handles = handles;
+        Ok(Reply::Done)
+    }
+
+    // A handle is gone: the last one closes, if no error is kept.
+    pub(crate) fn end_handle(&mut self)
+        requires { IsState self.old }
+        ensures { IsChanged without_handle self.old self.new }
+    {
+        self.handles = self.handles.saturating_sub(1);
+        if self.is_last() {
+            self.close(self.last_turn, VarInt::from_u32(0), Reason::of(&[]));
+        }
+    }
+
+    // Whether no handle is left of a connection that isn't lost.
+    fn is_last(&self) -> bool
+        ensures { result ≡ (self.now.handles == 0 && not (is_some self.now.error)) }
+    {
+        self.handles == 0 && self.error.is_none()
+    }
+
+    // A `SendStream` ends: the stream is finished, or reset with the peer's code if the peer asked to stop it. Once an error is kept nothing of it changes.
+    pub(crate) fn end_send(&mut self, id: StreamId)
+        requires { IsState self.old }
+        ensures { IsChanged (λ b. without_handle (with_send_ended b id.0)) self.old self.new }
+    {
+        self.end_half(id);
+        self.end_handle();
+    }
+
+    // What that does to the half itself.
+    fn end_half(&mut self, id: StreamId)
+        requires { IsState self.old }
+        ensures { IsChanged (λ b. with_send_ended b id.0) self.old self.new }
+    {
+        qh_book::ends_shown::<u8>();
+        if self.error.is_some() {
+            return;
+        }
+        let Some(code) = self.stop_code(id) else {
+            let _ = self.finish::<u8>(id);
+            return;
+        };
+        let _ = self.reset::<u8>(id, code);
+    }
+
+    // The code with which the peer asked to stop a half, if it did and the connection has the half still.
+    fn stop_code(&self, id: StreamId) -> Option<VarInt>
+        requires state { IsState self.now }
+        requires unlost { self.now.error ≡ None }
+        ensures { (b : Book) → Shows self.now b → (p : SendPage) → live_send (b.sends id.0) ≡ Some p → p.stop_code ≡ result }
+    {
+        let told = self.stopped::<u8>(id);
+        match &told {
+            Reply::Code(code) => *code,
+            _ => None,
+        }
+    }
+
+    // A `RecvStream` ends: the stream is stopped, unless a read gave its end or an error, or it was stopped.
+    pub(crate) fn end_recv(&mut self, id: StreamId)
+        requires { IsState self.old }
+        ensures { IsChanged (recv_handle_ended id.0) self.old self.new }
+    {
+        let Some(reader) = self.readers.get(id.0) else {
+            return;
+        };
+        self.end_reading(id, reader);
+        self.end_reader(id);
+        self.end_handle();
+    }
+
+    // What that does to the half itself.
+    fn end_reading(&mut self, id: StreamId, reader: Reader)
+        requires state { IsState self.old }
+        requires there { reader_in self.old.readers id.0 ≡ Some reader }
+        ensures { IsChanged (λ b. with_recv_ended b id.0) self.old self.new }
+    {
+        qh_book::ends_shown::<u8>();
+        if self.is_stopped_by_end(&reader) {
+            self.stop_open::<u8>(id, reader, VarInt::from_u32(0));
+        }
+    }
+
+    // Whether the end of its handle stops a half: one that is read and gave no error, of a connection that isn't lost.
+    fn is_stopped_by_end(&self, reader: &Reader) -> bool
+        ensures { result ≡ ((not (is_some self.now.error) && reader.now.is_open) && not reader.now.gave_error) }
+    {
+        self.error.is_none() && reader.is_open && !reader.gave_error
+    }
+
+    // No handle holds the half any more.
+    fn end_reader(&mut self, id: StreamId)
+        requires { IsState self.old }
+        ensures { IsChanged (without_reader id.0) self.old self.new }
+    {
+        self.readers.release(id.0);
+    }
+}
