@@ -1,5 +1,5 @@
 -- What a call does at a state: it is one step of each book that shows the state, and exactly the call of the connection.
-use Rattle.std.specs.Prelude.{ℕ, Option, Some, None, Result, MatchResult, if◌then◌else◌}
+use Rattle.std.specs.Prelude.{◌≡◌, ℕ, Option, Some, None, Result, MatchResult, if◌then◌else◌}
 use Rattle.qh_base.specs.declared.memory.Memory.{Memory}
 use Rattle.qh_base.specs.declared.connection_error.ConnectionError.{ConnectionError}
 use Rattle.qh_book.specs.Book.{Book, without_handle}
@@ -22,6 +22,17 @@ lost_or_pending (Some e) = reply.ConnectionLost e
 -- the handle of a stream's receiving half ends, if one holds it
 abbrev pub recv_handle_ended : (id : ℕ) → Book → Book
 recv_handle_ended id b = if b.readers id then without_handle (without_reader id (with_recv_ended b id)) else b
+
+-- what waits for the driver and for the endpoint isn't touched
+abbrev pub KeepsTurns : {S : Type 0} → (old new : StateInner S) → Type 0
+KeepsTurns old new = new ≡ record old {
+  connection = new.connection;
+  error = new.error;
+  handles = new.handles;
+  readers = new.readers;
+  waiting = new.waiting;
+  driver = new.driver;
+}
 
 -- the call hands nothing over
 abbrev pub IsLent : Call → Type 0

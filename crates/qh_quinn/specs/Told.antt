@@ -1,5 +1,6 @@
 -- The values that calls are told which the book doesn't have.
-use Rattle.std.specs.Prelude.{◌≡◌, ℕ, ◌+◌, ◌-◌, ◌^◌, Bool, false, List, Option, is_some, IfSome, min}
+use Rattle.std.specs.Prelude.{◌≡◌, ℕ, ◌+◌, ◌-◌, ◌^◌, Bool, false, List, Option, None, is_some, IfSome, min}
+use Rattle.qh_base.specs.declared.connection_error.ConnectionError.{ConnectionError}
 use Rattle.qh_book.specs.declared.call.Call.{Call}
 use Rattle.qh_book.specs.declared.call.Call.TheVariants as call
 use Rattle.qh_book.specs.declared.call.Getter.{Getter}
@@ -35,9 +36,10 @@ module _ {S D : Type 0} (knows : S → Bool) (name : S → List ℕ) (name_in : 
   IsValue c getter value = Unit {0}
 
 module _ {S D : Type 0} (knows : S → Bool) (name : S → List ℕ) (name_in : D → List ℕ) where
-  -- a call that is told a value of the connection is told that one; one that waits for what the handshake tells waits while the session doesn't know it
-  abbrev pub TellsOf : Connection S → Call → Reply (Told D) → Type 0
-  TellsOf c call.HandshakeData (reply.Told (told.HandshakeData d)) = IsData knows name name_in c.core.session d
-  TellsOf c call.HandshakeData r = knows c.core.session ≡ false
-  TellsOf c (call.Get getter) (reply.Told value) = IsValue knows name name_in c getter value
-  TellsOf c other r = Unit {0}
+  -- a call that is told a value of the connection is told that one; one that waits for what the handshake tells waits while the session doesn't know it and no error is kept
+  abbrev pub TellsOf : Connection S → Option ConnectionError → Call → Reply (Told D) → Type 0
+  TellsOf c error call.HandshakeData (reply.Told (told.HandshakeData d)) = IsData knows name name_in c.core.session d
+  TellsOf c error call.HandshakeData reply.Pending = (knows c.core.session ≡ false) × (error ≡ None)
+  TellsOf c error call.HandshakeData r = knows c.core.session ≡ false
+  TellsOf c error (call.Get getter) (reply.Told value) = IsValue knows name name_in c getter value
+  TellsOf c error other r = Unit {0}

@@ -4,7 +4,7 @@ ghost use Rattle.qh_book.specs.declared.reply.Reply.TheVariants as reply;
 ghost use Rattle.qh_conn.specs.Telling.{IsDueAt, IsEndpointTold, IsFirstDue};
 ghost use Rattle.qh_conn.specs.Whole.{IsWhole};
 ghost use Rattle.qh_handles.specs.Told.{IsDrive, IsPolled};
-ghost use Rattle.qh_quinn.specs.Acting.{IsFree, IsKept, IsMade, IsTelling};
+ghost use Rattle.qh_quinn.specs.Acting.{IsFree, IsKept, IsMade, IsTelling, KeepsTurns};
 ghost use Rattle.qh_quinn.specs.First.{IsFirstState};
 ghost use Rattle.qh_quinn.specs.Told.{TellsOf};
 ghost use Rattle.qh_shown.specs.Brings.{IsLogging};
@@ -101,7 +101,8 @@ where
         ensures value { MatchResult result (λ r. IsMade call r self.old self.new) (λ _. IsKept self.old self.new) }
         ensures ready { IfOk result (λ r. r ≡ reply.Pending → ⊥) }
         ensures free { IsFree call → IsOk result }
-        ensures tells { IsTelling call → IfOk result (λ r. TellsOf S.knows S.name S.told self.old.connection call r) }
+        ensures rest { KeepsTurns self.old self.new }
+        ensures tells { IsTelling call → IfOk result (λ r. TellsOf S.knows S.name S.told self.old.connection self.old.error call r) }
     {
         self.inner.plain(call)
     }
@@ -115,7 +116,8 @@ where
         requires { IsDrive call → ⊥ }
         ensures value { MatchResult result (λ r. IsMade call r self.old self.new) (λ _. IsKept self.old self.new) }
         ensures free { IsFree call → IsOk result }
-        ensures tells { IsTelling call → IfOk result (λ r. TellsOf S.knows S.name S.told self.old.connection call r) }
+        ensures rest { KeepsTurns self.old self.new }
+        ensures tells { IsTelling call → IfOk result (λ r. TellsOf S.knows S.name S.told self.old.connection self.old.error call r) }
         ensures armed { IfOk result (λ r. r ≡ reply.Pending → IsArmed cx.new) }
         ensures kept { Keeps cx.old cx.new }
     {

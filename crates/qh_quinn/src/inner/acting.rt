@@ -2,7 +2,7 @@ ghost use Rattle.std.specs.Prelude.{◌≡◌, IfOk, IsOk};
 ghost use Rattle.futures.specs.Task.{IsArmed, Keeps};
 ghost use Rattle.qh_book.specs.declared.reply.Reply.TheVariants as reply;
 ghost use Rattle.qh_handles.specs.Told.{IsDrive, IsPolled, MayReply};
-ghost use Rattle.qh_quinn.specs.Acting.{Acts, Answers, IsFree, IsLent, IsOfStream, IsTelling};
+ghost use Rattle.qh_quinn.specs.Acting.{Acts, Answers, IsFree, IsLent, IsOfStream, IsTelling, KeepsTurns};
 ghost use Rattle.qh_quinn.specs.States.{IsState};
 ghost use Rattle.qh_quinn.specs.Told.{TellsOf};
 
@@ -27,7 +27,8 @@ where
         ensures ready { IfOk result (λ r. r ≡ reply.Pending → ⊥) }
         ensures fits { IfOk result (λ r. MayReply call r) }
         ensures free { IsFree call → IsOk result }
-        ensures tells { IsTelling call → IfOk result (λ r. TellsOf S.knows S.name S.told self.old.connection call r) }
+        ensures tells { IsTelling call → IfOk result (λ r. TellsOf S.knows S.name S.told self.old.connection self.old.error call r) }
+        ensures rest { KeepsTurns self.old self.new }
     {
         pending_registers::<Told<S::HandshakeData>>();
         replies_fit::<Told<S::HandshakeData>>();
@@ -47,7 +48,8 @@ where
         ensures kept { Keeps cx.old cx.new }
         ensures fits { IfOk result (λ r. MayReply call r) }
         ensures free { IsFree call → IsOk result }
-        ensures tells { IsTelling call → IfOk result (λ r. TellsOf S.knows S.name S.told self.old.connection call r) }
+        ensures tells { IsTelling call → IfOk result (λ r. TellsOf S.knows S.name S.told self.old.connection self.old.error call r) }
+        ensures rest { KeepsTurns self.old self.new }
     {
         pending_registers::<Told<S::HandshakeData>>();
         replies_fit::<Told<S::HandshakeData>>();
@@ -71,7 +73,8 @@ where
         ensures waiting { IfOk result (λ r. r ≡ reply.Pending → self.new.waiting ≡ self.old.waiting) }
         ensures fits { IsTelling call → IfOk result (λ r. MayReply call r) }
         ensures free { IsFree call → IsOk result }
-        ensures tells { IsTelling call → IfOk result (λ r. TellsOf S.knows S.name S.told self.old.connection call r) }
+        ensures tells { IsTelling call → IfOk result (λ r. TellsOf S.knows S.name S.told self.old.connection self.old.error call r) }
+        ensures rest { KeepsTurns self.old self.new }
     {
         match call {
             Call::Close {
@@ -96,7 +99,8 @@ where
         ensures waiting { IfOk result (λ r. r ≡ reply.Pending → self.new.waiting ≡ self.old.waiting) }
         ensures fits { IsTelling call.now → IfOk result (λ r. MayReply call.now r) }
         ensures free { IsFree call.now → IsOk result }
-        ensures tells { IsTelling call.now → IfOk result (λ r. TellsOf S.knows S.name S.told self.old.connection call.now r) }
+        ensures tells { IsTelling call.now → IfOk result (λ r. TellsOf S.knows S.name S.told self.old.connection self.old.error call.now r) }
+        ensures rest { KeepsTurns self.old self.new }
     {
         match call {
             Call::Connecting => Ok(self.connect()),
@@ -127,6 +131,7 @@ where
         ensures value { Answers call.now result self.old self.new }
         ensures waiting { IfOk result (λ r. r ≡ reply.Pending → self.new.waiting ≡ self.old.waiting) }
         ensures free { IsFree call.now → IsOk result }
+        ensures rest { KeepsTurns self.old self.new }
     {
         match call {
             Call::Read {

@@ -4,7 +4,7 @@ ghost use Rattle.qh_book.specs.Pages.{SendPage, live_send};
 ghost use Rattle.qh_book.specs.Receiving.{with_recv_ended, without_reader};
 ghost use Rattle.qh_book.specs.Sending.{with_send_ended};
 ghost use Rattle.qh_book.specs.declared.call.Call.TheVariants as call;
-ghost use Rattle.qh_quinn.specs.Acting.{Answers, IsAnswered, IsChanged, lost_or_pending, recv_handle_ended};
+ghost use Rattle.qh_quinn.specs.Acting.{Answers, IsAnswered, IsChanged, KeepsTurns, lost_or_pending, recv_handle_ended};
 ghost use Rattle.qh_quinn.specs.Readers.{reader_in};
 ghost use Rattle.qh_quinn.specs.States.{IsState, Shows};
 
@@ -46,7 +46,8 @@ impl<S> StateInner<S> {
     // Closes, with a code and a reason of the application's; the moment counts from the driver's last turn at the earliest. No call waits any more.
     pub(crate) fn close(&mut self, now: Moment, error_code: VarInt, reason: Reason)
         requires { IsState self.old }
-        ensures { IsChanged with_close self.old self.new }
+        ensures changed { IsChanged with_close self.old self.new }
+        ensures rest { KeepsTurns self.old self.new }
     {
         qh_shown::closes_shown::<S>();
         let now = now.max(self.last_turn);
@@ -60,6 +61,7 @@ impl<S> StateInner<S> {
         requires { IsState self.old }
         ensures value { Answers call.CloneHandle result self.old self.new }
         ensures waiting { self.new.waiting ≡ self.old.waiting }
+        ensures rest { KeepsTurns self.old self.new }
     {
         let Some(handles) = self.handles.checked_add(1) else {
             return Err(Memory);
@@ -71,7 +73,8 @@ impl<S> StateInner<S> {
     // A handle is gone: the last one closes, if no error is kept.
     pub(crate) fn end_handle(&mut self)
         requires { IsState self.old }
-        ensures { IsChanged without_handle self.old self.new }
+        ensures changed { IsChanged without_handle self.old self.new }
+        ensures rest { KeepsTurns self.old self.new }
     {
         self.handles = self.handles.saturating_sub(1);
         if self.is_last() {
@@ -89,7 +92,8 @@ impl<S> StateInner<S> {
     // A `SendStream` ends: the stream is finished, or reset with the peer's code if the peer asked to stop it. Once an error is kept nothing of it changes.
     pub(crate) fn end_send(&mut self, id: StreamId)
         requires { IsState self.old }
-        ensures { IsChanged (λ b. without_handle (with_send_ended b id.0)) self.old self.new }
+        ensures changed { IsChanged (λ b. without_handle (with_send_ended b id.0)) self.old self.new }
+        ensures rest { KeepsTurns self.old self.new }
     {
         self.end_half(id);
         self.end_handle();
@@ -98,7 +102,8 @@ impl<S> StateInner<S> {
     // What that does to the half itself.
     fn end_half(&mut self, id: StreamId)
         requires { IsState self.old }
-        ensures { IsChanged (λ b. with_send_ended b id.0) self.old self.new }
+        ensures changed { IsChanged (λ b. with_send_ended b id.0) self.old self.new }
+        ensures rest { KeepsTurns self.old self.new }
     {
         qh_book::ends_shown::<u8>();
         if self.error.is_some() {
@@ -127,7 +132,8 @@ impl<S> StateInner<S> {
     // A `RecvStream` ends: the stream is stopped, unless a read gave its end or an error, or it was stopped.
     pub(crate) fn end_recv(&mut self, id: StreamId)
         requires { IsState self.old }
-        ensures { IsChanged (recv_handle_ended id.0) self.old self.new }
+        ensures changed { IsChanged (recv_handle_ended id.0) self.old self.new }
+        ensures rest { KeepsTurns self.old self.new }
     {
         let Some(reader) = self.readers.get(id.0) else {
             return;
@@ -141,7 +147,8 @@ impl<S> StateInner<S> {
     fn end_reading(&mut self, id: StreamId, reader: Reader)
         requires state { IsState self.old }
         requires there { reader_in self.old.readers id.0 ≡ Some reader }
-        ensures { IsChanged (λ b. with_recv_ended b id.0) self.old self.new }
+        ensures changed { IsChanged (λ b. with_recv_ended b id.0) self.old self.new }
+        ensures rest { KeepsTurns self.old self.new }
     {
         qh_book::ends_shown::<u8>();
         if self.is_stopped_by_end(&reader) {
@@ -159,7 +166,8 @@ impl<S> StateInner<S> {
     // No handle holds the half any more.
     fn end_reader(&mut self, id: StreamId)
         requires { IsState self.old }
-        ensures { IsChanged (without_reader id.0) self.old self.new }
+        ensures changed { IsChanged (without_reader id.0) self.old self.new }
+        ensures rest { KeepsTurns self.old self.new }
     {
         self.readers.release(id.0);
     }

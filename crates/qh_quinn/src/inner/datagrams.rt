@@ -1,6 +1,6 @@
 ghost use Rattle.std.specs.Prelude.{◌≡◌};
 ghost use Rattle.qh_book.specs.declared.call.Call.TheVariants as call;
-ghost use Rattle.qh_quinn.specs.Acting.{Answers, IsAnswered};
+ghost use Rattle.qh_quinn.specs.Acting.{Answers, IsAnswered, KeepsTurns};
 ghost use Rattle.qh_quinn.specs.States.{IsState};
 
 use super::StateInner;
@@ -15,6 +15,7 @@ impl<S> StateInner<S> {
         requires { IsState self.old }
         ensures value { IsAnswered call.ReadDatagram result self.old self.new }
         ensures waiting { self.new.waiting ≡ self.old.waiting }
+        ensures rest { KeepsTurns self.old self.new }
     {
         qh_book::datagrams_shown::<T>();
         if self.is_emptied() {
@@ -35,6 +36,7 @@ impl<S> StateInner<S> {
         requires { IsState self.old }
         ensures value { Answers (call.SendDatagram payload wait) result self.old self.new }
         ensures waiting { self.new.waiting ≡ self.old.waiting }
+        ensures rest { KeepsTurns self.old self.new }
     {
         qh_book::datagrams_shown::<T>();
         qh_book::datagram_refusals_shown::<T>();

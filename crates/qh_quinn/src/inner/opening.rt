@@ -1,7 +1,7 @@
 ghost use Rattle.std.specs.Prelude.{◌≡◌, ◌+◌, ℕ, false, Some, IfSome, if◌then◌else◌};
 ghost use Rattle.qh_book.specs.declared.call.Call.TheVariants as call;
 ghost use Rattle.qh_book.specs.Opening.{handles_of, held_by_opener};
-ghost use Rattle.qh_quinn.specs.Acting.{Answers, IsAnswered};
+ghost use Rattle.qh_quinn.specs.Acting.{Answers, IsAnswered, KeepsTurns};
 ghost use Rattle.qh_quinn.specs.Readers.{HasRoom, new_reader, reader_in};
 ghost use Rattle.qh_quinn.specs.States.{IsState};
 
@@ -27,6 +27,7 @@ impl<S> StateInner<S> {
         requires { IsState self.old }
         ensures value { Answers (call.Open dir) result self.old self.new }
         ensures waiting { self.new.waiting ≡ self.old.waiting }
+        ensures rest { KeepsTurns self.old self.new }
     {
         qh_book::opens_shown::<T>();
         if let Some(error) = self.kept_error() {
@@ -49,6 +50,7 @@ impl<S> StateInner<S> {
         requires { IsState self.old }
         ensures value { Answers (call.Accept dir) result self.old self.new }
         ensures waiting { self.new.waiting ≡ self.old.waiting }
+        ensures rest { KeepsTurns self.old self.new }
     {
         qh_book::opens_shown::<T>();
         self.readers.reserve()?;

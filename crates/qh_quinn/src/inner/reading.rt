@@ -2,7 +2,7 @@ ghost use Rattle.std.specs.Prelude.{◌≡◌, ◌==◌, ℕ, [], true, false, N
 ghost use Rattle.qh_book.specs.declared.call.Call.TheVariants as call;
 ghost use Rattle.qh_book.specs.declared.reply.Reply.TheVariants as reply;
 ghost use Rattle.qh_half.specs.declared.fault.ReadFault.TheVariants as read_faults;
-ghost use Rattle.qh_quinn.specs.Acting.{Answers, IsAnswered, lost_or_pending};
+ghost use Rattle.qh_quinn.specs.Acting.{Answers, IsAnswered, KeepsTurns, lost_or_pending};
 ghost use Rattle.qh_quinn.specs.Readers.{code_of, reader_in, with_reader};
 ghost use Rattle.qh_quinn.specs.States.{IsState};
 ghost use Rattle.qh_shown.specs.Connections.{is_wanting};
@@ -34,6 +34,7 @@ impl<S> StateInner<S> {
         requires { IsState self.old }
         ensures value { Answers (call.Read id max_length is_ordered) result self.old self.new }
         ensures waiting { self.new.waiting ≡ self.old.waiting }
+        ensures rest { KeepsTurns self.old self.new }
     {
         qh_book::emptied_shown::<T>();
         let Some(reader) = self.readers.get(id.0) else {
@@ -62,6 +63,7 @@ impl<S> StateInner<S> {
         requires opened { reader.is_open ≡ true }
         ensures value { Answers (call.Read id max_length is_ordered) result self.old self.new }
         ensures waiting { self.new.waiting ≡ self.old.waiting }
+        ensures rest { KeepsTurns self.old self.new }
     {
         qh_book::reads_shown::<T>();
         let begun = reader.begun(is_ordered);
@@ -154,6 +156,7 @@ impl<S> StateInner<S> {
         requires opened { reader.is_open ≡ true }
         ensures value { IsAnswered (call.Read id max_length is_ordered) result self.old self.new }
         ensures waiting { self.new.waiting ≡ self.old.waiting }
+        ensures rest { KeepsTurns self.old self.new }
     {
         qh_book::emptied_shown::<T>();
         let begun = reader.begun(is_ordered);
@@ -174,6 +177,7 @@ impl<S> StateInner<S> {
         requires { IsState self.old }
         ensures value { IsAnswered (call.Stop id code) result self.old self.new }
         ensures waiting { self.new.waiting ≡ self.old.waiting }
+        ensures rest { KeepsTurns self.old self.new }
     {
         qh_book::emptied_shown::<T>();
         let Some(reader) = self.readers.get(id.0) else {
@@ -193,6 +197,7 @@ impl<S> StateInner<S> {
         requires opened { reader.is_open ≡ true }
         ensures value { IsAnswered {T = T} (call.Stop id code) reply.Done self.old self.new }
         ensures waiting { self.new.waiting ≡ self.old.waiting }
+        ensures rest { KeepsTurns self.old self.new }
     {
         qh_book::emptied_shown::<T>();
         qh_book::stops_shown::<T>();
@@ -228,6 +233,7 @@ impl<S> StateInner<S> {
         requires { IsState self.old }
         ensures value { IsAnswered (call.ReceivedReset id) result self.old self.new }
         ensures waiting { self.new.waiting ≡ self.old.waiting }
+        ensures rest { KeepsTurns self.old self.new }
     {
         qh_book::emptied_shown::<T>();
         let Some(reader) = self.readers.get(id.0) else {
@@ -253,6 +259,7 @@ impl<S> StateInner<S> {
         requires known { code_of (is_wanting self.old.connection) reader ≡ Some code }
         ensures value { IsAnswered (call.ReceivedReset id) result self.old self.new }
         ensures waiting { self.new.waiting ≡ self.old.waiting }
+        ensures rest { KeepsTurns self.old self.new }
     {
         qh_book::emptied_shown::<T>();
         qh_book::closed_recvs_shown::<T>();
@@ -272,6 +279,7 @@ impl<S> StateInner<S> {
         requires opened { reader.is_open ≡ true }
         ensures value { IsAnswered (call.ReceivedReset id) result self.old self.new }
         ensures waiting { self.new.waiting ≡ self.old.waiting }
+        ensures rest { KeepsTurns self.old self.new }
     {
         qh_book::stops_shown::<T>();
         match self.connection.received_reset(id) {

@@ -4,7 +4,7 @@ ghost use Rattle.qh_book.specs.declared.call.Call.TheVariants as call;
 ghost use Rattle.qh_book.specs.declared.call.Setting.TheVariants as setting;
 ghost use Rattle.qh_datagrams.specs.Datagrams.{bytes_of};
 ghost use Rattle.qh_handles.specs.Told.{MayReply};
-ghost use Rattle.qh_quinn.specs.Acting.{IsAnswered, IsChanged};
+ghost use Rattle.qh_quinn.specs.Acting.{IsAnswered, IsChanged, KeepsTurns};
 ghost use Rattle.qh_quinn.specs.States.{IsState};
 ghost use Rattle.qh_quinn.specs.Told.{TellsOf};
 ghost use Rattle.qh_shown.specs.Connections.{is_wanting};
@@ -24,7 +24,7 @@ where
         requires { IsState self.now }
         ensures value { IsAnswered call.HandshakeData result self.now self.now }
         ensures fits { MayReply call.HandshakeData result }
-        ensures tells { TellsOf S.knows S.name S.told self.now.connection call.HandshakeData result }
+        ensures tells { TellsOf S.knows S.name S.told self.now.connection self.now.error call.HandshakeData result }
     {
         let data = self.connection.session().handshake_data();
         if data.is_some() {
@@ -41,7 +41,7 @@ where
         requires { IsState self.now }
         ensures value { IsAnswered (call.Get getter) result self.now self.now }
         ensures fits { MayReply (call.Get getter) result }
-        ensures tells { TellsOf S.knows S.name S.told self.now.connection (call.Get getter) result }
+        ensures tells { TellsOf S.knows S.name S.told self.now.connection self.now.error (call.Get getter) result }
     {
         let connection = &self.connection;
         match getter {
@@ -81,7 +81,8 @@ impl<S> StateInner<S> {
     // Changes a setting of the connection.
     pub(crate) fn set(&mut self, setting: Setting)
         requires { IsState self.old }
-        ensures { IsChanged (with_setting setting) self.old self.new }
+        ensures changed { IsChanged (with_setting setting) self.old self.new }
+        ensures rest { KeepsTurns self.old self.new }
     {
         match setting {
             Setting::MaxConcurrentUniStreams(count) => self.set_streams(Dir::Uni, count),
@@ -94,7 +95,8 @@ impl<S> StateInner<S> {
     // How many streams of a direction the peer may have open.
     fn set_streams(&mut self, dir: Dir, count: VarInt)
         requires { IsState self.old }
-        ensures { IsChanged (λ b. b) self.old self.new }
+        ensures changed { IsChanged (λ b. b) self.old self.new }
+        ensures rest { KeepsTurns self.old self.new }
     {
         qh_book::first_shown();
         self.connection.set_max_concurrent_streams(dir, count);
@@ -104,7 +106,8 @@ impl<S> StateInner<S> {
     // How many bytes may be written that the peer didn't confirm.
     fn set_send_window(&mut self, bytes: u64)
         requires { IsState self.old }
-        ensures { IsChanged (with_setting (setting.SendWindow bytes)) self.old self.new }
+        ensures changed { IsChanged (with_setting (setting.SendWindow bytes)) self.old self.new }
+        ensures rest { KeepsTurns self.old self.new }
     {
         qh_book::first_shown();
         self.connection.set_send_window(bytes);
@@ -114,7 +117,8 @@ impl<S> StateInner<S> {
     // How many bytes the peer may send that weren't read.
     fn set_receive_window(&mut self, bytes: VarInt)
         requires { IsState self.old }
-        ensures { IsChanged (λ b. b) self.old self.new }
+        ensures changed { IsChanged (λ b. b) self.old self.new }
+        ensures rest { KeepsTurns self.old self.new }
     {
         qh_book::first_shown();
         self.connection.set_receive_window(bytes);

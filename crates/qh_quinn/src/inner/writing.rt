@@ -2,7 +2,7 @@ ghost use Rattle.std.specs.Prelude.{◌≡◌, MatchResult};
 ghost use Rattle.qh_book.specs.Shown.{write_reply};
 ghost use Rattle.qh_book.specs.declared.call.Call.TheVariants as call;
 ghost use Rattle.qh_half.specs.declared.fault.WriteFault.TheVariants as write_faults;
-ghost use Rattle.qh_quinn.specs.Acting.{Answers, IsAnswered};
+ghost use Rattle.qh_quinn.specs.Acting.{Answers, IsAnswered, KeepsTurns};
 ghost use Rattle.qh_quinn.specs.States.{IsState};
 
 use super::StateInner;
@@ -16,6 +16,7 @@ impl<S> StateInner<S> {
         requires { IsState self.old }
         ensures value { Answers (call.Write id payload.now) result self.old self.new }
         ensures waiting { self.new.waiting ≡ self.old.waiting }
+        ensures rest { KeepsTurns self.old self.new }
     {
         qh_book::writes_shown::<T>();
         qh_book::refusals_shown::<T>();
@@ -37,6 +38,7 @@ impl<S> StateInner<S> {
         requires { IsState self.old }
         ensures value { IsAnswered (call.Finish id) result self.old self.new }
         ensures waiting { self.new.waiting ≡ self.old.waiting }
+        ensures rest { KeepsTurns self.old self.new }
     {
         qh_book::writes_shown::<T>();
         qh_book::refusals_shown::<T>();
@@ -58,6 +60,7 @@ impl<S> StateInner<S> {
         requires { IsState self.old }
         ensures value { IsAnswered (call.Reset id code) result self.old self.new }
         ensures waiting { self.new.waiting ≡ self.old.waiting }
+        ensures rest { KeepsTurns self.old self.new }
     {
         qh_book::writes_shown::<T>();
         qh_book::refusals_shown::<T>();
@@ -94,6 +97,7 @@ impl<S> StateInner<S> {
         requires { IsState self.old }
         ensures value { IsAnswered (call.SetPriority id priority) result self.old self.new }
         ensures waiting { self.new.waiting ≡ self.old.waiting }
+        ensures rest { KeepsTurns self.old self.new }
     {
         qh_book::writes_shown::<T>();
         qh_book::sends_told_shown::<T>();

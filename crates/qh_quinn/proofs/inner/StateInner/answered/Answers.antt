@@ -6,4 +6,4 @@ use Rattle.qh_quinn.proofs.inner.StateInner.answered.Goals as goal
 
 pub returns-in-Close-clause-value : goal.returns-in-Close-clause-value
 returns-in-Close-clause-value g c =
-    rw c.in-Close.is (changes with_close c.args.self.now c.close.new.self (call.Close c.in-Close.now c.in-Close.error_code c.in-Close.reason) (λ b. refl) c.close.ensures)
+    rw c.in-Close.is (changes with_close c.args.self.now c.close.new.self (call.Close c.in-Close.now c.in-Close.error_code c.in-Close.reason) (λ b. refl) c.close.ensures.changed)

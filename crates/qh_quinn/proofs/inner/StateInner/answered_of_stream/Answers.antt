@@ -9,8 +9,8 @@ use Rattle.qh_quinn.proofs.inner.StateInner.answered_of_stream.Goals as goal
 
 pub returns-in-EndSend-clause-value : goal.returns-in-EndSend-clause-value
 returns-in-EndSend-clause-value g c =
-    rw c.in-EndSend.is (changes (λ b. without_handle (with_send_ended b c.in-EndSend.id.0)) c.args.self.now c.end_send.new.self (call.EndSend c.in-EndSend.id) (λ b. refl) c.end_send.ensures)
+    rw c.in-EndSend.is (changes (λ b. without_handle (with_send_ended b c.in-EndSend.id.0)) c.args.self.now c.end_send.new.self (call.EndSend c.in-EndSend.id) (λ b. refl) c.end_send.ensures.changed)
 
 pub returns-in-EndRecv-clause-value : goal.returns-in-EndRecv-clause-value
 returns-in-EndRecv-clause-value g c =
-    rw c.in-EndRecv.is (changes (recv_handle_ended c.in-EndRecv.id.0) c.args.self.now c.end_recv.new.self (call.EndRecv c.in-EndRecv.id) (λ b. handle_ended _ b c.in-EndRecv.id) c.end_recv.ensures)
+    rw c.in-EndRecv.is (changes (recv_handle_ended c.in-EndRecv.id.0) c.args.self.now c.end_recv.new.self (call.EndRecv c.in-EndRecv.id) (λ b. handle_ended _ b c.in-EndRecv.id) c.end_recv.ensures.changed)

@@ -5,8 +5,8 @@ use Rattle.qh_quinn.specs.Acting.{IsChanged}
 use Rattle.qh_quinn.specs.declared.inner.StateInner.{StateInner}
 use Rattle.qh_quinn.proofs.inner.StateInner.close.Goals as goal
 
-pub returns : goal.returns
-returns g c =
+pub returns-clause-changed : goal.returns-clause-changed
+returns-clause-changed g c =
     let e = c.close.ensures in
     subst (λ (z : StateInner _). IsChanged with_close c.args.self.now z) (sym c.wake.ensures)
     (closes c.max-now.result c.args.error_code c.args.reason c.args.self.now _ (λ d k is. c.closes_shown.ensures.called c.max-now.result c.args.error_code c.args.reason d k is) c.requires

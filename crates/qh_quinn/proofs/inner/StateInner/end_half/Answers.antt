@@ -6,17 +6,17 @@ use Rattle.qh_quinn.proofs.inner.StateInner.end_half.Goals as goal
 pub stop_code-requires-clause-unlost : goal.stop_code-requires-clause-unlost
 stop_code-requires-clause-unlost g c = none_at c.args.self.now.error (sym c.is_some.ensures ∙ c.if-is_some.false)
 
-pub returns-then-is_some : goal.returns-then-is_some
-returns-then-is_some g c = lost_ends c.args.self.now c.args.id (sym c.is_some.ensures ∙ c.if-is_some.true) c.requires
+pub returns-then-is_some-clause-changed : goal.returns-then-is_some-clause-changed
+returns-then-is_some-clause-changed g c = lost_ends c.args.self.now c.args.id (sym c.is_some.ensures ∙ c.if-is_some.true) c.requires
 
-pub returns-in_default : goal.returns-in_default
-returns-in_default g c =
+pub returns-in_default-clause-changed : goal.returns-in_default-clause-changed
+returns-in_default-clause-changed g c =
     let s = c.args.self.now in
     ends_by_finish c.ends_shown.ensures.finish c.ends_shown.ensures.nothing s c.finish.new.self c.args.id c.finish.result (none_at s.error (sym c.is_some.ensures ∙ c.if-is_some.false))
     (λ b shown p live. c.stop_code.ensures b shown p live ∙ c.in_default.is) c.finish.ensures.value
 
-pub returns : goal.returns
-returns g c =
+pub returns-clause-changed : goal.returns-clause-changed
+returns-clause-changed g c =
     let s = c.args.self.now in
     ends_by_reset c.ends_shown.ensures.reset c.ends_shown.ensures.nothing s c.reset.new.self c.args.id c.in-Some.code c.reset.result (none_at s.error (sym c.is_some.ensures ∙ c.if-is_some.false))
     (λ b shown p live. c.stop_code.ensures b shown p live ∙ c.in-Some.is) c.reset.ensures.value

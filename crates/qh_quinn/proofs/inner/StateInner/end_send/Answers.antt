@@ -4,7 +4,7 @@ use Rattle.qh_quinn.proofs.HalfEnds.{in_turn}
 use Rattle.qh_quinn.proofs.inner.StateInner.end_send.Goals as goal
 
 pub end_handle-requires : goal.end_handle-requires
-end_handle-requires g c = c.end_half.ensures.state
+end_handle-requires g c = c.end_half.ensures.changed.state
 
-pub returns : goal.returns
-returns g c = in_turn (λ b. with_send_ended b c.args.id.0) without_handle c.args.self.now c.end_half.new.self c.end_handle.new.self c.end_half.ensures c.end_handle.ensures
+pub returns-clause-changed : goal.returns-clause-changed
+returns-clause-changed g c = in_turn (λ b. with_send_ended b c.args.id.0) without_handle c.args.self.now c.end_half.new.self c.end_handle.new.self c.end_half.ensures.changed c.end_handle.ensures.changed

@@ -39,5 +39,6 @@ returns g c =
       kept = λ fact held. held;
       fits = fits c.replies_fit.ensures c.args.call (Ok r) s mid c.requires.no_turn c.requires.state e.fits answered;
       free = λ free. refl;
+      rest = e.rest;
       tells = e.tells;
     }

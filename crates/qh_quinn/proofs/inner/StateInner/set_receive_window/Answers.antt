@@ -5,8 +5,8 @@ use Rattle.qh_quinn.specs.Acting.{IsChanged}
 use Rattle.qh_quinn.specs.declared.inner.StateInner.{StateInner}
 use Rattle.qh_quinn.proofs.inner.StateInner.set_receive_window.Goals as goal
 
-pub returns : goal.returns
-returns g c =
+pub returns-clause-changed : goal.returns-clause-changed
+returns-clause-changed g c =
     let e = c.set_receive_window.ensures in
     subst (λ (z : StateInner _). IsChanged (λ b. b) c.args.self.now z) (sym c.wake.ensures)
     (sets_receive c.args.self.now _ c.args.bytes (λ s notes b shown. c.first_shown.ensures.receive_window s notes b c.args.bytes shown) c.requires e.whole (rest_self c.args.self.now) (record { core = e.core; rest = e.early }))
