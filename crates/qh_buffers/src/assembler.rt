@@ -104,6 +104,13 @@ impl Assembler {
         let _ = &self.given;
     }
 
+    /// The offset behind those that reads gave without a gap wasn't given. It does nothing: its contract says so.
+    pub fn reads_on(&self)
+        ensures { was_given self.now (read_to self.now) ≡ false }
+    {
+        let _ = self.given.front();
+    }
+
     /// Keeps the bytes of a piece that didn't come before. Of those that came before the first ones stay. A piece behind all that
     /// came costs constant time while a queue is kept. Each part that is put into the map, and each piece or given range that it
     /// is cut at, costs the logarithm of how many there are, and so does each piece of a queue that is moved into the map for it.

@@ -1,5 +1,5 @@
 ghost use Rattle.std.specs.Prelude.{◌≡◌, ◌⊎◌, ℕ, Bool, ◌+◌, ◌-◌, ◌<◌, ◌≤◌, ◌^◌, ◌==◌, min, length, Option, Some, None, true, false, Err, OnOk, OnErr, IfOk, IfErr, IsOk, IfSome, MatchOption, if◌then◌else◌};
-ghost use Rattle.qh_buffers.specs.Assembler.{end_of, HasNothing, IsInserted};
+ghost use Rattle.qh_buffers.specs.Assembler.{end_of, HasNothing, IsInserted, read_to, was_given};
 ghost use Rattle.qh_half.specs.Recv.{new_recv, ingest_fault, contradicts, readable_fault, with_order, with_size, keeps_bytes, IsFaultOf, IsRead, IsReadAnswer, WantsMemory, WaitsForMore, IsStopped, with_reset_given, limit_of, final_size, reset_code, bytes_read, IsIngested, IsResetBy, is_closed, is_at_end, is_done, is_limit_due, counted, owes_limit, owes_stop, is_stop_due, is_frame_due, wants_more, IsBlocked, awaits_reset, acked_stop, lost_stop, new_stop};
 ghost use Rattle.std.specs.Option.{option_map};
 ghost use Rattle.qh_buffers.specs.SendBuffer.{lost_mark};
@@ -519,6 +519,13 @@ impl Recv {
             && self.state.reset_code().is_none()
             && !self.is_at_end()
             && !self.assembler.has_next(ordered && !self.is_unordered)
+    }
+
+    /// The offset behind those that reads gave without a gap wasn't given. It does nothing: its contract says so.
+    pub fn reads_on(&self)
+        ensures { was_given self.now.assembler (read_to self.now.assembler) ≡ false }
+    {
+        self.assembler.reads_on();
     }
 
     /// Whether whoever waits for the peer's reset waits still: none came, and reads aren't refused.

@@ -1,4 +1,5 @@
 ghost use Rattle.std.specs.Prelude.{◌≡◌, ◌⊎◌, ℕ, Bool, ◌+◌, ◌-◌, ◌*◌, ◌<◌, ◌≤◌, ◌^◌, ◌==◌, ◌||◌, min, List, [], length, Option, Some, None, true, false, Err, OnOk, OnErr, IfOk, IfErr, IfSome, MatchResult, is_some, if◌then◌else◌};
+ghost use Rattle.qh_buffers.specs.Assembler.{read_to, was_given};
 ghost use Rattle.std.specs.Ordering.{nat_cmp};
 ghost use Rattle.std.specs.BTreeMap.{insert_entry};
 ghost use Rattle.std.specs.Map.{keys_of};
@@ -250,6 +251,15 @@ impl RecvHalves {
         match self.halves.get(&id) {
             Some(half) => half.is_blocked(ordered),
             None => false,
+        }
+    }
+
+    /// Of a half the offset behind those that reads gave without a gap wasn't given. It does nothing: its contract says so.
+    pub fn reads_on(&self, id: u64)
+        ensures { IfSome (recv_at self.now id) (λ r. was_given r.assembler (read_to r.assembler) ≡ false) }
+    {
+        if let Some(half) = self.halves.get(&id) {
+            half.reads_on();
         }
     }
 

@@ -1,5 +1,5 @@
 -- How a turn of a driver ends, and what it sends.
-use Rattle.std.specs.Prelude.{◌≡◌, ◌⊎◌, ℕ, ◌-◌, ◌^◌, ◌<◌, true, List, ◌++◌, Option, Some, None, Result, Ok, Err, if◌then◌else◌}
+use Rattle.std.specs.Prelude.{◌≡◌, ◌⊎◌, ℕ, ◌-◌, ◌^◌, ◌<◌, Bool, true, false, List, ◌++◌, length, Option, Some, None, Result, Ok, Err, if◌then◌else◌}
 use Rattle.std.specs.Option.{option_map}
 use Rattle.futures.specs.declared.task.Poll.{Poll}
 use Rattle.futures.specs.declared.task.Poll.TheVariants.{Ready, Pending}
@@ -25,6 +25,11 @@ IsTurnFault other = Unit {0}
 -- these messages were sent, behind the others, by a socket that tells them
 abbrev pub AreSent : List OutMessage → (old new : Option (List OutMessage)) → Type 0
 AreSent out old new = new ≡ option_map (λ (sent : List OutMessage). sent ++ out) old
+
+-- a turn that may have more to send sent as many datagrams as one may (quinn, `MAX_TRANSMIT_DATAGRAMS`)
+abbrev pub IsFull : (keeps_going : Bool) → List OutMessage → Type 0
+IsFull true out = length out ≡ 20
+IsFull false out = Unit {0}
 
 -- neither the socket nor the poller, if there is one, has to be waited for
 abbrev pub AreReady : {X P : Type 0} → (X → Type 0) → (P → Type 0) → X → Option P → Type 0

@@ -10,7 +10,7 @@ ghost use Rattle.qh_book.specs.declared.reply.Reply.{Reply as AReply};
 ghost use Rattle.qh_book.specs.declared.reply.Reply.TheVariants as reply;
 ghost use Rattle.qh_handles.specs.Contexts.{ContextArmed, ContextKept, HasContext};
 ghost use Rattle.qh_handles.specs.Told.{IsDrive, IsPolled, MayReply};
-ghost use Rattle.qh_handles.specs.Turns.{AreReady, AreSent, HasCause, IsTurnFault};
+ghost use Rattle.qh_handles.specs.Turns.{AreReady, AreSent, HasCause, IsFull, IsTurnFault};
 ghost use Rattle.qh_handles.specs.declared.told.Told.{Told as AToldValue};
 ghost use Rattle.qh_runtime.specs.declared.runtime.IoFault.{IoFault as AFault};
 ghost use Rattle.qh_runtime.specs.declared.runtime.OutMessage.{OutMessage as AnOutMessage};
@@ -64,7 +64,8 @@ pub trait At {
         now: Moment,
         cx: &mut Context<'_>,
     ) -> Poll<Result<(), IoFault>>
-        ensures value { (out : List AnOutMessage) × drives self.old now part.old.is_held out result part.new.keeps_going self.new × AreSent out (X.departed socket.old) (X.departed socket.new) }
+        ensures value { (out : List AnOutMessage) × drives self.old now part.old.is_held out result part.new.keeps_going self.new × AreSent out (X.departed socket.old) (X.departed socket.new)
+            × (AreReady X.never_blocks X.Poller.never_blocks socket.old part.old.poller → result ≡ polls.Pending → IsFull part.new.keeps_going out) }
         ensures arrived { X.arrived socket.new ≡ X.arrived socket.old }
         ensures cause { HasCause X.Poller.faults result (X.faults socket.old) (X.faults socket.new) part.old.made part.new.made part.old.poller part.new.poller }
         ensures sent { part.old.is_held ≡ false → AreReady X.never_blocks X.Poller.never_blocks socket.old part.old.poller → result ≡ polls.Pending → part.new.keeps_going ≡ false → is_sent self.new }

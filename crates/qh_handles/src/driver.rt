@@ -2,7 +2,7 @@ ghost use Rattle.std.specs.Prelude.{◌≡◌, ◌≤◌, List, None, false, IfE
 ghost use Rattle.futures.specs.Poll.{IfReady, OnPending};
 ghost use Rattle.futures.specs.Task.{IsArmed, Keeps};
 ghost use Rattle.futures.specs.declared.task.Poll.TheVariants as polls;
-ghost use Rattle.qh_handles.specs.Turns.{AreReady, AreSent, HasCause, IsTurnFault};
+ghost use Rattle.qh_handles.specs.Turns.{AreReady, AreSent, HasCause, IsFull, IsTurnFault};
 ghost use Rattle.qh_runtime.specs.declared.runtime.OutMessage.{OutMessage as AnOutMessage};
 
 use crate::{At, DriverPart};
@@ -43,7 +43,8 @@ impl<X: AsyncUdpSocket> ConnectionDriver<X> {
         now: Moment,
         cx: &mut Context<'_>,
     ) -> Poll<Result<(), IoFault>>
-        ensures value { (out : List AnOutMessage) × A.drives at.old now self.old.part.is_held out result self.new.part.keeps_going at.new × AreSent out (X.departed socket.old) (X.departed socket.new) }
+        ensures value { (out : List AnOutMessage) × A.drives at.old now self.old.part.is_held out result self.new.part.keeps_going at.new × AreSent out (X.departed socket.old) (X.departed socket.new)
+            × (AreReady X.never_blocks X.Poller.never_blocks socket.old self.old.part.poller → result ≡ polls.Pending → IsFull self.new.part.keeps_going out) }
         ensures arrived { X.arrived socket.new ≡ X.arrived socket.old }
         ensures cause { HasCause X.Poller.faults result (X.faults socket.old) (X.faults socket.new) self.old.part.made self.new.part.made self.old.part.poller self.new.part.poller }
         ensures sent { self.old.part.is_held ≡ false → AreReady X.never_blocks X.Poller.never_blocks socket.old self.old.part.poller → result ≡ polls.Pending → self.new.part.keeps_going ≡ false → A.is_sent at.new }

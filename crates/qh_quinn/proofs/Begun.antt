@@ -15,7 +15,7 @@ use Rattle.qh_core.specs.declared.event.EndpointEvent.{EndpointEvent as CoreEndp
 use Rattle.qh_core.specs.declared.inner.Inner.{Inner}
 use Rattle.qh_core.specs.declared.state.State.{State as CoreState}
 use Rattle.qh_quinn.proofs.StatesKept.{connection_beside, state_by}
-use Rattle.qh_quinn.proofs.GoingOn.{lives_on}
+use Rattle.qh_quinn.proofs.TakingUp.{lives_on}
 use Rattle.qh_quinn.proofs.Tellings.{Tells, told_logging, told_shows, told_state}
 use Rattle.qh_quinn.specs.Acting.{IsChanged}
 use Rattle.qh_quinn.specs.Readers.{HoldsReader, reader_in}

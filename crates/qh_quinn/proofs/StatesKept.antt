@@ -63,7 +63,7 @@ open_lives Established up = refl
 open_lives Drained up = let z : false ≡ true = up in cc
 open_lives other up = refl
 
-calm_by : (wanting : Bool) (drained : Bool) → (wanting ≡ true → drained ≡ true) → drained ≡ false → wanting ≡ false
+pub calm_by : (wanting : Bool) (drained : Bool) → (wanting ≡ true → drained ≡ true) → drained ≡ false → wanting ≡ false
 calm_by true drained is lives = sym (is refl) ∙ lives
 calm_by false drained is lives = refl
 

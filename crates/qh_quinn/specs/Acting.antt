@@ -1,4 +1,4 @@
--- What a call does at a state: it is one step of each book that shows the state, and exactly the call of the connection.
+-- What a call does at a state: it is one step of each book that shows the state.
 use Rattle.std.specs.Prelude.{◌≡◌, ℕ, Option, Some, None, Result, MatchResult, if◌then◌else◌}
 use Rattle.qh_base.specs.declared.memory.Memory.{Memory}
 use Rattle.qh_base.specs.declared.connection_error.ConnectionError.{ConnectionError}
@@ -11,6 +11,7 @@ use Rattle.qh_book.specs.declared.reply.Reply.{Reply}
 use Rattle.qh_book.specs.declared.reply.Reply.TheVariants as reply
 use Rattle.qh_handles.specs.Told.{MayReply}
 use Rattle.qh_handles.specs.declared.told.Told.{Told}
+use Rattle.qh_quinn.specs.Calls.{IsCallOf}
 use Rattle.qh_quinn.specs.States.{IsState, Shows}
 use Rattle.qh_quinn.specs.declared.inner.StateInner.{StateInner}
 
@@ -23,7 +24,7 @@ lost_or_pending (Some e) = reply.ConnectionLost e
 abbrev pub recv_handle_ended : (id : ℕ) → Book → Book
 recv_handle_ended id b = if b.readers id then without_handle (without_reader id (with_recv_ended b id)) else b
 
--- what waits for the driver and for the endpoint isn't touched
+-- what waits for the driver isn't touched
 abbrev pub KeepsTurns : {S : Type 0} → (old new : StateInner S) → Type 0
 KeepsTurns old new = new ≡ record old {
   connection = new.connection;
@@ -123,8 +124,14 @@ module _ {S : Type 0} where
   abbrev pub IsKept : (old new : StateInner S) → Type 0
   IsKept old new = (b : Book) → Shows old b → Shows new b
 
+  -- and nothing was done with the connection
+  pub record IsUnmade (old new : StateInner S) : Type 0 where
+    pub kept : IsKept old new
+    pub same : new.connection ≡ old.connection
+
 module _ {S D : Type 0} where
-  -- the call was made, and replied in a form that it may have
+  -- the call was made, as one of the connection's, and replied in a form that it may have
   pub record IsMade (call : Call) (reply : Reply (Told D)) (old new : StateInner S) : Type 0 where
     pub acted : IsActed call reply old new
+    pub calls : IsCallOf call reply old new
     pub fits : MayReply call reply

@@ -1,7 +1,9 @@
 pub mod Acting
+pub mod Calls
 pub mod First
 pub mod Readers
 pub mod States
 pub mod Telling
 pub mod Told
+pub mod Turning
 pub mod Waiting

@@ -10,9 +10,12 @@ ghost use Rattle.qh_shown.specs.Connections.{IsBegun, is_wanting};
 mod acting;
 mod closing;
 mod datagrams;
+mod driving;
 mod opening;
 mod reading;
+mod settling;
 mod telling;
+mod turning;
 mod values;
 mod writing;
 

@@ -1,23 +1,26 @@
-ghost use Rattle.std.specs.Prelude.{◌≡◌, ◌++◌, ◌∷◌, [], ℕ, false, None, MatchOption, MatchResult, IfOk, IsOk, OnErr, OnOk};
+ghost use Rattle.std.specs.Prelude.{◌≡◌, ◌++◌, ◌∷◌, [], ℕ, false, None, Some, MatchOption, MatchResult, IfOk, IsOk, OnErr, OnOk};
 ghost use Rattle.futures.specs.Task.{IsArmed, Keeps};
+ghost use Rattle.qh_book.specs.Interests.{interest_of};
+ghost use Rattle.qh_book.specs.declared.interest.Interest.{Interest as AnInterest};
 ghost use Rattle.qh_book.specs.declared.reply.Reply.TheVariants as reply;
 ghost use Rattle.qh_conn.specs.Telling.{IsDueAt, IsEndpointTold, IsFirstDue};
 ghost use Rattle.qh_conn.specs.Whole.{IsWhole};
 ghost use Rattle.qh_handles.specs.Told.{IsDrive, IsPolled};
-ghost use Rattle.qh_quinn.specs.Acting.{IsFree, IsKept, IsMade, IsTelling, KeepsTurns};
+ghost use Rattle.qh_quinn.specs.Acting.{IsFree, IsKept, IsMade, IsTelling, IsUnmade, KeepsTurns};
 ghost use Rattle.qh_quinn.specs.First.{IsFirstState};
 ghost use Rattle.qh_quinn.specs.Told.{TellsOf};
+ghost use Rattle.qh_quinn.specs.Waiting.{IsHeard};
 ghost use Rattle.qh_shown.specs.Brings.{IsLogging};
 ghost use Rattle.qh_shown.specs.Connections.{IsBegun};
 
 use crate::inner::StateInner;
-use futures::task::Context;
+use futures::task::{Context, Poll};
 use qh_base::{Memory, Moment};
 use qh_book::{Call, Reply};
 use qh_conn::{Connection, ConnectionEvent, EndpointEvent};
-use qh_handles::{Connecting, ConnectionDriver, Told};
+use qh_handles::{At, Connecting, ConnectionDriver, DriverPart, Told};
 use qh_packet::Session;
-use qh_runtime::AsyncUdpSocket;
+use qh_runtime::{AsyncUdpSocket, IoFault};
 use std::alloc::Global;
 use std::marker::Model;
 
@@ -98,7 +101,7 @@ where
     pub fn act(&mut self, call: Call) -> Result<Reply<Told<S::HandshakeData>>, Memory>
         requires unpolled { IsPolled call → ⊥ }
         requires no_turn { IsDrive call → ⊥ }
-        ensures value { MatchResult result (λ r. IsMade call r self.old self.new) (λ _. IsKept self.old self.new) }
+        ensures value { MatchResult result (λ r. IsMade call r self.old self.new) (λ _. IsUnmade self.old self.new) }
         ensures ready { IfOk result (λ r. r ≡ reply.Pending → ⊥) }
         ensures free { IsFree call → IsOk result }
         ensures rest { KeepsTurns self.old self.new }
@@ -114,13 +117,60 @@ where
         cx: &mut Context<'_>,
     ) -> Result<Reply<Told<S::HandshakeData>>, Memory>
         requires { IsDrive call → ⊥ }
-        ensures value { MatchResult result (λ r. IsMade call r self.old self.new) (λ _. IsKept self.old self.new) }
+        ensures value { MatchResult result (λ r. IsMade call r self.old self.new) (λ _. IsUnmade self.old self.new) }
         ensures free { IsFree call → IsOk result }
         ensures rest { KeepsTurns self.old self.new }
         ensures tells { IsTelling call → IfOk result (λ r. TellsOf S.knows S.name S.told self.old.connection self.old.error call r) }
         ensures armed { IfOk result (λ r. r ≡ reply.Pending → IsArmed cx.new) }
+        ensures heard { IfOk result (λ r. r ≡ reply.Pending → (i : AnInterest) → interest_of call ≡ Some i → IsHeard i cx.old cx.new self.new.waiting.items) }
         ensures kept { Keeps cx.old cx.new }
     {
         self.inner.polled(call, cx)
     }
+}
+
+impl<S: Session> At for State<S>
+where
+    S::HandshakeData: Drop,
+{
+    type HandshakeData = S::HandshakeData;
+
+    ghost use Rattle.std.specs.Prelude.{List};
+    ghost use Rattle.qh_quinn.specs.Acting.{IsFree, IsMade, IsTelling, IsUnmade};
+    ghost use Rattle.qh_quinn.specs.Told.{TellsOf};
+    ghost use Rattle.qh_quinn.specs.Turning.{HasSentAll, IsTurned};
+    ghost use Rattle.qh_handles.specs.declared.told.Told.{Told as AToldValue};
+
+    ghost acts = { λ s c r t. IsMade c r s t × (IsTelling c → TellsOf S.knows S.name S.told s.connection s.error c r) };
+
+    ghost stays = { λ s t. IsUnmade s t };
+
+    ghost takes_none = { λ s c. IsFree c };
+
+    ghost drives = { λ s now held out answer going t. IsTurned (AToldValue S.HandshakeData) S.accepts S.sealed s now held out answer t };
+
+    ghost is_sent = { λ s. HasSentAll s };
+
+    fn act(
+        &mut self,
+        call: Call,
+        cx: Option<&mut Context<'_>>,
+    ) -> Result<Reply<Told<S::HandshakeData>>, Memory> {
+        match cx {
+            Some(cx) => self.poll_act(call, cx),
+            None => State::act(self, call),
+        }
+    }
+
+    fn drive<X: AsyncUdpSocket>(
+        &mut self,
+        part: &mut DriverPart<X>,
+        socket: &mut X,
+        now: Moment,
+        cx: &mut Context<'_>,
+    ) -> Poll<Result<(), IoFault>> {
+        self.inner.turn(part, socket, now, cx)
+    }
+
+    ghost fits = { λ x y c r h. h.0.fits };
 }

@@ -1,4 +1,5 @@
 ghost use Rattle.std.specs.Prelude.{nat_lt, ◌≡◌, ◌⊎◌, ◌++◌, ◌<◌, [], ◌∷◌, ℕ, List, take, min, length, true, false, None, Some, Ok, OnOk, IsOk, OnErr, IfOk, IfErr, IfSome, IsSome, MatchResult};
+ghost use Rattle.qh_buffers.specs.Assembler.{read_to, was_given};
 ghost use Rattle.std.specs.List.{concat};
 ghost use Rattle.qh_core.specs.Follows.{Follows, write_acts, write_chunks_acts, finish_acts, reset_by_acts, stop_acts, take_acts, received_reset_acts};
 ghost use Rattle.qh_core.specs.Inner.{is_open, with_streams};
@@ -234,6 +235,13 @@ impl<S> Connection<S> {
         ensures no { result ≡ false → IsReadBlockedAt self.now.space.streams.recv id.0 ordered → ⊥ }
     {
         self.inner.space.streams.is_read_blocked(id, ordered)
+    }
+
+    /// Of a half the offset behind those that reads gave without a gap wasn't given. It does nothing: its contract says so.
+    pub fn reads_on(&self, id: StreamId)
+        ensures { IfSome (recv_at self.now.space.streams.recv id.0) (λ r. was_given r.assembler (read_to r.assembler) ≡ false) }
+    {
+        self.inner.space.streams.reads_on(id);
     }
 
     /// Whether whoever waits for the peer's reset of a stream waits still: none came, and reads aren't refused.

@@ -1,10 +1,14 @@
-ghost use Rattle.std.specs.Prelude.{◌≡◌, IfOk, IsOk};
+ghost use Rattle.std.specs.Prelude.{◌≡◌, Some, IfOk, IsOk};
 ghost use Rattle.futures.specs.Task.{IsArmed, Keeps};
+ghost use Rattle.qh_book.specs.Interests.{interest_of};
+ghost use Rattle.qh_book.specs.declared.interest.Interest.{Interest as AnInterest};
 ghost use Rattle.qh_book.specs.declared.reply.Reply.TheVariants as reply;
 ghost use Rattle.qh_handles.specs.Told.{IsDrive, IsPolled, MayReply};
 ghost use Rattle.qh_quinn.specs.Acting.{Acts, Answers, IsFree, IsLent, IsOfStream, IsTelling, KeepsTurns};
+ghost use Rattle.qh_quinn.specs.Calls.{CallsOf};
 ghost use Rattle.qh_quinn.specs.States.{IsState};
 ghost use Rattle.qh_quinn.specs.Told.{TellsOf};
+ghost use Rattle.qh_quinn.specs.Waiting.{IsHeard};
 
 use super::StateInner;
 use crate::waiting::{interest_of, register};
@@ -24,6 +28,7 @@ where
         requires unpolled { IsPolled call → ⊥ }
         requires no_turn { IsDrive call → ⊥ }
         ensures acted { Acts call result self.old self.new }
+        ensures calls { CallsOf call result self.old self.new }
         ensures ready { IfOk result (λ r. r ≡ reply.Pending → ⊥) }
         ensures fits { IfOk result (λ r. MayReply call r) }
         ensures free { IsFree call → IsOk result }
@@ -44,7 +49,9 @@ where
         requires state { IsState self.old }
         requires no_turn { IsDrive call → ⊥ }
         ensures acted { Acts call result self.old self.new }
+        ensures calls { CallsOf call result self.old self.new }
         ensures armed { IfOk result (λ r. r ≡ reply.Pending → IsArmed cx.new) }
+        ensures heard { IfOk result (λ r. r ≡ reply.Pending → (i : AnInterest) → interest_of call ≡ Some i → IsHeard i cx.old cx.new self.new.waiting.items) }
         ensures kept { Keeps cx.old cx.new }
         ensures fits { IfOk result (λ r. MayReply call r) }
         ensures free { IsFree call → IsOk result }
@@ -70,6 +77,7 @@ where
         requires state { IsState self.old }
         requires no_turn { IsDrive call → ⊥ }
         ensures value { Answers call result self.old self.new }
+        ensures calls { CallsOf call result self.old self.new }
         ensures waiting { IfOk result (λ r. r ≡ reply.Pending → self.new.waiting ≡ self.old.waiting) }
         ensures fits { IsTelling call → IfOk result (λ r. MayReply call r) }
         ensures free { IsFree call → IsOk result }
@@ -96,6 +104,7 @@ where
         requires no_turn { IsDrive call.now → ⊥ }
         requires lent { IsLent call.now }
         ensures value { Answers call.now result self.old self.new }
+        ensures calls { CallsOf call.now result self.old self.new }
         ensures waiting { IfOk result (λ r. r ≡ reply.Pending → self.new.waiting ≡ self.old.waiting) }
         ensures fits { IsTelling call.now → IfOk result (λ r. MayReply call.now r) }
         ensures free { IsFree call.now → IsOk result }
@@ -129,6 +138,7 @@ where
         requires state { IsState self.old }
         requires of_stream { IsOfStream call.now }
         ensures value { Answers call.now result self.old self.new }
+        ensures calls { CallsOf call.now result self.old self.new }
         ensures waiting { IfOk result (λ r. r ≡ reply.Pending → self.new.waiting ≡ self.old.waiting) }
         ensures free { IsFree call.now → IsOk result }
         ensures rest { KeepsTurns self.old self.new }

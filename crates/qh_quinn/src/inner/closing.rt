@@ -5,6 +5,9 @@ ghost use Rattle.qh_book.specs.Receiving.{with_recv_ended, without_reader};
 ghost use Rattle.qh_book.specs.Sending.{with_send_ended};
 ghost use Rattle.qh_book.specs.declared.call.Call.TheVariants as call;
 ghost use Rattle.qh_quinn.specs.Acting.{Answers, IsAnswered, IsChanged, KeepsTurns, lost_or_pending, recv_handle_ended};
+ghost use Rattle.qh_quinn.specs.Calls.{CallsOf, IsCallOf, IsOnStreams, WakesIfChanged, recv_handle_acts, send_handle_acts};
+ghost use Rattle.qh_conn.specs.Whole.{CarriesOn};
+ghost use Rattle.qh_book.specs.declared.reply.Reply.TheVariants as reply;
 ghost use Rattle.qh_quinn.specs.Readers.{reader_in};
 ghost use Rattle.qh_quinn.specs.States.{IsState, Shows};
 
@@ -47,6 +50,8 @@ impl<S> StateInner<S> {
     pub(crate) fn close(&mut self, now: Moment, error_code: VarInt, reason: Reason)
         requires { IsState self.old }
         ensures changed { IsChanged with_close self.old self.new }
+        ensures calls { IsCallOf {T = Unit {0}} (call.Close now error_code reason) reply.Done self.old self.new }
+        ensures woken { self.new.driver ≡ None }
         ensures rest { KeepsTurns self.old self.new }
     {
         qh_shown::closes_shown::<S>();
@@ -60,6 +65,7 @@ impl<S> StateInner<S> {
     pub(crate) fn clone_handle<T>(&mut self) -> Result<Reply<T>, Memory>
         requires { IsState self.old }
         ensures value { Answers call.CloneHandle result self.old self.new }
+        ensures calls { CallsOf call.CloneHandle result self.old self.new }
         ensures waiting { self.new.waiting ≡ self.old.waiting }
         ensures rest { KeepsTurns self.old self.new }
     {
@@ -74,6 +80,8 @@ impl<S> StateInner<S> {
     pub(crate) fn end_handle(&mut self)
         requires { IsState self.old }
         ensures changed { IsChanged without_handle self.old self.new }
+        ensures calls { IsCallOf {T = Unit {0}} call.EndHandle reply.Done self.old self.new }
+        ensures awake { self.old.driver ≡ None → self.new.driver ≡ None }
         ensures rest { KeepsTurns self.old self.new }
     {
         self.handles = self.handles.saturating_sub(1);
@@ -93,6 +101,7 @@ impl<S> StateInner<S> {
     pub(crate) fn end_send(&mut self, id: StreamId)
         requires { IsState self.old }
         ensures changed { IsChanged (λ b. without_handle (with_send_ended b id.0)) self.old self.new }
+        ensures calls { IsCallOf {T = Unit {0}} (call.EndSend id) reply.Done self.old self.new }
         ensures rest { KeepsTurns self.old self.new }
     {
         self.end_half(id);
@@ -103,6 +112,10 @@ impl<S> StateInner<S> {
     fn end_half(&mut self, id: StreamId)
         requires { IsState self.old }
         ensures changed { IsChanged (λ b. with_send_ended b id.0) self.old self.new }
+        ensures carries { (b : Book) → Shows self.old b → CarriesOn self.old.connection self.new.connection (send_handle_acts b id.0) }
+        ensures streams { IsOnStreams self.old.connection self.new.connection }
+        ensures wakes { WakesIfChanged self.old self.new }
+        ensures counts { (self.new.handles ≡ self.old.handles) × (self.new.error ≡ self.old.error) }
         ensures rest { KeepsTurns self.old self.new }
     {
         qh_book::ends_shown::<u8>();
@@ -133,6 +146,7 @@ impl<S> StateInner<S> {
     pub(crate) fn end_recv(&mut self, id: StreamId)
         requires { IsState self.old }
         ensures changed { IsChanged (recv_handle_ended id.0) self.old self.new }
+        ensures calls { IsCallOf {T = Unit {0}} (call.EndRecv id) reply.Done self.old self.new }
         ensures rest { KeepsTurns self.old self.new }
     {
         let Some(reader) = self.readers.get(id.0) else {
@@ -148,6 +162,10 @@ impl<S> StateInner<S> {
         requires state { IsState self.old }
         requires there { reader_in self.old.readers id.0 ≡ Some reader }
         ensures changed { IsChanged (λ b. with_recv_ended b id.0) self.old self.new }
+        ensures carries { (b : Book) → Shows self.old b → CarriesOn self.old.connection self.new.connection (recv_handle_acts b id.0) }
+        ensures streams { IsOnStreams self.old.connection self.new.connection }
+        ensures wakes { WakesIfChanged self.old self.new }
+        ensures counts { (self.new.handles ≡ self.old.handles) × (self.new.error ≡ self.old.error) }
         ensures rest { KeepsTurns self.old self.new }
     {
         qh_book::ends_shown::<u8>();
@@ -167,7 +185,7 @@ impl<S> StateInner<S> {
     fn end_reader(&mut self, id: StreamId)
         requires { IsState self.old }
         ensures changed { IsChanged (without_reader id.0) self.old self.new }
-        ensures rest { KeepsTurns self.old self.new }
+        ensures same { self.new ≡ record self.old { readers = self.new.readers } }
     {
         self.readers.release(id.0);
     }

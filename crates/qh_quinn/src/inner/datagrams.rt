@@ -1,6 +1,7 @@
 ghost use Rattle.std.specs.Prelude.{◌≡◌};
 ghost use Rattle.qh_book.specs.declared.call.Call.TheVariants as call;
 ghost use Rattle.qh_quinn.specs.Acting.{Answers, IsAnswered, KeepsTurns};
+ghost use Rattle.qh_quinn.specs.Calls.{CallsOf, IsCallOf};
 ghost use Rattle.qh_quinn.specs.States.{IsState};
 
 use super::StateInner;
@@ -14,6 +15,7 @@ impl<S> StateInner<S> {
     pub(crate) fn read_datagram<T>(&mut self) -> Reply<T>
         requires { IsState self.old }
         ensures value { IsAnswered call.ReadDatagram result self.old self.new }
+        ensures calls { IsCallOf call.ReadDatagram result self.old self.new }
         ensures waiting { self.new.waiting ≡ self.old.waiting }
         ensures rest { KeepsTurns self.old self.new }
     {
@@ -35,6 +37,7 @@ impl<S> StateInner<S> {
     ) -> Result<Reply<T>, Memory>
         requires { IsState self.old }
         ensures value { Answers (call.SendDatagram payload wait) result self.old self.new }
+        ensures calls { CallsOf (call.SendDatagram payload wait) result self.old self.new }
         ensures waiting { self.new.waiting ≡ self.old.waiting }
         ensures rest { KeepsTurns self.old self.new }
     {

@@ -2,6 +2,7 @@ ghost use Rattle.std.specs.Prelude.{◌≡◌, ◌+◌, ℕ, false, Some, IfSome
 ghost use Rattle.qh_book.specs.declared.call.Call.TheVariants as call;
 ghost use Rattle.qh_book.specs.Opening.{handles_of, held_by_opener};
 ghost use Rattle.qh_quinn.specs.Acting.{Answers, IsAnswered, KeepsTurns};
+ghost use Rattle.qh_quinn.specs.Calls.{CallsOf};
 ghost use Rattle.qh_quinn.specs.Readers.{HasRoom, new_reader, reader_in};
 ghost use Rattle.qh_quinn.specs.States.{IsState};
 
@@ -26,6 +27,7 @@ impl<S> StateInner<S> {
     pub(crate) fn open<T>(&mut self, dir: Dir) -> Result<Reply<T>, Memory>
         requires { IsState self.old }
         ensures value { Answers (call.Open dir) result self.old self.new }
+        ensures calls { CallsOf (call.Open dir) result self.old self.new }
         ensures waiting { self.new.waiting ≡ self.old.waiting }
         ensures rest { KeepsTurns self.old self.new }
     {
@@ -49,6 +51,7 @@ impl<S> StateInner<S> {
     pub(crate) fn accept<T>(&mut self, dir: Dir) -> Result<Reply<T>, Memory>
         requires { IsState self.old }
         ensures value { Answers (call.Accept dir) result self.old self.new }
+        ensures calls { CallsOf (call.Accept dir) result self.old self.new }
         ensures waiting { self.new.waiting ≡ self.old.waiting }
         ensures rest { KeepsTurns self.old self.new }
     {

@@ -3,6 +3,7 @@ ghost use Rattle.qh_book.specs.declared.call.Call.TheVariants as call;
 ghost use Rattle.qh_book.specs.declared.reply.Reply.TheVariants as reply;
 ghost use Rattle.qh_half.specs.declared.fault.ReadFault.TheVariants as read_faults;
 ghost use Rattle.qh_quinn.specs.Acting.{Answers, IsAnswered, KeepsTurns, lost_or_pending};
+ghost use Rattle.qh_quinn.specs.Calls.{CallsOf, IsCallOf, WakesIfChanged};
 ghost use Rattle.qh_quinn.specs.Readers.{code_of, reader_in, with_reader};
 ghost use Rattle.qh_quinn.specs.States.{IsState};
 ghost use Rattle.qh_shown.specs.Connections.{is_wanting};
@@ -33,6 +34,7 @@ impl<S> StateInner<S> {
     ) -> Result<Reply<T>, Memory>
         requires { IsState self.old }
         ensures value { Answers (call.Read id max_length is_ordered) result self.old self.new }
+        ensures calls { CallsOf (call.Read id max_length is_ordered) result self.old self.new }
         ensures waiting { self.new.waiting ≡ self.old.waiting }
         ensures rest { KeepsTurns self.old self.new }
     {
@@ -62,6 +64,7 @@ impl<S> StateInner<S> {
         requires there { reader_in self.old.readers id.0 ≡ Some reader }
         requires opened { reader.is_open ≡ true }
         ensures value { Answers (call.Read id max_length is_ordered) result self.old self.new }
+        ensures calls { CallsOf (call.Read id max_length is_ordered) result self.old self.new }
         ensures waiting { self.new.waiting ≡ self.old.waiting }
         ensures rest { KeepsTurns self.old self.new }
     {
@@ -155,6 +158,7 @@ impl<S> StateInner<S> {
         requires there { reader_in self.old.readers id.0 ≡ Some reader }
         requires opened { reader.is_open ≡ true }
         ensures value { IsAnswered (call.Read id max_length is_ordered) result self.old self.new }
+        ensures calls { IsCallOf (call.Read id max_length is_ordered) result self.old self.new }
         ensures waiting { self.new.waiting ≡ self.old.waiting }
         ensures rest { KeepsTurns self.old self.new }
     {
@@ -176,6 +180,7 @@ impl<S> StateInner<S> {
     pub(crate) fn stop<T>(&mut self, id: StreamId, code: VarInt) -> Reply<T>
         requires { IsState self.old }
         ensures value { IsAnswered (call.Stop id code) result self.old self.new }
+        ensures calls { IsCallOf (call.Stop id code) result self.old self.new }
         ensures waiting { self.new.waiting ≡ self.old.waiting }
         ensures rest { KeepsTurns self.old self.new }
     {
@@ -196,6 +201,9 @@ impl<S> StateInner<S> {
         requires there { reader_in self.old.readers id.0 ≡ Some reader }
         requires opened { reader.is_open ≡ true }
         ensures value { IsAnswered {T = T} (call.Stop id code) reply.Done self.old self.new }
+        ensures calls { IsCallOf {T = T} (call.Stop id code) reply.Done self.old self.new }
+        ensures wakes { WakesIfChanged self.old self.new }
+        ensures counts { (self.new.handles ≡ self.old.handles) × (self.new.error ≡ self.old.error) }
         ensures waiting { self.new.waiting ≡ self.old.waiting }
         ensures rest { KeepsTurns self.old self.new }
     {
@@ -232,6 +240,7 @@ impl<S> StateInner<S> {
     pub(crate) fn received_reset<T>(&mut self, id: StreamId) -> Reply<T>
         requires { IsState self.old }
         ensures value { IsAnswered (call.ReceivedReset id) result self.old self.new }
+        ensures calls { IsCallOf (call.ReceivedReset id) result self.old self.new }
         ensures waiting { self.new.waiting ≡ self.old.waiting }
         ensures rest { KeepsTurns self.old self.new }
     {
@@ -258,6 +267,7 @@ impl<S> StateInner<S> {
         requires there { reader_in self.old.readers id.0 ≡ Some reader }
         requires known { code_of (is_wanting self.old.connection) reader ≡ Some code }
         ensures value { IsAnswered (call.ReceivedReset id) result self.old self.new }
+        ensures calls { IsCallOf (call.ReceivedReset id) result self.old self.new }
         ensures waiting { self.new.waiting ≡ self.old.waiting }
         ensures rest { KeepsTurns self.old self.new }
     {
@@ -278,6 +288,7 @@ impl<S> StateInner<S> {
         requires there { reader_in self.old.readers id.0 ≡ Some reader }
         requires opened { reader.is_open ≡ true }
         ensures value { IsAnswered (call.ReceivedReset id) result self.old self.new }
+        ensures calls { IsCallOf (call.ReceivedReset id) result self.old self.new }
         ensures waiting { self.new.waiting ≡ self.old.waiting }
         ensures rest { KeepsTurns self.old self.new }
     {

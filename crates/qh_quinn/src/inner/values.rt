@@ -1,10 +1,14 @@
-ghost use Rattle.std.specs.Prelude.{◌≡◌, ◌-◌, true, false};
+ghost use Rattle.std.specs.Prelude.{◌≡◌, ◌-◌, [], true, false, None};
 ghost use Rattle.qh_book.specs.Values.{with_setting};
 ghost use Rattle.qh_book.specs.declared.call.Call.TheVariants as call;
 ghost use Rattle.qh_book.specs.declared.call.Setting.TheVariants as setting;
 ghost use Rattle.qh_datagrams.specs.Datagrams.{bytes_of};
 ghost use Rattle.qh_handles.specs.Told.{MayReply};
 ghost use Rattle.qh_quinn.specs.Acting.{IsAnswered, IsChanged, KeepsTurns};
+ghost use Rattle.qh_quinn.specs.Calls.{IsCallOf, IsLimitSet};
+ghost use Rattle.qh_conn.specs.Greeting.{early_concurrent, with_concurrent};
+ghost use Rattle.qh_conn.specs.Whole.{CarriesOn};
+ghost use Rattle.qh_book.specs.declared.reply.Reply.TheVariants as reply;
 ghost use Rattle.qh_quinn.specs.States.{IsState};
 ghost use Rattle.qh_quinn.specs.Told.{TellsOf};
 ghost use Rattle.qh_shown.specs.Connections.{is_wanting};
@@ -82,6 +86,7 @@ impl<S> StateInner<S> {
     pub(crate) fn set(&mut self, setting: Setting)
         requires { IsState self.old }
         ensures changed { IsChanged (with_setting setting) self.old self.new }
+        ensures calls { IsCallOf {T = Unit {0}} (call.Set setting) reply.Done self.old self.new }
         ensures rest { KeepsTurns self.old self.new }
     {
         match setting {
@@ -96,6 +101,9 @@ impl<S> StateInner<S> {
     fn set_streams(&mut self, dir: Dir, count: VarInt)
         requires { IsState self.old }
         ensures changed { IsChanged (λ b. b) self.old self.new }
+        ensures called { IsLimitSet (with_concurrent dir count self.old.connection.core.space.streams) (early_concurrent dir count self.old.connection.early) self.old.connection self.new.connection }
+        ensures carries { CarriesOn self.old.connection self.new.connection [] }
+        ensures woken { self.new.driver ≡ None }
         ensures rest { KeepsTurns self.old self.new }
     {
         qh_book::first_shown();
@@ -107,6 +115,7 @@ impl<S> StateInner<S> {
     fn set_send_window(&mut self, bytes: u64)
         requires { IsState self.old }
         ensures changed { IsChanged (with_setting (setting.SendWindow bytes)) self.old self.new }
+        ensures calls { IsCallOf {T = Unit {0}} (call.Set (setting.SendWindow bytes)) reply.Done self.old self.new }
         ensures rest { KeepsTurns self.old self.new }
     {
         qh_book::first_shown();
@@ -118,6 +127,7 @@ impl<S> StateInner<S> {
     fn set_receive_window(&mut self, bytes: VarInt)
         requires { IsState self.old }
         ensures changed { IsChanged (λ b. b) self.old self.new }
+        ensures calls { IsCallOf {T = Unit {0}} (call.Set (setting.ReceiveWindow bytes)) reply.Done self.old self.new }
         ensures rest { KeepsTurns self.old self.new }
     {
         qh_book::first_shown();

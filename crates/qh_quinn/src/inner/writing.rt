@@ -3,6 +3,7 @@ ghost use Rattle.qh_book.specs.Shown.{write_reply};
 ghost use Rattle.qh_book.specs.declared.call.Call.TheVariants as call;
 ghost use Rattle.qh_half.specs.declared.fault.WriteFault.TheVariants as write_faults;
 ghost use Rattle.qh_quinn.specs.Acting.{Answers, IsAnswered, KeepsTurns};
+ghost use Rattle.qh_quinn.specs.Calls.{CallsOf, IsCallOf, WakesIfChanged};
 ghost use Rattle.qh_quinn.specs.States.{IsState};
 
 use super::StateInner;
@@ -15,6 +16,7 @@ impl<S> StateInner<S> {
     pub(crate) fn write<T>(&mut self, id: StreamId, payload: &[u8]) -> Result<Reply<T>, Memory>
         requires { IsState self.old }
         ensures value { Answers (call.Write id payload.now) result self.old self.new }
+        ensures calls { CallsOf (call.Write id payload.now) result self.old self.new }
         ensures waiting { self.new.waiting ≡ self.old.waiting }
         ensures rest { KeepsTurns self.old self.new }
     {
@@ -37,6 +39,9 @@ impl<S> StateInner<S> {
     pub(crate) fn finish<T>(&mut self, id: StreamId) -> Reply<T>
         requires { IsState self.old }
         ensures value { IsAnswered (call.Finish id) result self.old self.new }
+        ensures calls { IsCallOf (call.Finish id) result self.old self.new }
+        ensures wakes { WakesIfChanged self.old self.new }
+        ensures counts { (self.new.handles ≡ self.old.handles) × (self.new.error ≡ self.old.error) }
         ensures waiting { self.new.waiting ≡ self.old.waiting }
         ensures rest { KeepsTurns self.old self.new }
     {
@@ -59,6 +64,9 @@ impl<S> StateInner<S> {
     pub(crate) fn reset<T>(&mut self, id: StreamId, code: VarInt) -> Reply<T>
         requires { IsState self.old }
         ensures value { IsAnswered (call.Reset id code) result self.old self.new }
+        ensures calls { IsCallOf (call.Reset id code) result self.old self.new }
+        ensures wakes { WakesIfChanged self.old self.new }
+        ensures counts { (self.new.handles ≡ self.old.handles) × (self.new.error ≡ self.old.error) }
         ensures waiting { self.new.waiting ≡ self.old.waiting }
         ensures rest { KeepsTurns self.old self.new }
     {
@@ -96,6 +104,7 @@ impl<S> StateInner<S> {
     pub(crate) fn set_priority<T>(&mut self, id: StreamId, priority: i32) -> Reply<T>
         requires { IsState self.old }
         ensures value { IsAnswered (call.SetPriority id priority) result self.old self.new }
+        ensures calls { IsCallOf (call.SetPriority id priority) result self.old self.new }
         ensures waiting { self.new.waiting ≡ self.old.waiting }
         ensures rest { KeepsTurns self.old self.new }
     {

@@ -1,4 +1,5 @@
 ghost use Rattle.std.specs.Prelude.{◌≡◌, ◌⊎◌, ◌||◌, take, min, length, true, false, Ok, Err, OnOk, OnErr, IfOk, IfErr, IfSome, MatchResult, None, Some, IsSome};
+ghost use Rattle.qh_buffers.specs.Assembler.{read_to, was_given};
 ghost use Rattle.std.specs.List.{concat};
 ghost use Rattle.qh_half.specs.declared.fault.ReadFault.TheVariants.{Memory as Lacking};
 ghost use Rattle.qh_half.specs.declared.fault.WriteFault.TheVariants.{Blocked, Memory as Wanting};
@@ -202,6 +203,13 @@ impl Streams {
         ensures no { result ≡ false → IsReadBlockedAt self.now.recv id.0 ordered → ⊥ }
     {
         self.recv.is_blocked(id.0, ordered)
+    }
+
+    /// Of a half the offset behind those that reads gave without a gap wasn't given. It does nothing: its contract says so.
+    pub fn reads_on(&self, id: StreamId)
+        ensures { IfSome (recv_at self.now.recv id.0) (λ r. was_given r.assembler (read_to r.assembler) ≡ false) }
+    {
+        self.recv.reads_on(id.0);
     }
 
     /// Whether whoever waits for the peer's reset of a stream waits still: none came, and reads aren't refused.

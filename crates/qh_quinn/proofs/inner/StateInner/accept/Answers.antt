@@ -8,6 +8,8 @@ use Rattle.qh_quinn.specs.Acting.{IsAnswered}
 use Rattle.qh_quinn.specs.Readers.{new_reader}
 use Rattle.qh_quinn.specs.declared.readers.Reader.{Reader}
 use Rattle.qh_streams.specs.Streams.{counts_of, is_two_way, with_accepted, with_counts}
+use Rattle.qh_quinn.proofs.CallParts.{quiet}
+use Rattle.qh_book.specs.declared.reply.Reply.TheVariants as reply
 use Rattle.qh_quinn.proofs.inner.StateInner.accept.Goals as goal
 
 pub returns-in_err-reserve-clause-value : goal.returns-in_err-reserve-clause-value
@@ -38,3 +40,12 @@ returns-clause-value g c =
     accepts s new dir id c.requires (sym c.is_emptied.ensures ∙ c.if-is_emptied.false) e.greeted (moved s new on.0 refl) e.whole c.in-Some.ensures
     (λ k. c.hold.ensures k ∙ ap (λ (o : Option Reader). if k == id.0 then Some new_reader else o) (c.reserve.ensures.same k))
     (λ notes b shown held. c.opens_shown.ensures.accepted streams to.core.space.streams notes b id dir held on.1 e.some.0 e.some.1)
+
+pub returns-clause-calls : goal.returns-clause-calls
+returns-clause-calls g c =
+    let s = c.args.self.now in
+    let to = c.accept.new.self in
+    let e = c.in-Some-accept.ensures in
+    let streams = s.connection.core.space.streams in
+    let on = on_streams s.connection to (with_counts streams (is_two_way c.args.dir) (with_accepted (counts_of streams (is_two_way c.args.dir)))) e.some.2 e.rest in
+    quiet (call.Accept c.args.dir) (reply.Opened c.in-Some-accept.id) s (record s { connection = to; handles = c.in-Some.handles; readers = c.hold.new.self }) e.stands (λ b. refl) (λ sends. sends) on.0

@@ -1,6 +1,8 @@
 use Rattle.std.proofs.Common.{sym, ◌∙◌}
 use Rattle.qh_quinn.proofs.HalfEnds.{ends_by_finish, ends_by_reset, lost_ends}
 use Rattle.qh_quinn.proofs.Moving.{none_at}
+use Rattle.qh_quinn.proofs.CallCloses.{finish_carries, lost_carries, reset_carries}
+use Rattle.qh_quinn.proofs.CallParts.{nothing_more}
 use Rattle.qh_quinn.proofs.inner.StateInner.end_half.Goals as goal
 
 pub stop_code-requires-clause-unlost : goal.stop_code-requires-clause-unlost
@@ -20,3 +22,18 @@ returns-clause-changed g c =
     let s = c.args.self.now in
     ends_by_reset c.ends_shown.ensures.reset c.ends_shown.ensures.nothing s c.reset.new.self c.args.id c.in-Some.code c.reset.result (none_at s.error (sym c.is_some.ensures ∙ c.if-is_some.false))
     (λ b shown p live. c.stop_code.ensures b shown p live ∙ c.in-Some.is) c.reset.ensures.value
+
+pub returns-then-is_some-clause-carries : goal.returns-then-is_some-clause-carries
+returns-then-is_some-clause-carries g c = λ b shown.
+    let s = c.args.self.now in
+    lost_carries s c.args.id (sym c.is_some.ensures ∙ c.if-is_some.true) b shown (nothing_more s.connection s.connection (λ accepts sealed hello t before. before))
+
+pub returns-in_default-clause-carries : goal.returns-in_default-clause-carries
+returns-in_default-clause-carries g c =
+    let s = c.args.self.now in
+    finish_carries s c.finish.new.self c.args.id c.finish.result (none_at s.error (sym c.is_some.ensures ∙ c.if-is_some.false)) (λ b shown p live. c.stop_code.ensures b shown p live ∙ c.in_default.is) c.finish.ensures.value c.finish.ensures.calls
+
+pub returns-clause-carries : goal.returns-clause-carries
+returns-clause-carries g c =
+    let s = c.args.self.now in
+    reset_carries s c.reset.new.self c.args.id c.in-Some.code c.reset.result (none_at s.error (sym c.is_some.ensures ∙ c.if-is_some.false)) (λ b shown p live. c.stop_code.ensures b shown p live ∙ c.in-Some.is) c.reset.ensures.value c.reset.ensures.calls

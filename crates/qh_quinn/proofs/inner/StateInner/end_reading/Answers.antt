@@ -1,4 +1,6 @@
-use Rattle.std.proofs.Common.{sym, ◌∙◌}
+use Rattle.std.proofs.Common.{[], inl, refl, sym, ◌∙◌}
+use Rattle.qh_quinn.proofs.CallReads.{carries_as, carries_same}
+use Rattle.qh_quinn.proofs.CallRecvEnds.{end_stays, end_stops}
 use Rattle.qh_quinn.proofs.RecvEnds.{opened_by, recv_stays, recv_stops}
 use Rattle.qh_quinn.proofs.inner.StateInner.end_reading.Goals as goal
 
@@ -16,3 +18,33 @@ pub returns-else-is_stopped_by_end-clause-changed : goal.returns-else-is_stopped
 returns-else-is_stopped_by_end-clause-changed g c =
     let a = c.args in
     recv_stays c.ends_shown.ensures.stays a.self.now a.id.0 a.reader c.requires.state c.requires.there (sym c.is_stopped_by_end.ensures ∙ c.if-is_stopped_by_end.false)
+
+pub returns-then-is_stopped_by_end-clause-carries : goal.returns-then-is_stopped_by_end-clause-carries
+returns-then-is_stopped_by_end-clause-carries g c = λ b shown.
+    let a = c.args in
+    carries_as a.self.now.connection c.stop_open.new.self.connection _ _ (end_stops a.self.now a.id.0 a.reader c.requires.state c.requires.there c.from_u32.result c.from_u32.ensures (sym c.is_stopped_by_end.ensures ∙ c.if-is_stopped_by_end.true) b shown)
+    (c.stop_open.ensures.calls.carries b shown)
+
+pub returns-else-is_stopped_by_end-clause-carries : goal.returns-else-is_stopped_by_end-clause-carries
+returns-else-is_stopped_by_end-clause-carries g c = λ b shown.
+    let s = c.args.self.now in
+    let a = c.args in
+    carries_as s.connection s.connection [] _ (end_stays s a.id.0 a.reader c.requires.state c.requires.there (sym c.is_stopped_by_end.ensures ∙ c.if-is_stopped_by_end.false) b shown) (carries_same s.connection s.connection refl)
+
+pub returns-then-is_stopped_by_end-clause-streams : goal.returns-then-is_stopped_by_end-clause-streams
+returns-then-is_stopped_by_end-clause-streams g c = c.stop_open.ensures.calls.called
+
+pub returns-else-is_stopped_by_end-clause-streams : goal.returns-else-is_stopped_by_end-clause-streams
+returns-else-is_stopped_by_end-clause-streams g c = refl
+
+pub returns-then-is_stopped_by_end-clause-wakes : goal.returns-then-is_stopped_by_end-clause-wakes
+returns-then-is_stopped_by_end-clause-wakes g c = c.stop_open.ensures.wakes
+
+pub returns-else-is_stopped_by_end-clause-wakes : goal.returns-else-is_stopped_by_end-clause-wakes
+returns-else-is_stopped_by_end-clause-wakes g c = inl refl
+
+pub returns-then-is_stopped_by_end-clause-counts : goal.returns-then-is_stopped_by_end-clause-counts
+returns-then-is_stopped_by_end-clause-counts g c = c.stop_open.ensures.counts
+
+pub returns-else-is_stopped_by_end-clause-counts : goal.returns-else-is_stopped_by_end-clause-counts
+returns-else-is_stopped_by_end-clause-counts g c = (refl, refl)

@@ -20,8 +20,7 @@ returns g c =
     } in
     record {
       state = first_state law c.args.connection c.args.stable_id s c.requires.begun c.requires.logging around e.whole e.due c.is_owed.ensures.open c.is_owed.ensures.closed;
-      items = c.requires.begun.items;
-      shows = first_is law c.args.connection c.args.stable_id s c.requires.begun around;
+      shows = λ begun. first_is law c.args.connection c.args.stable_id s begun around;
       told = e.told;
       events = ap (λ (z : StateInner _). z.events.items) e.rest ∙ c.new-3.ensures.items;
       outgoing = ap (λ (z : StateInner _). z.outgoing) e.rest;

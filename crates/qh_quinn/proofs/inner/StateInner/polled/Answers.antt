@@ -1,6 +1,10 @@
-use Rattle.std.proofs.Common.{refl, sym, Ok}
+use Rattle.std.proofs.Common.{refl, sym, subst, ◌∙◌, Ok}
+use Rattle.std.proofs.lemmas.Option.{same_Some}
+use Rattle.qh_book.specs.declared.interest.Interest.{Interest}
 use Rattle.qh_book.specs.declared.reply.Reply.TheVariants as reply
 use Rattle.qh_quinn.proofs.Acts.{answered_from, fits, never_armed, pending_acts, plain_acts, plain_ready, replied, roomy}
+use Rattle.qh_quinn.proofs.CallActs.{call_beside, calls_beside}
+use Rattle.qh_quinn.specs.Waiting.{IsHeard}
 use Rattle.qh_quinn.proofs.inner.StateInner.polled.Goals as goal
 
 pub returns-in_default-clause-acted : goal.returns-in_default-clause-acted
@@ -9,6 +13,10 @@ returns-in_default-clause-acted g c =
 
 pub returns-in_default-clause-armed : goal.returns-in_default-clause-armed
 returns-in_default-clause-armed g c =
+    never_armed c.answered.result _ (plain_ready c.pending_registers.ensures.registers c.args.call c.answered.result c.args.self.now c.answered.new.self (sym c.in_default.ensures) c.requires.state c.answered.ensures.value)
+
+pub returns-in_default-clause-heard : goal.returns-in_default-clause-heard
+returns-in_default-clause-heard g c =
     never_armed c.answered.result _ (plain_ready c.pending_registers.ensures.registers c.args.call c.answered.result c.args.self.now c.answered.new.self (sym c.in_default.ensures) c.requires.state c.answered.ensures.value)
 
 pub returns-in_default-clause-fits : goal.returns-in_default-clause-fits
@@ -24,6 +32,17 @@ returns-in-Pending-clause-acted g c =
     (record { connection = refl; is_connected = refl; readers = refl; stable_id = refl; error = refl; handles = refl; waits = c.register.ensures.interests })
     (answered_from s (record s { waiting = c.reserve.new.self }) mid c.args.call (Ok reply.Pending) (roomy s (record s { waiting = c.reserve.new.self }) refl c.reserve.ensures.items) r)
 
+pub returns-in-Pending-clause-calls : goal.returns-in-Pending-clause-calls
+returns-in-Pending-clause-calls g c =
+    let s = c.args.self.now in
+    let room = record s { waiting = c.reserve.new.self } in
+    let mid = c.answered-2.new.self in
+    call_beside c.args.call reply.Pending s room mid (record mid { waiting = c.register.new.waiting }) (roomy s room refl c.reserve.ensures.items) (rw c.in-Pending.is at c.in_ok-reply.ensures.calls)
+
+pub returns-in-Pending-clause-heard : goal.returns-in-Pending-clause-heard
+returns-in-Pending-clause-heard g c = λ is i of.
+    subst (λ (j : Interest). IsHeard j c.args.cx.now c.register.new.cx c.register.new.waiting.items) (same_Some c.in-Some.interest i (c.in-Some.ensures ∙ of)) c.register.ensures.heard
+
 pub returns : goal.returns
 returns g c =
     let s = c.args.self.now in
@@ -35,7 +54,9 @@ returns g c =
     let answered = answered_from s room mid c.args.call (Ok r) (roomy s room refl c.reserve.ensures.items) e.value in
     record {
       acted = replied c.args.call r s mid isnt answered;
+      calls = calls_beside c.args.call (Ok r) s room mid (roomy s room refl c.reserve.ensures.items) e.calls;
       armed = λ is. absurd (isnt is);
+      heard = λ is. absurd (isnt is);
       kept = λ fact held. held;
       fits = fits c.replies_fit.ensures c.args.call (Ok r) s mid c.requires.no_turn c.requires.state e.fits answered;
       free = λ free. refl;

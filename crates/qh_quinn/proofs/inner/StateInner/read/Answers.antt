@@ -1,6 +1,7 @@
-use Rattle.std.proofs.Common.{sym}
+use Rattle.std.proofs.Common.{◌==◌, refl, sym}
 use Rattle.qh_book.specs.declared.call.Call.TheVariants as call
 use Rattle.qh_book.specs.declared.reply.Reply.TheVariants as reply
+use Rattle.qh_quinn.proofs.CallReads.{called_none, ended_shut, read_none}
 use Rattle.qh_quinn.proofs.ShutReads.{off, read_shut, unheld}
 use Rattle.qh_quinn.proofs.inner.StateInner.read.Goals as goal
 
@@ -15,3 +16,15 @@ returns-then-not-reader-clause-value g c =
     let a = c.args in
     read_shut a.id a.max_length a.is_ordered c.read_shut.result s c.in-Some.reader c.requires (sym c.in-Some.ensures) (off _ c.if-not-reader.true)
     (λ b p held page shut some. c.emptied_shown.ensures.shut_read b a.id a.max_length a.is_ordered p held page shut some) (λ b p held page shut. c.emptied_shown.ensures.shut_nothing b a.id a.is_ordered p 0 held page shut) c.read_shut.ensures
+
+pub returns-in_default-clause-calls : goal.returns-in_default-clause-calls
+returns-in_default-clause-calls g c =
+    let a = c.args in
+    called_none {T = g.row.T.Denot} (call.Read a.id a.max_length a.is_ordered) reply.ClosedStream a.self.now a.self.now (λ h. h) refl (λ b shown. refl)
+
+pub returns-then-not-reader-clause-calls : goal.returns-then-not-reader-clause-calls
+returns-then-not-reader-clause-calls g c =
+    let s = c.args.self.now in
+    let a = c.args in
+    read_none {T = g.row.T.Denot} a.id a.max_length a.is_ordered c.read_shut.result reply.Ended (a.max_length == 0) s s c.read_shut.ensures refl
+    (λ b shown. ended_shut s a.id.0 c.in-Some.reader (sym c.in-Some.ensures) (off _ c.if-not-reader.true) b shown)

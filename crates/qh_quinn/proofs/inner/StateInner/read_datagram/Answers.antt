@@ -4,6 +4,7 @@ use Rattle.qh_book.specs.declared.reply.Reply.TheVariants as reply
 use Rattle.qh_quinn.proofs.DatagramCalls.{datagram_answers}
 use Rattle.qh_quinn.proofs.StatesKept.{rest_self}
 use Rattle.qh_shown.specs.Connections.{bounds_of}
+use Rattle.qh_quinn.proofs.CallParts.{quiet}
 use Rattle.qh_quinn.proofs.inner.StateInner.read_datagram.Goals as goal
 
 pub returns-in-Some-clause-value : goal.returns-in-Some-clause-value
@@ -13,3 +14,9 @@ returns-in-Some-clause-value g c =
     datagram_answers s _ call.ReadDatagram (reply.Datagram c.in-Some.payload) (record s.connection.control.datagrams { incoming = c.recv_datagram.new.self.control.datagrams.incoming }) c.requires e.whole (rest_self s)
     (sym c.is_emptied.ensures ∙ c.if-is_emptied.false) e.rest
     (λ b shown error. c.datagrams_shown.ensures.read s.connection.control.datagrams (record s.connection.control.datagrams { incoming = c.recv_datagram.new.self.control.datagrams.incoming }) (bounds_of s.connection.control) b c.in-Some.payload shown c.in-Some.ensures.some refl)
+
+pub returns-in-Some-clause-calls : goal.returns-in-Some-clause-calls
+returns-in-Some-clause-calls g c =
+    let s = c.args.self.now in
+    let e = c.recv_datagram.ensures in
+    quiet call.ReadDatagram (reply.Datagram c.in-Some.payload) s (record s { connection = c.recv_datagram.new.self }) e.stands (λ b. refl) (λ sends. sends) e.rest

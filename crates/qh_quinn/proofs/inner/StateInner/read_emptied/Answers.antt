@@ -1,19 +1,20 @@
-use Rattle.std.proofs.Common.{ℕ, sym, ap, ◌∙◌, subst, Bool, ◌&&◌, true, [], Option}
+use Rattle.std.proofs.Common.{ℕ, refl, sym, ap, ◌∙◌, subst, Bool, ◌&&◌, true, [], Option}
 use Rattle.qh_base.specs.declared.connection_error.ConnectionError.{ConnectionError}
 use Rattle.qh_book.specs.Book.{with_recv}
-use Rattle.qh_book.specs.Receiving.{in_mode}
-use Rattle.qh_book.specs.Step.{Allows}
 use Rattle.qh_book.specs.declared.call.Call.TheVariants as call
 use Rattle.qh_book.specs.declared.reply.Reply.{Reply}
 use Rattle.qh_book.specs.declared.reply.Reply.TheVariants as reply
+use Rattle.qh_book.specs.Receiving.{in_mode}
+use Rattle.qh_book.specs.Step.{Allows}
+use Rattle.qh_quinn.proofs.CallReads.{called_none, carries_same, connection_kept, read_none, read_quiet}
 use Rattle.qh_quinn.proofs.LostReads.{dry, kept_then, lost_illegal, lost_nothing, lost_read}
 use Rattle.qh_quinn.proofs.ReadCalls.{above}
 use Rattle.qh_quinn.proofs.ReadSteps.{begun}
 use Rattle.qh_quinn.proofs.Recvs.{open_page, takes_lost}
+use Rattle.qh_quinn.proofs.inner.StateInner.read_emptied.Goals as goal
 use Rattle.qh_quinn.specs.Acting.{IsAnswered, lost_or_pending}
 use Rattle.qh_quinn.specs.declared.inner.StateInner.{StateInner}
 use Rattle.qh_quinn.specs.declared.readers.Reader.{Reader}
-use Rattle.qh_quinn.proofs.inner.StateInner.read_emptied.Goals as goal
 
 pub returns-then-max_length-eq0-clause-value : goal.returns-then-max_length-eq0-clause-value
 returns-then-max_length-eq0-clause-value g c =
@@ -53,3 +54,22 @@ returns-clause-value g c =
     lost_read b a.id.0 a.reader notes h e (call.Read a.id a.max_length a.is_ordered) (reply.ConnectionLost kept.0) a.is_ordered c.requires.opened
     (c.emptied_shown.ensures.read_lost b a.id a.max_length a.is_ordered h.p kept.0 h.held (open_page _ h.p h.page_is (h.opened ∙ c.requires.opened)) d.0.reset_code d.0.end d.0.unread (shown.error ∙ kept.1) (above a.max_length c.if-max_length-eq0.false)
     (ap (λ (x : Bool). a.is_ordered && x) h.unordered ∙ sym c.is_out_of_order.ensures ∙ c.if-is_out_of_order.false))))
+
+pub returns-then-max_length-eq0-clause-calls : goal.returns-then-max_length-eq0-clause-calls
+returns-then-max_length-eq0-clause-calls g c =
+    let s = c.args.self.now in
+    let a = c.args in
+    read_none {T = g.row.T.Denot} a.id a.max_length a.is_ordered c.no_bytes.result reply.IllegalOrderedRead true s c.keep.new.self c.no_bytes.ensures (connection_kept s c.keep.new.self s.connection c.keep.new.self.readers c.keep.ensures.rest) (λ b shown. refl)
+
+pub returns-then-is_out_of_order-clause-calls : goal.returns-then-is_out_of_order-clause-calls
+returns-then-is_out_of_order-clause-calls g c =
+    let s = c.args.self.now in
+    let a = c.args in
+    called_none {T = g.row.T.Denot} (call.Read a.id a.max_length a.is_ordered) reply.IllegalOrderedRead s c.keep-then-is_out_of_order.new.self (λ h. h) (connection_kept s c.keep-then-is_out_of_order.new.self s.connection c.keep-then-is_out_of_order.new.self.readers c.keep-then-is_out_of_order.ensures.rest) (λ b shown. refl)
+
+pub returns-clause-calls : goal.returns-clause-calls
+returns-clause-calls g c =
+    let s = c.args.self.now in
+    let a = c.args in
+    let to = c.keep-2.new.self in
+    read_quiet {T = g.row.T.Denot} a.id a.max_length a.is_ordered c.closed_or_waits.result s to s.connection to.error c.closed_or_waits.ensures (connection_kept s to s.connection to.readers c.keep-2.ensures.rest) refl (carries_same s.connection s.connection refl)

@@ -1,9 +1,10 @@
-use Rattle.std.proofs.Common.{sym, ap, ◌∙◌, Bool, None}
+use Rattle.std.proofs.Common.{refl, sym, ap, ◌∙◌, Bool, None}
 use Rattle.qh_book.specs.declared.call.Call.TheVariants as call
 use Rattle.qh_book.specs.declared.reply.Reply.TheVariants as reply
+use Rattle.qh_quinn.proofs.CallReads.{called_none, carries_same, reset_quiet}
 use Rattle.qh_quinn.proofs.ShutReads.{reset_lost, shut, unheld}
-use Rattle.qh_quinn.specs.Readers.{code_of}
 use Rattle.qh_quinn.proofs.inner.StateInner.received_reset.Goals as goal
+use Rattle.qh_quinn.specs.Readers.{code_of}
 
 pub returns-in_default-clause-value : goal.returns-in_default-clause-value
 returns-in_default-clause-value g c =
@@ -21,3 +22,19 @@ returns-then-is_emptied-clause-value g c =
     let a = c.args in
     reset_lost a.id c.closed_or_waits.result a.self.now c.in-Some.reader c.requires (sym c.is_emptied-is_emptied.ensures ∙ c.if-is_emptied.true) (sym c.in-Some.ensures) c.if-not-reader.false c.closed_or_waits.ensures
     (λ b p e held page none error. c.emptied_shown.ensures.reset_lost b a.id p e held page none error)
+
+pub returns-in_default-clause-calls : goal.returns-in_default-clause-calls
+returns-in_default-clause-calls g c =
+    let a = c.args in
+    called_none {T = g.row.T.Denot} (call.ReceivedReset a.id) (reply.Code None) a.self.now a.self.now (λ h. h) refl (λ b shown. refl)
+
+pub returns-then-not-reader-clause-calls : goal.returns-then-not-reader-clause-calls
+returns-then-not-reader-clause-calls g c =
+    let a = c.args in
+    called_none {T = g.row.T.Denot} (call.ReceivedReset a.id) (reply.Code None) a.self.now a.self.now (λ h. h) refl (λ b shown. refl)
+
+pub returns-then-is_emptied-clause-calls : goal.returns-then-is_emptied-clause-calls
+returns-then-is_emptied-clause-calls g c =
+    let a = c.args in
+    let s = a.self.now in
+    reset_quiet {T = g.row.T.Denot} a.id c.closed_or_waits.result s s s.connection s.error c.closed_or_waits.ensures refl refl (carries_same s.connection s.connection refl)

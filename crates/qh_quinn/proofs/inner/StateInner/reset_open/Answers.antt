@@ -1,12 +1,15 @@
-use Rattle.std.proofs.Common.{refl, Some, None, false, true}
+use Rattle.std.proofs.Common.{[], ◌∷◌, refl, Some, None, false, true}
 use Rattle.qh_book.specs.declared.call.Call.TheVariants as call
 use Rattle.qh_book.specs.declared.reply.Reply.TheVariants as reply
+use Rattle.qh_quinn.proofs.CallReads.{called_woken, reset_quiet}
+use Rattle.qh_quinn.proofs.CallStops.{reset_told}
 use Rattle.qh_quinn.proofs.ReadCalls.{greeted_if_held, never_closed_at, other_one}
 use Rattle.qh_quinn.proofs.Recvs.{kept_woken, takes_at}
 use Rattle.qh_quinn.proofs.StopCalls.{untold_answers}
 use Rattle.qh_quinn.proofs.StopSteps.{tell_made}
 use Rattle.qh_quinn.proofs.Writes.{on_streams}
 use Rattle.qh_quinn.proofs.inner.StateInner.reset_open.Goals as goal
+use Rattle.qh_spec.specs.Transcript.{ReadReset}
 use Rattle.qh_streams.specs.Streams.{counted_closed, is_live}
 
 pub returns-in-Ok-Some-clause-value : goal.returns-in-Ok-Some-clause-value
@@ -36,6 +39,33 @@ returns-in-Ok-None-clause-value g c =
 
 pub returns-in-Err-clause-value : goal.returns-in-Err-clause-value
 returns-in-Err-clause-value g c =
+    let s = c.args.self.now in
+    let a = c.args in
+    absurd (never_closed_at s a.id.0 a.reader c.requires.state c.requires.there c.requires.calm c.requires.opened (other_one _ (greeted_if_held s a.id.0 a.reader c.requires.state c.requires.there c.requires.calm) c.in-Err.ensures.fault.0))
+
+pub returns-in-Ok-Some-clause-calls : goal.returns-in-Ok-Some-clause-calls
+returns-in-Ok-Some-clause-calls g c =
+    let s = c.args.self.now in
+    let a = c.args in
+    let to = c.received_reset.new.self in
+    let code = c.in-Ok-Some.code in
+    let taken = rw c.in-Ok-Some.field-0-is at c.in-Ok-Some.ensures.ok in
+    let on = on_streams s.connection to (counted_closed (record s.connection.core.space.streams { recv = to.core.space.streams.recv }) a.id.0 (is_live s.connection.core.space.streams a.id.0)) taken.1 c.in-Ok-Some.ensures.rest in
+    called_woken {T = g.row.T.Denot} (call.ReceivedReset a.id) (reply.Code (Some code)) s c.wake.new.self to c.keep.new.self.readers (ReadReset a.id.0 code ∷ []) (λ h. h)
+    (kept_woken s c.keep.new.self c.wake.new.self to None c.keep.ensures.rest c.wake.ensures) on.0 (rw c.in-Ok-Some.field-0-is at c.in-Ok-Some.ensures.carries)
+    (λ b shown. reset_told g.row.T.Denot a.id code s a.reader c.requires.there c.requires.opened b shown)
+
+pub returns-in-Ok-None-clause-calls : goal.returns-in-Ok-None-clause-calls
+returns-in-Ok-None-clause-calls g c =
+    let s = c.args.self.now in
+    let a = c.args in
+    let to = c.received_reset.new.self in
+    let untold = rw c.in-Ok-None.field-0-is at c.in-Ok-None.ensures.ok in
+    let on = on_streams s.connection to (counted_closed (record s.connection.core.space.streams { recv = to.core.space.streams.recv }) a.id.0 (is_live s.connection.core.space.streams a.id.0)) untold.1 c.in-Ok-None.ensures.rest in
+    reset_quiet {T = g.row.T.Denot} a.id c.closed_or_waits.result s (record s { connection = to }) to s.error c.closed_or_waits.ensures refl on.0 (rw c.in-Ok-None.field-0-is at c.in-Ok-None.ensures.carries)
+
+pub returns-in-Err-clause-calls : goal.returns-in-Err-clause-calls
+returns-in-Err-clause-calls g c =
     let s = c.args.self.now in
     let a = c.args in
     absurd (never_closed_at s a.id.0 a.reader c.requires.state c.requires.there c.requires.calm c.requires.opened (other_one _ (greeted_if_held s a.id.0 a.reader c.requires.state c.requires.there c.requires.calm) c.in-Err.ensures.fault.0))

@@ -3,6 +3,7 @@ use Rattle.qh_book.specs.declared.call.Call.TheVariants as call
 use Rattle.qh_book.specs.declared.reply.Reply.TheVariants as reply
 use Rattle.qh_quinn.proofs.Sends.{send_gone, sends_at, was_set}
 use Rattle.qh_quinn.proofs.Writes.{on_streams, refused_as}
+use Rattle.qh_quinn.proofs.CallParts.{quiet, same_on_streams, undone}
 use Rattle.qh_quinn.proofs.inner.StateInner.set_priority.Goals as goal
 
 pub returns-in-Ok-clause-value : goal.returns-in-Ok-clause-value
@@ -22,3 +23,17 @@ returns-in-Err-clause-value g c =
     let fault = c.in-Err.ensures.fault in
     refused_as (call.SetPriority c.args.id c.args.priority) reply.ClosedStream s _ c.set_priority.new.self c.requires (sym c.is_emptied.ensures ∙ c.if-is_emptied.false) refl fault.1
     (λ notes b live. c.sends_told_shown.ensures.set_gone s.connection.core.space.streams notes b c.args.id live.streams c.args.priority (send_gone s.connection notes b c.args.id.0 live fault.0))
+
+pub returns-in-Ok-clause-calls : goal.returns-in-Ok-clause-calls
+returns-in-Ok-clause-calls g c =
+    let s = c.args.self.now in
+    let e = c.in-Ok.ensures in
+    let to = c.set_priority.new.self in
+    let on = on_streams s.connection to (record s.connection.core.space.streams { send = to.core.space.streams.send }) e.ok.1 e.rest in
+    quiet (call.SetPriority c.args.id c.args.priority) reply.Done s (record s { connection = to }) e.stands (λ b. refl) (λ sends. sends) on.0
+
+pub returns-in-Err-clause-calls : goal.returns-in-Err-clause-calls
+returns-in-Err-clause-calls g c =
+    let s = c.args.self.now in
+    let same = c.in-Err.ensures.fault.1 in
+    undone (call.SetPriority c.args.id c.args.priority) reply.ClosedStream s (record s { connection = c.set_priority.new.self }) same (λ b shown. refl) (same_on_streams s.connection c.set_priority.new.self same)

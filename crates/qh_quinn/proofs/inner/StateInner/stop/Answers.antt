@@ -1,6 +1,7 @@
-use Rattle.std.proofs.Common.{sym}
+use Rattle.std.proofs.Common.{refl, sym}
 use Rattle.qh_book.specs.declared.call.Call.TheVariants as call
 use Rattle.qh_book.specs.declared.reply.Reply.TheVariants as reply
+use Rattle.qh_quinn.proofs.CallReads.{called_none}
 use Rattle.qh_quinn.proofs.ShutReads.{off, shut, unheld}
 use Rattle.qh_quinn.proofs.inner.StateInner.stop.Goals as goal
 
@@ -14,3 +15,13 @@ returns-then-not-reader-clause-value g c =
     let a = c.args in
     shut (call.Stop a.id a.code) reply.ClosedStream a.self.now a.id.0 c.in-Some.reader c.requires (sym c.in-Some.ensures) (off _ c.if-not-reader.true)
     (λ b p held page shut code. c.emptied_shown.ensures.shut_stop b a.id a.code p held page shut)
+
+pub returns-in_default-clause-calls : goal.returns-in_default-clause-calls
+returns-in_default-clause-calls g c =
+    let a = c.args in
+    called_none {T = g.row.T.Denot} (call.Stop a.id a.code) reply.ClosedStream a.self.now a.self.now (λ h. h) refl (λ b shown. refl)
+
+pub returns-then-not-reader-clause-calls : goal.returns-then-not-reader-clause-calls
+returns-then-not-reader-clause-calls g c =
+    let a = c.args in
+    called_none {T = g.row.T.Denot} (call.Stop a.id a.code) reply.ClosedStream a.self.now a.self.now (λ h. h) refl (λ b shown. refl)

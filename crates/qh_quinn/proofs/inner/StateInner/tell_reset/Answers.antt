@@ -1,3 +1,8 @@
+use Rattle.std.proofs.Common.{Some}
+use Rattle.qh_book.specs.declared.call.Call.TheVariants as call
+use Rattle.qh_book.specs.declared.reply.Reply.TheVariants as reply
+use Rattle.qh_quinn.proofs.CallReads.{called_none, connection_kept}
+use Rattle.qh_quinn.proofs.CallStops.{told_again}
 use Rattle.qh_quinn.proofs.StopCalls.{tells_code}
 use Rattle.qh_quinn.proofs.inner.StateInner.tell_reset.Goals as goal
 
@@ -7,3 +12,10 @@ returns-clause-value g c =
     let a = c.args in
     tells_code a.id a.code s c.keep.new.self a.reader c.requires.state c.requires.there c.requires.known c.keep.ensures.rest c.keep.ensures.readers
     (λ notes b streams held closed known. c.closed_recvs_shown.ensures.code s.connection.core.space.streams notes b a.id a.code streams held closed known) (λ b p held page known. c.emptied_shown.ensures.shut_code b a.id p a.code held page known)
+
+pub returns-clause-calls : goal.returns-clause-calls
+returns-clause-calls g c =
+    let s = c.args.self.now in
+    let a = c.args in
+    called_none {T = g.row.T.Denot} (call.ReceivedReset a.id) (reply.Code (Some a.code)) s c.keep.new.self (λ h. h) (connection_kept s c.keep.new.self s.connection c.keep.new.self.readers c.keep.ensures.rest)
+    (λ b shown. told_again g.row.T.Denot a.id a.code s a.reader c.requires.there c.requires.state c.requires.known b shown)

@@ -1,5 +1,0 @@
-use Rattle.qh_quinn.proofs.Acts.{acts_state}
-use Rattle.qh_quinn.proofs.state.State.act.Goals as goal
-
-pub invariant_of-self : goal.invariant_of-self
-invariant_of-self g c = acts_state c.args.call c.plain.result c.self.inside.inner c.plain.new.self c.plain.ensures.acted
