@@ -34,7 +34,7 @@ first_few [] max = omega arith
 first_few (c ∷ cs) max = omega arith
 
 module _ (given : List PlainRange) (cs : List Chunk) (read max : ℕ) (kept : IsKept given cs read) where
-  ordered_run : IsRun cs (front_of given) max (run_of (front_of given) max cs)
+  pub ordered_run : IsRun cs (front_of given) max (run_of (front_of given) max cs)
   ordered_run = run_is cs (front_of given) max (order_raise cs 0 (front_of given) kept.in_order (λ k h. kept.exclusive k (front_has given k h)))
 
   pub none_ordered : 0 < max → run_of (front_of given) max cs ≡ 0 → byte_in cs (front_of given) ≡ None

@@ -9,6 +9,7 @@ pub mod ClippedRanges
 pub mod HandedOut
 pub mod JoinedRanges
 pub mod Keeping
+pub mod Longest
 pub mod MarkedPieces
 pub mod PairedLists
 pub mod PairedRanges

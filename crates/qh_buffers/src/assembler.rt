@@ -1,6 +1,7 @@
-ghost use Rattle.std.specs.Prelude.{◌≡◌, ℕ, ◌+◌, ◌<◌, ◌≤◌, ◌^◌, length, None, true, false, OnOk, OnErr, IfOk, MatchOption};
-ghost use Rattle.qh_buffers.specs.Assembler.{empty_assembler, read_to, to_give, was_given, run_of, first_of, end_of, IsInserted, IsGiven, IsFrontPiece, IsLeastPiece, HasNext, HasNothing};
+ghost use Rattle.std.specs.Prelude.{◌≡◌, ℕ, ◌+◌, ◌<◌, ◌≤◌, ◌^◌, is_some, length, None, true, false, OnOk, OnErr, IfOk, MatchOption};
+ghost use Rattle.qh_buffers.specs.Assembler.{PlainAssembler, empty_assembler, read_to, to_give, was_given, run_of, first_of, end_of, IsInserted, IsGiven, IsFrontPiece, IsLeastPiece, HasNext, HasNothing};
 ghost use Rattle.qh_buffers.specs.Ranges.{count_of, front_of};
+ghost use Rattle.qh_buffers.specs.declared.assembler.Chunk.{Chunk};
 
 use crate::RangeSet;
 use bytes::Bytes;
@@ -163,6 +164,22 @@ impl Assembler {
     {
         let _ = &self.given;
         self.next_length(1, ordered) > 0
+    }
+
+    /// The most bytes that the next read can give: of an ordered one exactly as many as it gives, of an unordered one as many as wait without
+    /// a gap from the first piece on. At most `max_length`. It looks at the pieces that it counts.
+    pub fn longest(&self, max_length: usize, ordered: bool) -> usize
+        ensures few { result ≤ max_length }
+        ensures waits { ordered ≡ true → (k : ℕ) → k < result → is_some (to_give self.now (read_to self.now + k)) ≡ true }
+        ensures in_order { ordered ≡ true → (new : PlainAssembler) → (c : Chunk) → IsGiven self.now new max_length c → c.offset ≡ read_to self.now → length c.bytes ≤ result }
+        ensures least { ordered ≡ false → (new : PlainAssembler) → (c : Chunk) → IsGiven self.now new max_length c → IsLeastPiece self.now c → length c.bytes ≤ result }
+    {
+        let offset = if ordered {
+            self.given.front()
+        } else {
+            self.chunks.front_offset()
+        };
+        self.chunks.run(offset, max_length)
     }
 
     /// Drops all bytes that wait, and keeps no room for others.

@@ -38,7 +38,7 @@ pub logged_on : (log : Log) (more : List ConnectionItem) → is_some (logged log
 logged_on None more = refl
 logged_on (Some items) more = refl
 
-came_on : (log : Log) (items : List ConnectionItem) → (is_some log ≡ true → items ≡ []) → logged log items ≡ log
+pub came_on : (log : Log) (items : List ConnectionItem) → (is_some log ≡ true → items ≡ []) → logged log items ≡ log
 came_on None items none = refl
 came_on (Some all) items none = ap (λ (z : List ConnectionItem). Some (all ++ z)) (none refl) ∙ logged_none (Some all)
 
@@ -47,6 +47,10 @@ pub left_on : {X E : Type 0} (r : Result X E) (old new : Log) → OnOk r (new �
 left_on (Ok x) None new ok err on = ap is_some (sym ok) ∙ on
 left_on (Ok x) (Some items) new ok err on = refl
 left_on (Err e) old new ok err on = ap is_some (sym err) ∙ on
+
+pub left_off : (old new : Log) → new ≡ option_map (λ _. []) old → is_some new ≡ true → is_some old ≡ true
+left_off None new is on = ap is_some (sym is) ∙ on
+left_off (Some items) new is on = refl
 
 pub none_left : (streams : Option (List Item)) → streamed (option_map (λ _. []) streams) ≡ []
 none_left None = refl

@@ -1,4 +1,4 @@
-ghost use Rattle.std.specs.Prelude.{◌≡◌, ◌+◌, ◌-◌, ◌≤◌, ◌++◌, ◌∷◌, [], ℕ, List, true, false, length, None, Some, IfErr, IfSome, OnOk};
+ghost use Rattle.std.specs.Prelude.{◌≡◌, ◌+◌, ◌-◌, ◌≤◌, ◌++◌, ◌∷◌, [], ℕ, List, true, false, length, slice_get, None, Some, IfErr, IfSome, OnOk};
 ghost use Rattle.qh_conn.specs.Whole.{IsWhole, StandsStill};
 ghost use Rattle.qh_control.specs.Datagrams.{IsSendFault};
 ghost use Rattle.qh_control.specs.declared.datagrams.DatagramFault.TheVariants as faults;
@@ -25,6 +25,14 @@ impl<S> Connection<S> {
         ensures whole { IsWhole self.new }
     {
         self.control.send_datagram(payload, drop_old)
+    }
+
+    /// The payload of the datagram that is read next. None exactly if none waits.
+    pub fn incoming_front(&self) -> Option<&Bytes>
+        ensures some { IfSome result (λ payload. slice_get self.now.control.datagrams.incoming 0 ≡ Some payload.now) }
+        ensures none { result ≡ None → self.now.control.datagrams.incoming ≡ [] }
+    {
+        self.control.incoming_front()
     }
 
     /// The oldest datagram that came and wasn't read. None exactly if none waits.

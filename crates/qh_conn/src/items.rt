@@ -1,5 +1,6 @@
 ghost use Rattle.std.specs.Prelude.{◌≡◌, ◌⊎◌, ◌++◌, [], List, Bool, true, None, is_some, IsOk, OnOk, OnErr, IfOk};
-ghost use Rattle.qh_conn.specs.Items.{is_loss_logged, items_taken, log_started, loss, loss_noted, noted, noted_in, streams_started, streams_taken, untaken};
+ghost use Rattle.qh_conn.specs.Items.{came, is_loss_logged, items_taken, log_started, loss, loss_noted, noted, noted_in, streams_started, streams_taken, untaken};
+ghost use Rattle.std.specs.Option.{option_map};
 ghost use Rattle.qh_conn.specs.Hearing.{HearsStill};
 ghost use Rattle.qh_conn.specs.Whole.{IsSound, IsWhole, StandsStill};
 ghost use Rattle.qh_control.specs.Items.{HasRoom, held_in, kept_in, logged, only, streamed};
@@ -59,6 +60,18 @@ impl<S> Connection<S> {
     {
         self.note_loss()?;
         self.control.log.take(self.alloc)
+    }
+
+    /// Hands over what `take_items` does, as the log keeps it, and keeps none; that the connection is lost isn't among it, unless it was logged
+    /// before. None exactly if the log is off. It takes no memory.
+    pub fn take_log(&mut self) -> Option<Vec<LogEntry>>
+        requires { IsWhole self.old }
+        ensures taken { kept_in result ≡ came self.old }
+        ensures rest { self.new ≡ record self.old { control = record self.old.control { log = option_map (λ _. []) self.old.control.log } } }
+        ensures stands { StandsStill self.old self.new }
+        ensures whole { IsWhole self.new }
+    {
+        self.control.log.take_entries(self.alloc)
     }
 
     // That the connection is lost is logged, once. For want of memory nothing changes.

@@ -22,6 +22,6 @@ pub use connection::{Connection, EarlyLimits};
 pub use event::{ConnectionEvent, Event};
 pub use laws::same_connection;
 pub use qh_buffers::Chunk;
-pub use qh_control::{ConnectionItem, DatagramFault, EndpointEvent, IssuedCid};
+pub use qh_control::{ConnectionItem, DatagramFault, EndpointEvent, IssuedCid, LogEntry};
 pub use qh_core::{ConnectionStats, ControllerMetrics, TakeFault};
 pub use qh_streams::{ClosedStream, FinishFault, Item, ReadableFault, WriteFault, Written};

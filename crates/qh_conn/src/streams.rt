@@ -1,4 +1,4 @@
-ghost use Rattle.std.specs.Prelude.{nat_lt, ◌≡◌, ◌⊎◌, ◌<◌, [], ℕ, List, take, min, length, true, false, None, Some, Ok, is_some, OnOk, IsOk, OnErr, IfOk, IfErr, IfSome, IsSome, MatchResult};
+ghost use Rattle.std.specs.Prelude.{◌≤◌, nat_lt, ◌≡◌, ◌⊎◌, ◌<◌, [], ℕ, List, take, min, length, true, false, None, Some, Ok, is_some, OnOk, IsOk, OnErr, IfOk, IfErr, IfSome, IsSome, MatchResult};
 ghost use Rattle.qh_buffers.specs.Assembler.{read_to, was_given};
 ghost use Rattle.std.specs.List.{concat};
 ghost use Rattle.qh_conn.specs.Whole.{CarriesOn, IsWhole, Stands, StandsStill};
@@ -18,6 +18,7 @@ ghost use Rattle.qh_halves.specs.SendHalves.{send_at, write_limit, write_fault_a
 ghost use Rattle.qh_spec.specs.StreamId.{stream_id};
 ghost use Rattle.qh_spec.specs.Transcript.{Act, written, finished, read};
 ghost use Rattle.qh_streams.specs.Streams.{IsOpened, counts_of, counted_closed, is_live, is_two_way, with_accepted, with_counts};
+ghost use Rattle.qh_half.specs.Recv.{ReadsAtMost};
 
 use crate::Connection;
 use crate::laws::still;
@@ -310,6 +311,15 @@ impl<S> Connection<S> {
         ensures no { result ≡ false → IsReadBlockedAt self.now.core.space.streams.recv id.0 ordered → ⊥ }
     {
         self.core.is_read_blocked(id, ordered)
+    }
+
+    /// The most bytes that the next read of a stream in this order can give, at most `max_length`; 0 if it has no half. It takes the time of the
+    /// pieces that it counts.
+    pub fn longest(&self, id: StreamId, max_length: usize, ordered: bool) -> usize
+        ensures few { result ≤ max_length }
+        ensures enough { IfSome (recv_at self.now.core.space.streams.recv id.0) (λ r. ReadsAtMost r ordered max_length result) }
+    {
+        self.core.longest(id, max_length, ordered)
     }
 
     /// Of a half the offset behind those that reads gave without a gap wasn't given. It does nothing: its contract says so.

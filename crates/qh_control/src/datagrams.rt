@@ -1,4 +1,4 @@
-ghost use Rattle.std.specs.Prelude.{◌≡◌, ◌+◌, ◌-◌, ◌<◌, ◌≤◌, ◌++◌, ◌∷◌, ◌||◌, [], ℕ, List, Option, true, false, drop, length, map, take, None, Some, IfErr, IfOk, IfSome, OnOk};
+ghost use Rattle.std.specs.Prelude.{◌≡◌, ◌+◌, ◌-◌, ◌<◌, ◌≤◌, ◌++◌, ◌∷◌, ◌||◌, [], ℕ, List, Option, true, false, drop, length, map, slice_get, take, None, Some, IfErr, IfOk, IfSome, OnOk};
 ghost use Rattle.std.specs.List.{AllByRecursion};
 ghost use Rattle.qh_control.specs.Control.{IsSendable, KeepsSendable};
 ghost use Rattle.qh_control.specs.Datagrams.{IsReady, IsSendFault};
@@ -68,6 +68,14 @@ impl ControlState {
             Err(SendRefusal::Blocked(payload)) => Err(DatagramFault::Blocked(payload)),
             Err(SendRefusal::Memory) => Err(DatagramFault::Memory),
         }
+    }
+
+    /// The payload of the datagram that is read next. None exactly if none waits.
+    pub fn incoming_front(&self) -> Option<&Bytes>
+        ensures some { IfSome result (λ payload. slice_get self.now.datagrams.incoming 0 ≡ Some payload.now) }
+        ensures none { result ≡ None → self.now.datagrams.incoming ≡ [] }
+    {
+        self.datagrams.incoming_front()
     }
 
     /// The oldest datagram that came and wasn't read. None exactly if none waits.

@@ -135,6 +135,18 @@ impl ConnectionLog {
         Ok(Some(items))
     }
 
+    /// Hands over the entries as they are kept, in their order, and keeps none. None exactly if the log is off. It takes no memory.
+    pub fn take_entries(&mut self, alloc: Global) -> Option<Vec<LogEntry>>
+        ensures taken { kept_in result ≡ self.old }
+        ensures rest { self.new ≡ option_map (λ _. []) self.old }
+    {
+        let Some(entries) = self.entries.take() else {
+            return None;
+        };
+        self.entries = Some(Vec::new(alloc));
+        Some(entries)
+    }
+
     // The item of a datagram that came with this payload, if the log is on: its bytes are copied only then.
     pub(crate) fn datagram_item(&self, payload: &Bytes) -> Result<Option<ConnectionItem>, Memory>
         ensures { IfOk result (λ one. logged self.now (only one) ≡ logged self.now (item.Datagram payload.now ∷ [])) }

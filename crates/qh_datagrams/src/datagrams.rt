@@ -106,6 +106,14 @@ impl DatagramState {
         room.saturating_sub(self.outgoing.total())
     }
 
+    /// The payload that is read next. None exactly if none waits.
+    pub fn incoming_front(&self) -> Option<&Bytes>
+        ensures some { IfSome result (λ payload. slice_get self.now.incoming 0 ≡ Some payload.now) }
+        ensures none { result ≡ None → self.now.incoming ≡ [] }
+    {
+        self.incoming.get(0)
+    }
+
     /// Whether a datagram waits to be read.
     pub fn has_incoming(&self) -> bool
         ensures { result ≡ not (length self.now.incoming == 0) }

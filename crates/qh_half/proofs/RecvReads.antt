@@ -1,13 +1,13 @@
 -- What a read leaves in a receiving half.
-use Rattle.std.proofs.Common.{◌≡◌, ℕ, ◌<◌, ◌≤◌, Bool, true, false, not, ◌||◌, MatchBool, Option, Some, None, MatchOption, is_some, Err, if◌then◌else◌, refl, sym, ap, ◌∙◌, inl, inr, subst}
+use Rattle.std.proofs.Common.{◌≡◌, ℕ, ◌<◌, ◌≤◌, Bool, true, false, not, ◌||◌, ◌&&◌, length, MatchBool, Option, Some, None, MatchOption, is_some, Err, if◌then◌else◌, refl, sym, ap, ◌∙◌, inl, inr, subst}
 use Rattle.std.proofs.lemmas.Bool.{cases_Bool, cases_lt, or_cases, both_ways}
 use Rattle.qh_buffers.specs.declared.assembler.Chunk.{Chunk}
 use Rattle.qh_buffers.specs.Ranges.{count_of}
-use Rattle.qh_buffers.specs.Assembler.{PlainAssembler, byte_of, end_of, is_over, to_give, was_given, read_to, IsGiven, HasNothing, HasNext}
+use Rattle.qh_buffers.specs.Assembler.{PlainAssembler, byte_of, end_of, is_over, to_give, was_given, read_to, IsGiven, IsLeastPiece, HasNothing, HasNext}
 use Rattle.qh_buffers.proofs.RangeCounts.{in_start, in_end}
 use Rattle.qh_buffers.proofs.ChunkLaws.{inside}
 use Rattle.qh_half.specs.declared.fault.ReadFault.TheVariants.{Memory}
-use Rattle.qh_half.specs.Recv.{PlainRecv, IsRecv, IsReadAnswer, WantsMemory, WaitsForMore, with_order}
+use Rattle.qh_half.specs.Recv.{PlainRecv, IsRecv, IsReadAnswer, WantsMemory, WaitsForMore, ReadsAtMost, with_order}
 use Rattle.qh_half.specs.Recv.IsReadAnswer.{memory}
 
 -- a piece has a byte at each of its offsets
@@ -71,3 +71,22 @@ next_waits r has none = elim (cases_Bool r.is_unordered) [
 pub waits_begun : (old new : PlainRecv) (ordered is_unordered : Bool) → new ≡ record old { is_unordered = is_unordered } → is_unordered ≡ (old.is_unordered || not ordered)
     → WaitsForMore (with_order old ordered) → WaitsForMore new
 waits_begun old new ordered is_unordered e is waits = rw (e, is) waits
+
+-- a read in order: it is begun so, and no unordered one was
+marked_in_order : (ordered unordered : Bool) → (unordered || not ordered) ≡ not (ordered && not unordered)
+marked_in_order true true = refl
+marked_in_order true false = refl
+marked_in_order false true = refl
+marked_in_order false false = refl
+
+-- what bounds the pieces that the assembler gives in this order bounds what a read gives
+pub reads_at_most : (r : PlainRecv) (ordered in_order : Bool) (max n : ℕ) → in_order ≡ (ordered && not r.is_unordered)
+    → (in_order ≡ true → (new : PlainAssembler) → (c : Chunk) → IsGiven r.assembler new max c → c.offset ≡ read_to r.assembler → length c.bytes ≤ n)
+    → (in_order ≡ false → (new : PlainAssembler) → (c : Chunk) → IsGiven r.assembler new max c → IsLeastPiece r.assembler c → length c.bytes ≤ n)
+    → ReadsAtMost r ordered max n
+reads_at_most r ordered in_order max n is front least new c read =
+    let marked : (r.is_unordered || not ordered) ≡ not in_order = marked_in_order ordered r.is_unordered ∙ ap not (sym is) in
+    elim (cases_Bool in_order) [
+      | inl on ↦ front on new.assembler c read.given (read.front (marked ∙ ap not on)).offset_is
+      | inr off ↦ least off new.assembler c read.given (read.least (marked ∙ ap not off))
+    ]

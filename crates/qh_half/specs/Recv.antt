@@ -213,6 +213,10 @@ pub record IsRead (old new : PlainRecv) (max_length : ℕ) (c : Chunk) : Type 0 
   pub counted : bytes_read new ≡ bytes_read old + length c.bytes
   pub rest_is : new ≡ record old { assembler = new.assembler }
 
+-- a read in this order that gives bytes gives at most so many
+abbrev pub ReadsAtMost : PlainRecv → (ordered : Bool) → (max_length n : ℕ) → Type 0
+ReadsAtMost r ordered max_length n = (new : PlainRecv) → (c : Chunk) → IsRead (with_order r ordered) new max_length c → length c.bytes ≤ n
+
 -- no byte that a read may give waits
 abbrev pub WaitsForMore : PlainRecv → Type 0
 WaitsForMore r = MatchBool r.is_unordered (HasNothing r.assembler) ((to_give r.assembler (read_to r.assembler) ≡ None) × (was_given r.assembler (read_to r.assembler) ≡ false))

@@ -1,4 +1,4 @@
-ghost use Rattle.std.specs.Prelude.{◌≡◌, ◌⊎◌, ◌||◌, take, min, length, true, false, Ok, Err, OnOk, OnErr, IfOk, IfErr, IfSome, MatchResult, None, Some, IsSome};
+ghost use Rattle.std.specs.Prelude.{◌≤◌, ◌≡◌, ◌⊎◌, ◌||◌, take, min, length, true, false, Ok, Err, OnOk, OnErr, IfOk, IfErr, IfSome, MatchResult, None, Some, IsSome};
 ghost use Rattle.qh_buffers.specs.Assembler.{read_to, was_given};
 ghost use Rattle.std.specs.List.{concat};
 ghost use Rattle.qh_half.specs.declared.fault.ReadFault.TheVariants.{Memory as Lacking};
@@ -7,6 +7,7 @@ ghost use Rattle.qh_half.specs.Send.{credit, is_blocked_fault, chunks_after, who
 ghost use Rattle.qh_halves.specs.SendHalves.{send_at, write_limit, write_fault_at, finish_fault_at, is_reset_refused_at, half_priority, IsStep, IsAbsent, Takes, Finishes, IsResetWith, HasPriority};
 ghost use Rattle.qh_halves.specs.RecvHalves.{IsRecvStep, Reads, Begins, WaitsForMoreAt, WaitsForMoreInOrderAt, IsBegunRead, is_wanting, Stops, TakesReset, readable_fault_at, is_closed_at, is_credit_due, recv_at, IsReadBlockedAt, half_awaits_reset};
 ghost use Rattle.qh_streams.specs.Streams.{counted_closed, is_live, with_blocked, IsWriteRefusal, KeepsOut};
+ghost use Rattle.qh_half.specs.Recv.{ReadsAtMost};
 
 use crate::{ClosedStream, FinishFault, ReadFault, ReadableFault, Streams, WriteFault, Written};
 use bytes::Bytes;
@@ -203,6 +204,15 @@ impl Streams {
         ensures no { result ≡ false → IsReadBlockedAt self.now.recv id.0 ordered → ⊥ }
     {
         self.recv.is_blocked(id.0, ordered)
+    }
+
+    /// The most bytes that the next read of a stream in this order can give, at most `max_length`; 0 if it has no half. It takes the time of the
+    /// pieces that it counts.
+    pub fn longest(&self, id: StreamId, max_length: usize, ordered: bool) -> usize
+        ensures few { result ≤ max_length }
+        ensures enough { IfSome (recv_at self.now.recv id.0) (λ r. ReadsAtMost r ordered max_length result) }
+    {
+        self.recv.longest(id.0, max_length, ordered)
     }
 
     /// Of a half the offset behind those that reads gave without a gap wasn't given. It does nothing: its contract says so.
