@@ -37,7 +37,7 @@ AreReady socket_ready poller_ready socket None = socket_ready socket
 AreReady socket_ready poller_ready socket (Some poller) = socket_ready socket × poller_ready poller
 
 -- How often a poller failed: the one that was there, if none was made meanwhile, or else one that was made. `made_old` and `made_new` say how many were made before the turn and after it;
--- that number stands still at its end.
+-- that number saturates.
 module _ {P : Type 0} (faults : P → ℕ) where
   abbrev pub count_of : Option P → ℕ
   count_of None = 0

@@ -3,6 +3,7 @@ ghost use Rattle.futures.specs.Poll.{IfReady, OnPending};
 ghost use Rattle.futures.specs.Task.{IsArmed, Keeps};
 ghost use Rattle.futures.specs.declared.task.Poll.TheVariants as polls;
 ghost use Rattle.futures.specs.declared.task.Poll.{Poll as APoll};
+ghost use Rattle.futures.specs.declared.task.context.Context.{Context as AContext};
 ghost use Rattle.std.specs.Prelude.{Result as AResult};
 ghost use Rattle.qh_base.specs.declared.time.Moment.{Moment as AMoment};
 ghost use Rattle.qh_book.specs.declared.call.Call.{Call as ACall};
@@ -37,8 +38,8 @@ pub trait At {
     ghost takes_none: { Self → ACall → Type 0 };
 
     /// A turn of the driver was made at this moment, while it was held or wasn't; it handed these messages to the socket and answered so. The last flag says
-    /// whether there is more to send than one turn may.
-    ghost drives: { Self → AMoment → Bool → List AnOutMessage → APoll (AResult (Unit {0}) AFault) → Bool → Self → Type 0 };
+    /// whether there may be more to send than one turn sends, and the contexts are those before the turn and behind it.
+    ghost drives: { Self → AMoment → Bool → List AnOutMessage → APoll (AResult (Unit {0}) AFault) → Bool → AContext → AContext → Self → Type 0 };
 
     /// The connection has nothing left to send for now, and no datagram of it waits for the socket.
     ghost is_sent: { Self → Type 0 };
@@ -64,7 +65,7 @@ pub trait At {
         now: Moment,
         cx: &mut Context<'_>,
     ) -> Poll<Result<(), IoFault>>
-        ensures value { (out : List AnOutMessage) × drives self.old now part.old.is_held out result part.new.keeps_going self.new × AreSent out (X.departed socket.old) (X.departed socket.new)
+        ensures value { (out : List AnOutMessage) × drives self.old now part.old.is_held out result part.new.keeps_going cx.old cx.new self.new × AreSent out (X.departed socket.old) (X.departed socket.new)
             × (AreReady X.never_blocks X.Poller.never_blocks socket.old part.old.poller → result ≡ polls.Pending → IsFull part.new.keeps_going out) }
         ensures arrived { X.arrived socket.new ≡ X.arrived socket.old }
         ensures cause { HasCause X.Poller.faults result (X.faults socket.old) (X.faults socket.new) part.old.made part.new.made part.old.poller part.new.poller }
@@ -85,10 +86,10 @@ pub trait At {
 pub struct DriverPart<X: AsyncUdpSocket> {
     /// What tells that the socket can be written to, if it was asked for yet.
     pub poller: Option<X::Poller>,
-    /// How many of those were made. At its end the number stands still.
+    /// How many of those were made. The number saturates.
     pub made: u64,
     /// Whether it makes no datagram for now.
     pub is_held: bool,
-    /// Whether the last turn ended because it had sent as many datagrams as one may, and not because none was left.
+    /// Whether the last turn ended because it had made as many sends as one turn may (one that would block counts), and not because none was left.
     pub keeps_going: bool,
 }

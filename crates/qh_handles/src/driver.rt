@@ -43,7 +43,7 @@ impl<X: AsyncUdpSocket> ConnectionDriver<X> {
         now: Moment,
         cx: &mut Context<'_>,
     ) -> Poll<Result<(), IoFault>>
-        ensures value { (out : List AnOutMessage) × A.drives at.old now self.old.part.is_held out result self.new.part.keeps_going at.new × AreSent out (X.departed socket.old) (X.departed socket.new)
+        ensures value { (out : List AnOutMessage) × A.drives at.old now self.old.part.is_held out result self.new.part.keeps_going cx.old cx.new at.new × AreSent out (X.departed socket.old) (X.departed socket.new)
             × (AreReady X.never_blocks X.Poller.never_blocks socket.old self.old.part.poller → result ≡ polls.Pending → IsFull self.new.part.keeps_going out) }
         ensures arrived { X.arrived socket.new ≡ X.arrived socket.old }
         ensures cause { HasCause X.Poller.faults result (X.faults socket.old) (X.faults socket.new) self.old.part.made self.new.part.made self.old.part.poller self.new.part.poller }
@@ -58,7 +58,7 @@ impl<X: AsyncUdpSocket> ConnectionDriver<X> {
         at.drive(&mut self.part, socket, now, cx)
     }
 
-    /// Whether the last turn ended because it had sent as many datagrams as one may, and not because none was left.
+    /// Whether the last turn ended because it had made as many sends as one turn may (one that would block counts), and not because none was left.
     pub fn keep_going(&self) -> bool
         ensures { result ≡ self.now.part.keeps_going }
     {

@@ -3,7 +3,7 @@ use Rattle.std.proofs.Common.{Result, Ok, Err}
 use Rattle.std.specs.Prelude.{IfOk, MatchResult}
 
 module _ {X Y A : Type 0} where
-  -- what is told is of the answer too
-  pub told_too : (K : Type 0) (r : Result X Y) (P Q : X → Type 0) → MatchResult r P (λ _. K) → (A → IfOk r Q) → MatchResult r (λ x. P x × (A → Q x)) (λ _. K)
-  told_too K (Ok x) P Q h tells = (h, tells)
-  told_too K (Err e) P Q h tells = h
+  -- what is told is of the answer too, and some of it is of each answer
+  pub told_too : (K T : Type 0) (r : Result X Y) (P Q : X → Type 0) → MatchResult r P (λ _. K) → T → (A → IfOk r Q) → MatchResult r (λ x. P x × T × (A → Q x)) (λ _. K × T)
+  told_too K T (Ok x) P Q h rest tells = (h, rest, tells)
+  told_too K T (Err e) P Q h rest tells = (h, rest)

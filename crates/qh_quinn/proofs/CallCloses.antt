@@ -18,8 +18,9 @@ use Rattle.qh_conn.specs.declared.connection.Connection.{Connection}
 use Rattle.qh_quinn.proofs.CallParts.{and_no_more, carries_as}
 use Rattle.qh_quinn.proofs.HalfEnds.{HasStopCode}
 use Rattle.qh_quinn.specs.Acting.{IsAnswered, IsChanged, KeepsTurns}
-use Rattle.qh_quinn.specs.Calls.{ClosesWith, EndsHalfOf, EndsHandleOf, IsCallOf, IsOnStreams, WakesIfChanged, call_acts, finish_acts, finished_by, send_end_acts, send_ended_by, send_handle_acts}
+use Rattle.qh_quinn.specs.Calls.{ClosesWith, EndsHalfOf, EndsHandleOf, IsCallOf, WakesIfChanged, call_acts, finish_acts, finished_by, send_end_acts, send_ended_by, send_handle_acts}
 use Rattle.qh_quinn.specs.States.{Shows}
+use Rattle.qh_quinn.specs.Streaming.{EndsSending, FinishesOne, ResetsOne}
 use Rattle.qh_quinn.specs.declared.inner.StateInner.{StateInner}
 use Rattle.qh_spec.specs.Transcript.{Finished, Reset}
 
@@ -109,6 +110,16 @@ module _ {S T : Type 0} where
       (unlost_acts b id.0 (shown.shows.error ∙ none) ∙ sym (reset_ends b a.after id code r (told b shown) a.allows)) (h.carries b shown)
 
 module _ {S : Type 0} where
+  -- what is replied to a call that ends the half says what it did
+  pub half_finished : {T : Type 0} (id : ℕ) (r : Reply T) (old new : Connection S) → FinishesOne id r old new → EndsSending id old new
+  half_finished id reply.Done old new (inl change) = EndsSending.finished change
+  half_finished id reply.Done old new (inr needless) = EndsSending.kept needless.same
+  half_finished id other old new same = EndsSending.kept same
+
+  pub half_reset : {T : Type 0} (id code : ℕ) (r : Reply T) (old new : Connection S) → ResetsOne id code r old new → EndsSending id old new
+  half_reset id code reply.Done old new change = EndsSending.reset code change
+  half_reset id code other old new same = EndsSending.kept same
+
   pub lost_carries : (s : StateInner S) (id : StreamId) → is_some s.error ≡ true → (b : Book) → Shows s b → CarriesOn s.connection s.connection [] → CarriesOn s.connection s.connection (send_handle_acts b id.0)
   lost_carries s id lost b shown none = carries_as s.connection s.connection (send_handle_acts b id.0) [] (lost_acts b id.0 s.error shown.shows.error lost) none
 
@@ -134,11 +145,12 @@ module _ {S : Type 0} where
       subst (λ (n : ℕ). EndsHandleOf n old.error old.last_turn mid.connection new) handles
       (subst (λ (e : Option ConnectionError). EndsHandleOf mid.handles e old.last_turn mid.connection new) error (subst (λ (t : Moment). EndsHandleOf mid.handles mid.error t mid.connection new) last_turn h))
 
-  pub ends_half : (old mid new : StateInner S) → IsOnStreams old.connection mid.connection → (mid.handles ≡ old.handles) × (mid.error ≡ old.error) → KeepsTurns old mid → EndsHandleOf mid.handles mid.error mid.last_turn mid.connection new.connection
-      → EndsHalfOf old.handles old.error old.last_turn old.connection new.connection
-  ends_half old mid new streams counts turns ends = record {
+  pub ends_half : (Half : Connection S → Connection S → Type 0) (old mid new : StateInner S) → Half old.connection mid.connection → (is_some old.error ≡ true → mid.connection ≡ old.connection) → (mid.handles ≡ old.handles) × (mid.error ≡ old.error) → KeepsTurns old mid → EndsHandleOf mid.handles mid.error mid.last_turn mid.connection new.connection
+      → EndsHalfOf Half old.handles old.error old.last_turn old.connection new.connection
+  ends_half Half old mid new half lost counts turns ends = record {
     mid = mid.connection;
-    streams = streams;
+    half = half;
+    lost = lost;
     ends = ends_counted old mid new.connection counts.0 counts.1 (ap (λ (s : StateInner S). s.last_turn) turns) ends;
   }
 
@@ -148,11 +160,11 @@ module _ {S : Type 0} where
   wakes_either old mid new stays (inl one) (inl two) = inl (two ∙ one)
   wakes_either old mid new stays (inr one) (inl two) = inr (stays one)
 
-  pub send_ended : (id : StreamId) (old mid new : StateInner S) (f : Book → Book) → IsChanged f old mid → ((b : Book) → Shows old b → CarriesOn old.connection mid.connection (send_handle_acts b id.0)) → IsOnStreams old.connection mid.connection
-      → (mid.handles ≡ old.handles) × (mid.error ≡ old.error) → KeepsTurns old mid → WakesIfChanged old mid → (mid.driver ≡ None → new.driver ≡ None) → IsCallOf {T = Unit {0}} call.EndHandle reply.Done mid new
+  pub send_ended : (id : StreamId) (old mid new : StateInner S) (f : Book → Book) → IsChanged f old mid → ((b : Book) → Shows old b → CarriesOn old.connection mid.connection (send_handle_acts b id.0)) → EndsSending id.0 old.connection mid.connection
+      → (is_some old.error ≡ true → mid.connection ≡ old.connection) → (mid.handles ≡ old.handles) × (mid.error ≡ old.error) → KeepsTurns old mid → WakesIfChanged old mid → (mid.driver ≡ None → new.driver ≡ None) → IsCallOf {T = Unit {0}} call.EndHandle reply.Done mid new
       → IsCallOf {T = Unit {0}} (call.EndSend id) reply.Done old new
-  send_ended id old mid new f changed carries streams counts turns wakes stays h = record {
+  send_ended id old mid new f changed carries half lost counts turns wakes stays h = record {
     carries = λ b shown. and_no_more old.connection mid.connection new.connection (send_handle_acts b id.0) (carries b shown) (h.carries (f b) (changed.each b shown));
-    called = ends_half old mid new streams counts turns h.called;
+    called = ends_half (EndsSending id.0) old mid new half lost counts turns h.called;
     wakes = λ sends. wakes_either old mid new stays wakes (h.wakes tt);
   }

@@ -6,7 +6,7 @@ use Rattle.qh_book.specs.declared.call.Call.{Call}
 use Rattle.qh_book.specs.declared.reply.Reply.{Reply}
 use Rattle.qh_conn.specs.Whole.{CarriesOn, Stands, StandsStill}
 use Rattle.qh_conn.specs.declared.connection.Connection.{Connection}
-use Rattle.qh_quinn.specs.Calls.{IsCallOf, IsCalled, IsOnStreams, IsSending, call_acts}
+use Rattle.qh_quinn.specs.Calls.{IsCallOf, IsCalled, IsSending, call_acts}
 use Rattle.qh_quinn.specs.States.{Shows}
 use Rattle.qh_quinn.specs.declared.inner.StateInner.{StateInner}
 use Rattle.qh_spec.specs.Transcript.{Act}
@@ -18,9 +18,6 @@ module _ {S : Type 0} where
 
   pub stands_same : (old new : Connection S) → new ≡ old → StandsStill old new
   stands_same old new same = λ accepts sealed hello t before. subst (λ (x : Connection S). Stands accepts sealed hello x t) (sym same) before
-
-  pub same_on_streams : (old new : Connection S) → new ≡ old → IsOnStreams old new
-  same_on_streams old new same = subst (λ (x : Connection S). IsOnStreams old x) (sym same) refl
 
   -- one after another
   pub in_order : (old mid new : Connection S) (x y : List Act) → CarriesOn old mid x → CarriesOn mid new y → CarriesOn old new (x ++ y)

@@ -1,5 +1,5 @@
 -- What calls on receiving halves do to the connection.
-use Rattle.std.proofs.Common.{◌≡◌, ℕ, Bool, true, false, List, [], ◌∷◌, ◌++◌, Option, Some, None, if◌then◌else◌, refl, sym, ap, ◌∙◌, subst, inl, inr, append-nil, append_assoc}
+use Rattle.std.proofs.Common.{◌≡◌, ℕ, Bool, true, false, List, [], ◌∷◌, ◌++◌, Option, Some, None, if◌then◌else◌, refl, sym, ap, ◌∙◌, subst, inr, append-nil, append_assoc}
 use Rattle.std.proofs.lemmas.Option.{same_Some}
 use Rattle.qh_base.specs.declared.connection_error.ConnectionError.{ConnectionError}
 use Rattle.qh_base.specs.declared.stream_id.StreamId.{StreamId}
@@ -14,11 +14,13 @@ use Rattle.qh_conn.specs.declared.connection.Connection.{Connection}
 use Rattle.qh_core.specs.Inner.{with_streams}
 use Rattle.qh_half.specs.Recv.{PlainRecv, reset_code}
 use Rattle.qh_halves.specs.RecvHalves.{recv_at}
+use Rattle.qh_quinn.proofs.CallParts.{undone}
 use Rattle.qh_quinn.proofs.Recvs.{holder, open_page, read_at}
 use Rattle.qh_quinn.specs.Acting.{lost_or_pending}
-use Rattle.qh_quinn.specs.Calls.{IsCallOf, IsCalled, IsOnStreams, IsSending, call_acts, end_acts}
+use Rattle.qh_quinn.specs.Calls.{IsCallOf, IsCalled, IsSending, call_acts, end_acts}
 use Rattle.qh_quinn.specs.Readers.{PlainReaders, reader_in}
 use Rattle.qh_quinn.specs.States.{Shows}
+use Rattle.qh_quinn.specs.Streaming.{IsOnStreams, ReadsOne, TakesResetOf}
 use Rattle.qh_quinn.specs.declared.inner.StateInner.{StateInner}
 use Rattle.qh_quinn.specs.declared.readers.Reader.{Reader}
 use Rattle.qh_shown.specs.Connections.{is_wanting}
@@ -48,51 +50,42 @@ module _ {S : Type 0} where
 
   -- ---- the whole of a call on a stream
 
-  -- nothing is done with the connection
-  pub called_none : {T : Type 0} (c : Call) (r : Reply T) (old new : StateInner S) → (IsOnStreams old.connection new.connection → IsCalled c r old new) → new.connection ≡ old.connection
-      → ((b : Book) → Shows old b → call_acts b c r ≡ []) → IsCallOf c r old new
-  called_none c r old new on same none = record {
-    carries = λ b shown. carries_as old.connection new.connection [] (call_acts b c r) (none b shown) (carries_same old.connection new.connection same);
-    called = on (subst (λ (k : Connection S). IsOnStreams old.connection k) (sym same) refl);
-    wakes = λ sends. inl same;
-  }
-
   -- its streams changed, and the driver was woken
-  pub called_woken : {T : Type 0} (c : Call) (r : Reply T) (old new : StateInner S) (to : Connection S) (readers : PlainReaders) (acts : List Act) → (IsOnStreams old.connection new.connection → IsCalled c r old new)
-      → new ≡ record old { connection = to; readers = readers; driver = None } → IsOnStreams old.connection to → CarriesOn old.connection to acts → ((b : Book) → Shows old b → call_acts b c r ≡ acts) → IsCallOf c r old new
-  called_woken c r old new to readers acts called is on carries told =
+  pub called_woken : {T : Type 0} (c : Call) (r : Reply T) (old new : StateInner S) (to : Connection S) (readers : PlainReaders) (acts : List Act) → IsCalled c r old (record old { connection = to; readers = readers; driver = None })
+      → new ≡ record old { connection = to; readers = readers; driver = None } → CarriesOn old.connection to acts → ((b : Book) → Shows old b → call_acts b c r ≡ acts) → IsCallOf c r old new
+  called_woken c r old new to readers acts called is carries told =
       let there : new.connection ≡ to = ap (λ (s : StateInner S). s.connection) is in
       record {
         carries = λ b shown. subst (λ (k : Connection S). CarriesOn old.connection k (call_acts b c r)) (sym there) (carries_as old.connection to acts (call_acts b c r) (told b shown) carries);
-        called = called (subst (λ (k : Connection S). IsOnStreams old.connection k) (sym there) on);
+        called = subst (λ (s : StateInner S). IsCalled c r old s) (sym is) called;
         wakes = λ sends. inr (ap (λ (s : StateInner S). s.driver) is);
       }
 
   -- its streams changed, and there is nothing to send
-  called_quiet : {T : Type 0} (c : Call) (r : Reply T) (old new : StateInner S) (to : Connection S) → (IsOnStreams old.connection new.connection → IsCalled c r old new) → (IsSending c r → ⊥) → new.connection ≡ to → IsOnStreams old.connection to → CarriesOn old.connection to []
+  called_quiet : {T : Type 0} (c : Call) (r : Reply T) (old new : StateInner S) (to : Connection S) → IsCalled c r old new → (IsSending c r → ⊥) → new.connection ≡ to → CarriesOn old.connection to []
       → ((b : Book) → call_acts b c r ≡ []) → IsCallOf c r old new
-  called_quiet c r old new to called quiet is on carries none = record {
+  called_quiet c r old new to called quiet is carries none = record {
     carries = λ b shown. subst (λ (k : Connection S). CarriesOn old.connection k (call_acts b c r)) (sym is) (carries_as old.connection to [] (call_acts b c r) (none b) carries);
-    called = called (subst (λ (k : Connection S). IsOnStreams old.connection k) (sym is) on);
+    called = called;
     wakes = λ sends. absurd (quiet sends);
   }
 
   -- a call is lost, or waits
-  pub read_quiet : {T : Type 0} (id : StreamId) (max_length : ℕ) (is_ordered : Bool) (r : Reply T) (old new : StateInner S) (to : Connection S) (error : Option ConnectionError) → r ≡ lost_or_pending error → new.connection ≡ to → IsOnStreams old.connection to → CarriesOn old.connection to []
-      → IsCallOf (call.Read id max_length is_ordered) r old new
-  read_quiet {T} id max_length is_ordered r old new to error reply_is is on carries = subst (λ (x : Reply T). IsCallOf (call.Read id max_length is_ordered) x old new) (sym reply_is) (at error)
+  pub read_quiet : {T : Type 0} (id : StreamId) (max_length : ℕ) (is_ordered : Bool) (r : Reply T) (old new : StateInner S) (to : Connection S) (error : Option ConnectionError) → r ≡ lost_or_pending error → new.connection ≡ to → CarriesOn old.connection to []
+      → ((e : Option ConnectionError) → ReadsOne id.0 max_length is_ordered (lost_or_pending {T = T} e) old new) → IsCallOf (call.Read id max_length is_ordered) r old new
+  read_quiet {T} id max_length is_ordered r old new to error reply_is is carries called = subst (λ (x : Reply T). IsCallOf (call.Read id max_length is_ordered) x old new) (sym reply_is) (at error)
     where
       at : (e : Option ConnectionError) → IsCallOf {T = T} (call.Read id max_length is_ordered) (lost_or_pending e) old new
-      at None = called_quiet {T = T} (call.Read id max_length is_ordered) reply.Pending old new to (λ h. h) (λ h. h) is on carries (λ b. refl)
-      at (Some e) = called_quiet {T = T} (call.Read id max_length is_ordered) (reply.ConnectionLost e) old new to (λ h. h) (λ h. h) is on carries (λ b. refl)
+      at None = called_quiet {T = T} (call.Read id max_length is_ordered) reply.Pending old new to (called None) (λ h. h) is carries (λ b. refl)
+      at (Some e) = called_quiet {T = T} (call.Read id max_length is_ordered) (reply.ConnectionLost e) old new to (called (Some e)) (λ h. h) is carries (λ b. refl)
 
-  pub reset_quiet : {T : Type 0} (id : StreamId) (r : Reply T) (old new : StateInner S) (to : Connection S) (error : Option ConnectionError) → r ≡ lost_or_pending error → new.connection ≡ to → IsOnStreams old.connection to → CarriesOn old.connection to []
-      → IsCallOf (call.ReceivedReset id) r old new
-  reset_quiet {T} id r old new to error reply_is is on carries = subst (λ (x : Reply T). IsCallOf (call.ReceivedReset id) x old new) (sym reply_is) (at error)
+  pub reset_quiet : {T : Type 0} (id : StreamId) (r : Reply T) (old new : StateInner S) (to : Connection S) (error : Option ConnectionError) → r ≡ lost_or_pending error → new.connection ≡ to → CarriesOn old.connection to []
+      → ((e : Option ConnectionError) → TakesResetOf id.0 (lost_or_pending {T = T} e) old new) → IsCallOf (call.ReceivedReset id) r old new
+  reset_quiet {T} id r old new to error reply_is is carries called = subst (λ (x : Reply T). IsCallOf (call.ReceivedReset id) x old new) (sym reply_is) (at error)
     where
       at : (e : Option ConnectionError) → IsCallOf {T = T} (call.ReceivedReset id) (lost_or_pending e) old new
-      at None = called_quiet {T = T} (call.ReceivedReset id) reply.Pending old new to (λ h. h) (λ h. h) is on carries (λ b. refl)
-      at (Some e) = called_quiet {T = T} (call.ReceivedReset id) (reply.ConnectionLost e) old new to (λ h. h) (λ h. h) is on carries (λ b. refl)
+      at None = called_quiet {T = T} (call.ReceivedReset id) reply.Pending old new to (called None) (λ h. h) is carries (λ b. refl)
+      at (Some e) = called_quiet {T = T} (call.ReceivedReset id) (reply.ConnectionLost e) old new to (called (Some e)) (λ h. h) is carries (λ b. refl)
 
   -- streams that are the same leave the connection so
   pub same_by_streams : (old new : Connection S) → IsOnStreams old new → new.core.space.streams ≡ old.core.space.streams → new ≡ old
@@ -100,12 +93,13 @@ module _ {S : Type 0} where
 
   -- a read of no bytes gives none, and one that is refused or finds the end of a half that isn't read any more does nothing
   pub read_none : {T : Type 0} (id : StreamId) (max_length : ℕ) (is_ordered : Bool) (r other : Reply T) (none : Bool) (old new : StateInner S) → r ≡ (if none then reply.Bytes 0 [] else other) → new.connection ≡ old.connection
-      → ((b : Book) → Shows old b → call_acts {T = T} b (call.Read id max_length is_ordered) other ≡ []) → IsCallOf (call.Read id max_length is_ordered) r old new
-  read_none {T} id max_length is_ordered r other none old new is same nothing = subst (λ (x : Reply T). IsCallOf (call.Read id max_length is_ordered) x old new) (sym is) (at none)
+      → ((b : Book) → Shows old b → call_acts {T = T} b (call.Read id max_length is_ordered) other ≡ []) → ReadsOne id.0 max_length is_ordered r old new → IsCallOf (call.Read id max_length is_ordered) r old new
+  read_none {T} id max_length is_ordered r other none old new is same nothing called =
+      undone (call.Read id max_length is_ordered) r old new same (λ b shown. ap (λ (x : Reply T). call_acts b (call.Read id max_length is_ordered) x) is ∙ at none b shown) called
     where
-      at : (x : Bool) → IsCallOf {T = T} (call.Read id max_length is_ordered) (if x then reply.Bytes 0 [] else other) old new
-      at true = called_none {T = T} (call.Read id max_length is_ordered) (reply.Bytes 0 []) old new (λ h. h) same (λ b shown. refl)
-      at false = called_none {T = T} (call.Read id max_length is_ordered) other old new (λ h. h) same nothing
+      at : (x : Bool) (b : Book) → Shows old b → call_acts {T = T} b (call.Read id max_length is_ordered) (if x then reply.Bytes 0 [] else other) ≡ []
+      at true b shown = refl
+      at false b shown = nothing b shown
 
 -- ---- the page of a half
 

@@ -19,13 +19,13 @@ use Rattle.qh_half.specs.declared.fault.WriteFault.{WriteFault}
 use Rattle.qh_half.specs.declared.fault.WriteFault.TheVariants as write
 use Rattle.qh_half.specs.declared.send.SendState.{SendState}
 use Rattle.qh_halves.specs.SendHalves.{Finishes, IsStep, PlainSendHalves, finish_fault_at, half_finish_fault, send_at}
-use Rattle.qh_quinn.proofs.CallParts.{carries_as, same_on_streams, undone, woken_at}
-use Rattle.qh_quinn.proofs.Writes.{on_streams}
-use Rattle.qh_quinn.specs.Calls.{CallsOf, IsCallOf, IsOnStreams, IsSending, call_acts, finish_acts, finished_by}
+use Rattle.qh_quinn.proofs.CallParts.{carries_as, undone, woken_at}
+use Rattle.qh_quinn.specs.Calls.{CallsOf, IsCallOf, IsSending, call_acts, finish_acts, finished_by}
+use Rattle.qh_quinn.specs.Streaming.{IsRefusedAs, IsSendChange, WritesTo}
 use Rattle.qh_quinn.specs.declared.inner.StateInner.{StateInner}
 use Rattle.qh_shown.specs.Connections.{is_wanting}
 use Rattle.qh_spec.specs.Transcript.{Finished}
-use Rattle.qh_streams.specs.Streams.{PlainStreams, with_blocked}
+use Rattle.qh_streams.specs.Streams.{PlainStreams}
 
 -- ---- a stream is finished
 
@@ -72,13 +72,14 @@ finish_stopped peer s id code (inl u) = let z : finish.Stopped code ≡ finish.C
 finish_stopped peer s id code (inr u) = u.1
 
 module _ {S : Type 0} where
-  pub finished_calls : {T : Type 0} (id : StreamId) (old new : StateInner S) (to : Connection S) → HalfLaw → is_wanting old.connection ≡ false → new ≡ record old { connection = to; driver = None } → IsOnStreams old.connection to
-      → IsStep Finishes old.connection.core.space.streams.send to.core.space.streams.send id.0 0 → CarriesOn old.connection to (Finished id.0 ∷ []) → IsCallOf {T = T} (call.Finish id) reply.Done old new
-  finished_calls id old new to law calm is on step carries =
+  pub finished_calls : {T : Type 0} (id : StreamId) (old new : StateInner S) (to : Connection S) → HalfLaw → is_wanting old.connection ≡ false → new ≡ record old { connection = to; driver = None }
+      → IsSendChange Finishes id.0 0 old.connection to → CarriesOn old.connection to (Finished id.0 ∷ []) → IsCallOf {T = T} (call.Finish id) reply.Done old new
+  finished_calls id old new to law calm is change carries =
       woken_at (call.Finish id) reply.Done old new to is
       (λ b shown.
       carries_as old.connection to (finish_acts id.0 (live_send (b.sends id.0))) (Finished id.0 ∷ [])
-      (finish_made law old.connection.core.space.streams to.core.space.streams.send shown.notes b id (shown.shows.connection.live calm).streams step) carries) on
+      (finish_made law old.connection.core.space.streams to.core.space.streams.send shown.notes b id (shown.shows.connection.live calm).streams change.step) carries)
+      (inl change)
 
   pub needless_calls : {T : Type 0} (id : StreamId) (code : ℕ) (old new : StateInner S) → HalfLaw → is_wanting old.connection ≡ false → new.connection ≡ old.connection
       → ((is_some old.connection.handshake.peer ≡ false) × (finish.Stopped code ≡ finish.ClosedStream)) ⊎ ((is_some old.connection.handshake.peer ≡ true) × (finish_fault_at old.connection.core.space.streams.send id.0 ≡ Some (finish.Stopped code)))
@@ -87,7 +88,7 @@ module _ {S : Type 0} where
       undone (call.Finish id) reply.Done old new same
       (λ b shown.
       finish_needless law old.connection.core.space.streams shown.notes b id code (shown.shows.connection.live calm).streams (finish_stopped old.connection.handshake.peer old.connection.core.space.streams.send id.0 code fault))
-      (same_on_streams old.connection new.connection same)
+      (inr (record { code = code; stopped = finish_stopped old.connection.handshake.peer old.connection.core.space.streams.send id.0 code fault; same = same }))
 
 -- ---- a write is refused
 
@@ -111,14 +112,15 @@ module _ {S : Type 0} where
   same_core : (old new : Connection S) → new ≡ record old { core = new.core } → new.core ≡ old.core → new ≡ old
   same_core old new rest same = rest ∙ ap (λ (k : Inner S). record old { core = k }) same
 
-  refused_on_streams : (id : ℕ) (e : WriteFault) (old new : Connection S) → new ≡ record old { core = new.core } → RefusesWrite id e old new → IsOnStreams old new
-  refused_on_streams id e old new rest (inl u) = same_on_streams old new u.2
-  refused_on_streams id e old new rest (inr u) = at u.1
-    where
-      at : IsWriteRefused id e old.core new.core → IsOnStreams old new
-      at (IsWriteRefused.closed shut blocked same) = same_on_streams old new (same_core old new rest same)
-      at (IsWriteRefused.wanting up may memory same) = same_on_streams old new (same_core old new rest same)
-      at (IsWriteRefused.refused up fault core) = (on_streams old new (with_blocked old.core.space.streams id e) core rest).0
+  refused_as : (id : ℕ) (e : WriteFault) (old new : Connection S) → new ≡ record old { core = new.core } → RefusesWrite id e old new → IsRefusedAs e id old new
+  refused_as id e old new rest (inl u) = inl u
+  refused_as id e old new rest (inr u) = inr (u.1, rest)
+
+  writes_none : (T : Type 0) (id : ℕ) (payload : List ℕ) (e : WriteFault) (old new : Connection S) → (e ≡ write.Memory → ⊥) → IsRefusedAs e id old new → WritesTo {T = T} id payload (write_reply e) old new
+  writes_none T id payload write.Blocked old new isnt h = h
+  writes_none T id payload (write.Stopped code) old new isnt h = h
+  writes_none T id payload write.ClosedStream old new isnt h = h
+  writes_none T id payload write.Memory old new isnt h = absurd (isnt refl)
 
   wanting_same : (id : ℕ) (e : WriteFault) (old new : Connection S) → new ≡ record old { core = new.core } → e ≡ write.Memory → RefusesWrite id e old new → new ≡ old
   wanting_same id e old new rest memory (inl u) = u.2
@@ -129,15 +131,16 @@ module _ {S : Type 0} where
       at (IsWriteRefused.wanting up may wants same) = same
       at (IsWriteRefused.refused up fault same) = same
 
-  write_kept : {T : Type 0} (id : StreamId) (payload : List ℕ) (e : WriteFault) (old new : StateInner S) → IsOnStreams old.connection new.connection → CarriesOn old.connection new.connection [] → IsCallOf {T = T} (call.Write id payload) (write_reply e) old new
-  write_kept {T} id payload e old new streams carries = record {
+  write_kept : {T : Type 0} (id : StreamId) (payload : List ℕ) (e : WriteFault) (old new : StateInner S) → WritesTo {T = T} id.0 payload (write_reply e) old.connection new.connection → CarriesOn old.connection new.connection [] → IsCallOf {T = T} (call.Write id payload) (write_reply e) old new
+  write_kept {T} id payload e old new writes carries = record {
     carries = λ b shown. carries_as old.connection new.connection (call_acts {T = T} b (call.Write id payload) (write_reply e)) [] (no_write_acts T b id payload e) carries;
-    called = streams;
+    called = writes;
     wakes = λ sends. absurd (no_write_sent T id payload e sends);
   }
 
   pub write_calls : {T : Type 0} (id : StreamId) (payload : List ℕ) (e : WriteFault) (result : Result (Reply T) Memory) (old new : StateInner S) → new.connection ≡ record old.connection { core = new.connection.core } → RefusesWrite id.0 e old.connection new.connection
       → CarriesOn old.connection new.connection [] → MatchResult result (λ r. (r ≡ write_reply e) × (e ≡ write.Memory → ⊥)) (λ x. e ≡ write.Memory) → CallsOf (call.Write id payload) result old new
   write_calls {T} id payload e (Ok r) old new rest refused carries m =
-      subst (λ (x : Reply T). IsCallOf (call.Write id payload) x old new) (sym m.0) (write_kept id payload e old new (refused_on_streams id.0 e old.connection new.connection rest refused) carries)
+      subst (λ (x : Reply T). IsCallOf (call.Write id payload) x old new) (sym m.0)
+      (write_kept {T = T} id payload e old new (writes_none T id.0 payload e old.connection new.connection m.1 (refused_as id.0 e old.connection new.connection rest refused)) carries)
   write_calls id payload e (Err x) old new rest refused carries m = wanting_same id.0 e old.connection new.connection rest m refused

@@ -1,12 +1,13 @@
 -- A call that waits has a waker.
-use Rattle.std.proofs.Common.{◌≡◌, ◌⊎◌, ℕ, zero, suc, ◌<◌, Bool, true, List, [], ◌∷◌, ◌++◌, length, slice_set, Option, None, Some, refl, sym, subst, inl, inr, arith}
+use Rattle.std.proofs.Common.{◌≡◌, ◌⊎◌, ℕ, zero, suc, ◌<◌, Bool, true, List, [], ◌∷◌, ◌++◌, length, slice_set, Option, None, Some, refl, sym, ap, subst, ◌∙◌, inl, inr, arith}
+use Rattle.std.specs.Arc.{arc_value}
 use Rattle.std.specs.Prelude.{IsSomeAnd, slice_get}
-use Rattle.futures.specs.Task.{Wakes}
+use Rattle.futures.specs.Task.{Holds, Keeps, Lasting, Wakes}
 use Rattle.futures.specs.declared.task.context.Context.{Context}
 use Rattle.futures.specs.declared.task.waker.Waker.{Waker}
 use Rattle.qh_book.specs.Interests.{is_same}
 use Rattle.qh_book.specs.declared.interest.Interest.{Interest}
-use Rattle.qh_quinn.specs.Waiting.{HasWaker, IsHeard, interests_in}
+use Rattle.qh_quinn.specs.Waiting.{HasWaker, HearsDriver, IsHeard, interests_in}
 use Rattle.qh_quinn.specs.declared.waiting.Waiting.{Waiting}
 
 get_set : (ws : List Waiting) (at : ℕ) (w : Waiting) → at < length ws → slice_get (slice_set ws at w) at ≡ Some w
@@ -47,3 +48,15 @@ heard_at old new at i before after same is (inr has) = let f = found_both old ne
 pub last_is : (ws : List Waiting) (w : Waiting) (i : Interest) → is_same w.interest i ≡ true → IsSomeAnd (slice_get (ws ++ w ∷ []) (length ws)) (λ v. is_same v.interest i ≡ true)
 last_is [] w i same = same
 last_is (v ∷ ws) w i same = last_is ws w i same
+
+-- a waker of the task is of the task as it was polled first
+still_wakes : (old mid : Context) → Keeps old mid → (k : Waker) → Wakes k mid → Wakes k old
+unfolding Holds
+still_wakes old mid keeps k wakes =
+    let same = keeps (Lasting.same_task old) refl in
+    (wakes.0 ∙ sym (ap (λ (cx : Context). cx.turn.task) same), wakes.1 ∙ sym (ap (λ (cx : Context). (arc_value cx.route.now).origin) same))
+
+pub hears_still : (driver : Option Waker) (old mid new : Context) → Keeps old mid → HearsDriver driver mid new → HearsDriver driver old new
+hears_still driver old mid new keeps (inl none) = inl none
+hears_still None old mid new keeps (inr has) = absurd has
+hears_still (Some k) old mid new keeps (inr has) = inr (still_wakes old mid keeps k has)

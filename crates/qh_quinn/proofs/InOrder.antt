@@ -8,14 +8,16 @@ use Rattle.qh_conn.specs.Telling.{IsDueAt, IsFirstDue}
 use Rattle.qh_conn.specs.Whole.{CarriesOnBy}
 use Rattle.qh_conn.specs.declared.connection.Connection.{Connection}
 use Rattle.qh_conn.specs.declared.event.ConnectionEvent.{ConnectionEvent}
-use Rattle.qh_core.specs.Made.{AcceptsTags, MakesTagsOf}
 use Rattle.qh_handles.specs.Turns.{AreReady, IsFull}
 use Rattle.qh_handles.specs.declared.at.DriverPart.{DriverPart}
+use Rattle.qh_handshake.specs.Incoming.{SessionView}
 use Rattle.qh_quinn.proofs.Bringing.{Both, brings_then}
-use Rattle.qh_quinn.proofs.Handling.{carries_none, carries_then}
-use Rattle.qh_quinn.specs.Turning.{AreLawful, HasSameCalls, IsAdvanced, IsBroughtBy, IsHandled, IsInOrder, IsSending, IsShown, IsTimedAt, acts_of_all, made_all, waiting_out, waits_in}
+use Rattle.qh_quinn.proofs.Handling.{carries_then}
+use Rattle.qh_quinn.proofs.SendingOn.{filled_by}
+use Rattle.qh_quinn.specs.Turning.{AreHandled, HasSameCalls, IsAdvanced, IsBroughtBy, IsFilled, IsHandled, IsInOrder, IsSending, IsShown, IsTimedAt, acts_of_all, made_all, waiting_out, waits_in}
 use Rattle.qh_quinn.specs.declared.inner.StateInner.{StateInner}
 use Rattle.qh_runtime.specs.declared.runtime.IoFault.{IoFault}
+use Rattle.qh_runtime.specs.declared.runtime.IoFault.TheVariants as faults
 use Rattle.qh_runtime.specs.declared.runtime.OutMessage.{OutMessage}
 use Rattle.qh_shown.specs.Brings.{IsLogging}
 
@@ -75,34 +77,35 @@ module _ {S : Type 0} where
   logs_on (Err e) old new brought logging = tt
 
   -- all events were handed over, and what was due was done
-  timely : Both S → (accepts : AcceptsTags S) (sealed : MakesTagsOf S) (a b c : StateInner S) → IsHandled accepts sealed (Ok tt) a b → IsShown a.connection → IsHandled accepts sealed (Ok tt) b c → c.events ≡ b.events
-      → (h : IsHandled accepts sealed (Ok tt) a c) × (AreLawful accepts sealed → CarriesOnBy accepts sealed a.connection b.connection (acts_of_all h.handed))
-  timely law accepts sealed a b c x shown y events =
+  timely : Both S → (v : SessionView S) (a b c : StateInner S) (x : IsHandled v.accepts v.sealed (Ok tt) a b) → AreHandled v x.handed a.connection b.connection → IsShown a.connection → IsHandled v.accepts v.sealed (Ok tt) b c → c.events ≡ b.events
+      → (h : IsHandled v.accepts v.sealed (Ok tt) a c) × AreHandled v h.handed a.connection b.connection
+  timely law v a b c x hands shown y events =
       let same : c.events.items ≡ b.events.items = ap (λ z. z.items) events in
       let none : y.handed ≡ [] = none_handed y.handed b.events.items (y.events ∙ ap (λ (l : List ConnectionEvent). y.handed ++ l) same) in
-      let h : IsHandled accepts sealed (Ok tt) a c = record {
+      let h : IsHandled v.accepts v.sealed (Ok tt) a c = record {
         same = y.same ∙ ap (λ (z : StateInner S). record z { connection = c.connection; events = c.events }) x.same;
         whole = y.whole;
         handed = x.handed;
         events = x.events ∙ ap (λ (l : List ConnectionEvent). x.handed ++ l) (sym same);
         carries = λ lawful.
-            carries_then accepts sealed a.connection b.connection c.connection (acts_of_all x.handed) [] (acts_of_all x.handed) (x.carries lawful)
-            (subst (λ (l : List ConnectionEvent). CarriesOnBy accepts sealed b.connection c.connection (acts_of_all l)) none (y.carries lawful)) (sym (append-nil (acts_of_all x.handed)));
+            carries_then v.accepts v.sealed a.connection b.connection c.connection (acts_of_all x.handed) [] (acts_of_all x.handed) (x.carries lawful)
+            (subst (λ (l : List ConnectionEvent). CarriesOnBy v.accepts v.sealed b.connection c.connection (acts_of_all l)) none (y.carries lawful)) (sym (append-nil (acts_of_all x.handed)));
         brings = brings_then law (Ok tt) a.connection b.connection c.connection x.brings shown y.brings;
         ended = λ shut. y.ended (x.ended shut);
       } in
-      (h, x.carries)
+      (h, hands)
 
   same_calls : (old new to : StateInner S) → new ≡ to → HasSameCalls old to → HasSameCalls old new
   same_calls old new to is h = subst (λ (z : StateInner S). HasSameCalls old z) (sym is) h
 
   -- nothing was sent then
-  pub in_order_none : Both S → (accepts : AcceptsTags S) (sealed : MakesTagsOf S) (now : Moment) (a b c : StateInner S) → IsHandled accepts sealed (Ok tt) a b → IsShown a.connection → IsHandled accepts sealed (Ok tt) b c → c.events ≡ b.events
-      → b.events.items ≡ [] → IsTimedAt now b.connection c.connection → (h : IsAdvanced accepts sealed (Ok tt) a c []) × (h.made ≡ []) × IsInOrder accepts sealed now h.handed h.made a.connection c.connection
-  in_order_none law accepts sealed now a b c x shown y events all timed =
-      let t = timely law accepts sealed a b c x shown y events in
+  pub in_order_none : Both S → (v : SessionView S) (now : Moment) (a b c : StateInner S) (x : IsHandled v.accepts v.sealed (Ok tt) a b) → AreHandled v x.handed a.connection b.connection → IsShown a.connection
+      → IsHandled v.accepts v.sealed (Ok tt) b c → c.events ≡ b.events → b.events.items ≡ [] → IsTimedAt now b.connection c.connection
+      → (h : IsAdvanced v.accepts v.sealed (Ok tt) a c []) × (h.made ≡ []) × IsInOrder v now h.handed h.made a.connection c.connection
+  in_order_none law v now a b c x hands shown y events all timed =
+      let t = timely law v a b c x hands shown y events in
       let k = t.0 in
-      let h : IsAdvanced accepts sealed (Ok tt) a c [] = record {
+      let h : IsAdvanced v.accepts v.sealed (Ok tt) a c [] = record {
         same = same_calls a c (record a { connection = c.connection; events = c.events }) k.same refl;
         last_turn = ap (λ (z : StateInner S). z.last_turn) k.same;
         whole = k.whole;
@@ -110,32 +113,26 @@ module _ {S : Type 0} where
         made = [];
         events = k.events;
         all = λ other. ap (λ z. z.items) events ∙ all;
-        carries = λ lawful. subst (λ acts. CarriesOnBy accepts sealed a.connection c.connection acts) (sym (append-nil (acts_of_all k.handed))) (k.carries lawful);
+        carries = λ lawful. subst (λ acts. CarriesOnBy v.accepts v.sealed a.connection c.connection acts) (sym (append-nil (acts_of_all k.handed))) (k.carries lawful);
         brings = k.brings;
         ended = k.ended;
         order = append-nil (waits_in a) ∙ sym (ap (λ (z : StateInner S). waits_in z) k.same);
       } in (
         h,
         refl,
-        record {
-          told = b.connection;
-          hands = t.1;
-          brings = x.brings;
-          timed = c.connection;
-          times = timed;
-          makes = λ lawful. carries_none accepts sealed c.connection c.connection (λ hello acts stood. stood);
-        },
+        record { told = b.connection; hands = t.1; timed = c.connection; times = timed; fills = filled_by v.sealed now [] c.connection c.connection refl },
       )
 
   -- and then it was sent
-  pub in_order_sent : Both S → (accepts : AcceptsTags S) (sealed : MakesTagsOf S) (now : Moment) (answer : Result (Unit {0}) IoFault) (a b c d : StateInner S) (out : List OutMessage) → IsHandled accepts sealed (Ok tt) a b → IsShown a.connection
-      → IsHandled accepts sealed (Ok tt) b c → c.events ≡ b.events → b.events.items ≡ [] → IsTimedAt now b.connection c.connection → IsSending accepts sealed answer c d out
-      → (h : IsAdvanced accepts sealed answer a d out) × IsInOrder accepts sealed now h.handed h.made a.connection d.connection
-  in_order_sent law accepts sealed now answer a b c d out x shown y events all timed z =
-      let t = timely law accepts sealed a b c x shown y events in
+  pub in_order_sent : Both S → (v : SessionView S) (now : Moment) (answer : Result (Unit {0}) IoFault) (a b c d : StateInner S) (out : List OutMessage) (x : IsHandled v.accepts v.sealed (Ok tt) a b)
+      → AreHandled v x.handed a.connection b.connection → IsShown a.connection → IsHandled v.accepts v.sealed (Ok tt) b c → c.events ≡ b.events → b.events.items ≡ [] → IsTimedAt now b.connection c.connection
+      → (z : IsSending v.accepts v.sealed answer c d out) → ((answer ≡ Err faults.Memory → ⊥) → IsFilled v.sealed now z.made c.connection d.connection)
+      → (h : IsAdvanced v.accepts v.sealed answer a d out) × ((answer ≡ Err faults.Memory → ⊥) → IsInOrder v now h.handed h.made a.connection d.connection)
+  in_order_sent law v now answer a b c d out x hands shown y events all timed z fills =
+      let t = timely law v a b c x hands shown y events in
       let k = t.0 in
       let kept : d.events.items ≡ c.events.items = ap (λ (s : StateInner S). s.events.items) z.same in
-      let h : IsAdvanced accepts sealed answer a d out = record {
+      let h : IsAdvanced v.accepts v.sealed answer a d out = record {
         same = same_calls a d (record a { connection = d.connection; events = c.events; outgoing = d.outgoing; send_buffer = d.send_buffer })
             (z.same ∙ ap (λ (s : StateInner S). record s { connection = d.connection; outgoing = d.outgoing; send_buffer = d.send_buffer }) k.same) refl;
         last_turn = ap (λ (s : StateInner S). s.last_turn) z.same ∙ ap (λ (s : StateInner S). s.last_turn) k.same;
@@ -145,18 +142,11 @@ module _ {S : Type 0} where
         events = k.events ∙ ap (λ (l : List ConnectionEvent). k.handed ++ l) (sym kept);
         all = λ other. kept ∙ ap (λ s. s.items) events ∙ all;
         carries = λ lawful.
-            carries_then accepts sealed a.connection c.connection d.connection (acts_of_all k.handed) (made_all z.made) (acts_of_all k.handed ++ made_all z.made) (k.carries lawful) (z.carries lawful) refl;
+            carries_then v.accepts v.sealed a.connection c.connection d.connection (acts_of_all k.handed) (made_all z.made) (acts_of_all k.handed ++ made_all z.made) (k.carries lawful) (z.carries lawful) refl;
         brings = brings_then law answer a.connection c.connection d.connection k.brings shown z.brings;
         ended = λ shut. z.ended (k.ended shut);
         order = ap (λ (l : List OutMessage). l ++ z.made) (sym (ap (λ (s : StateInner S). waits_in s) k.same)) ∙ z.order;
       } in (
         h,
-        record {
-          told = b.connection;
-          hands = t.1;
-          brings = x.brings;
-          timed = c.connection;
-          times = timed;
-          makes = z.carries;
-        },
+        λ isnt. record { told = b.connection; hands = t.1; timed = c.connection; times = timed; fills = fills isnt },
       )

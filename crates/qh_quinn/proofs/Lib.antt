@@ -11,6 +11,7 @@ pub mod CallReads
 mod CallRecvEnds
 mod CallSends
 pub mod CallStops
+mod CallStreams
 mod Closes
 mod Counting
 mod DatagramCalls

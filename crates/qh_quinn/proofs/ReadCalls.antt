@@ -1,5 +1,5 @@
 -- Reads of the connection, as the state makes them.
-use Rattle.std.proofs.Common.{◌≡◌, ◌⊎◌, ℕ, ◌<◌, Bool, true, false, ◌||◌, Option, Some, None, is_some, refl, sym, ◌∙◌, inl, inr, subst, arith}
+use Rattle.std.proofs.Common.{◌≡◌, ◌⊎◌, ℕ, ◌<◌, Bool, true, false, ◌||◌, Option, Some, None, is_some, refl, sym, ap, ◌∙◌, inl, inr, subst, arith}
 use Rattle.std.proofs.lemmas.Bool.{false≢true}
 use Rattle.qh_book.specs.Book.{Book}
 use Rattle.qh_book.specs.Pages.{RecvPage, is_open}
@@ -9,7 +9,7 @@ use Rattle.qh_halves.specs.RecvHalves.{Begins, IsRecvStep, PlainRecvHalves, is_c
 use Rattle.qh_quinn.proofs.Moving.{greeted_by}
 use Rattle.qh_quinn.proofs.ReadSteps.{not_closed, not_closed_at}
 use Rattle.qh_quinn.proofs.Recvs.{IsOpenHalf, holder, lost_open, read_at}
-use Rattle.qh_quinn.specs.Readers.{reader_in}
+use Rattle.qh_quinn.specs.Readers.{code_of, reader_in}
 use Rattle.qh_quinn.specs.States.{IsState, ShowsWith}
 use Rattle.qh_quinn.specs.declared.readers.Reader.{Reader}
 use Rattle.qh_quinn.specs.declared.inner.StateInner.{StateInner}
@@ -49,6 +49,12 @@ module _ {S : Type 0} (s : StateInner S) (id : ℕ) (reader : Reader) (state : I
 
   pub never_closed_at : is_wanting s.connection ≡ false → reader.is_open ≡ true → is_closed_at s.connection.core.space.streams.recv id ≡ true → ⊥
   never_closed_at calm opened closed = not_closed_at s.connection.core.space.streams id _ _ (half_if_held calm opened) closed
+
+  -- nor is the code of its reset known
+  pub code_unknown : is_wanting s.connection ≡ false → reader.is_open ≡ true → reader.code ≡ None
+  code_unknown calm opened =
+      let h = holder state.shown.notes s state.book id reader state.shown.shows there in
+      ap (λ (w : Bool). code_of w reader) (sym calm) ∙ sym (ap (λ (n : Note). n.code) h.note_is) ∙ (half_if_held calm opened).noted.none
 
   -- one whose code is known isn't read
   pub known_shut : (notes : ℕ → Note) (b : Book) (p : RecvPage) (code : ℕ) → ShowsWith notes s b → b.recvs id ≡ Some p → (notes id).code ≡ Some code → is_open p.state ≡ false

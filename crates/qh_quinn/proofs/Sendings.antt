@@ -15,7 +15,7 @@ use Rattle.qh_handshake.specs.Outgoing.{IsCloseUnsent}
 use Rattle.qh_handshake.specs.declared.handshake.Handshake.{Handshake}
 use Rattle.qh_packet.specs.Session.{SealsTag}
 use Rattle.qh_quinn.proofs.Handling.{carries_none}
-use Rattle.qh_quinn.specs.Turning.{AreLawful, HasMadeNone, IsBrought, IsBroughtBy, IsEnded, IsSending, ended, made_all, some, waiting_out, waits_in, wanting}
+use Rattle.qh_quinn.specs.Turning.{AreLawful, AreMade, HasMadeNone, IsBrought, IsBroughtBy, IsEnded, IsFilled, IsSending, ended, made_all, some, waiting_out, waits_in, wanting}
 use Rattle.qh_quinn.specs.declared.inner.StateInner.{StateInner}
 use Rattle.qh_runtime.specs.Socket.{with_sent}
 use Rattle.qh_runtime.specs.declared.runtime.IoFault.{IoFault}
@@ -49,6 +49,11 @@ made_is : (before bytes : List ℕ) (o : Option Transmit) → before ≡ [] → 
 made_is before bytes None none = refl
 made_is before bytes (Some t) none = rw none refl
 
+-- an error is no answer
+pub never_made : {T : Type 0} {E : Type 0} {goal : Type 0} {x : T} (r : Result T E) → IsErr r → r ≡ Ok x → goal
+never_made (Ok y) err is = absurd (false≢true err)
+never_made (Err e) err is = cc
+
 same_peer : (old new : Handshake) → IsCloseUnsent old new → new.peer ≡ old.peer
 same_peer old new (IsCloseUnsent.same is) = ap (λ (z : Handshake). z.peer) is
 same_peer old new (IsCloseUnsent.used space has unlimited fits is) = ap (λ (z : Handshake). z.peer) is
@@ -73,6 +78,18 @@ module _ {S : Type 0} where
       at false shut true is = ends (inr is)
       at false shut false is = let k = closing shut is in some (record { items = []; brings = closings old new k.1 (same_peer old.handshake new.handshake k.0) })
 
+  -- the datagram that was made
+  made_one : (sealed : MakesTagsOf S) (now : Moment) (old new : Connection S) (before bytes : List ℕ) (o : Option Transmit) → before ≡ [] → IfSome o (λ t. IsTransmitted (sealed old.core.session) now old new before bytes t) → is_some o ≡ true
+      → AreMade sealed now (waiting_out o bytes) old new
+  made_one sealed now old new before bytes None cleared sent is = absurd (false≢true is)
+  made_one sealed now old new before bytes (Some t) cleared sent is = (new, subst (λ (l : List ℕ). IsTransmitted (sealed old.core.session) now old new l bytes t) cleared sent, refl)
+
+  -- or there was nothing to be sent
+  filled_one : (sealed : MakesTagsOf S) (now : Moment) (old new : Connection S) (before bytes : List ℕ) (o : Option Transmit) → before ≡ [] → IfSome o (λ t. IsTransmitted (sealed old.core.session) now old new before bytes t)
+      → (o ≡ None → IsSilent old × IsStill old new) → IsFilled sealed now (waiting_out o bytes) old new
+  filled_one sealed now old new before bytes None cleared sent none = record { filled = old; makes = refl; ends = inr (none refl) }
+  filled_one sealed now old new before bytes (Some t) cleared sent none = record { filled = new; makes = made_one sealed now old new before bytes (Some t) cleared sent refl; ends = inl refl }
+
 -- the call that wasn't done
 pub any_ended : {T : Type 0} {S : Type 0} (r : Result T OutOfMemory) (old new : Connection S) → IsErr r → IsBrought old new → IsBroughtBy (ended r) old new
 any_ended (Ok x) old new is h = absurd (false≢true is)
@@ -80,8 +97,8 @@ any_ended (Err e) old new is h = h
 
 module _ {S : Type 0} (accepts : AcceptsTags S) (sealed : MakesTagsOf S) where
   -- one waits already
-  pub sending_still : (s : StateInner S) → IsWhole s.connection → BringsSome s.connection s.connection → IsSending accepts sealed (Ok tt) s s []
-  sending_still s whole brings = record {
+  pub sending_still : (s : StateInner S) → IsWhole s.connection → BringsSome s.connection s.connection → (now : Moment) → (h : IsSending accepts sealed (Ok tt) s s []) × AreMade sealed now h.made s.connection s.connection
+  sending_still s whole brings now = let h : IsSending accepts sealed (Ok tt) s s [] = record {
     same = refl;
     whole = whole;
     made = [];
@@ -89,7 +106,7 @@ module _ {S : Type 0} (accepts : AcceptsTags S) (sealed : MakesTagsOf S) where
     brings = brings;
     ended = λ shut. shut;
     order = append-nil (waits_in s);
-  }
+  } in (h, refl)
 
   -- none is made for want of memory
   pub sending_none : (answer : Result (Unit {0}) IoFault) (old new : StateInner S) → new ≡ record old { connection = new.connection; outgoing = new.outgoing; send_buffer = new.send_buffer } → new.outgoing ≡ old.outgoing → is_some old.outgoing ≡ false
@@ -106,10 +123,12 @@ module _ {S : Type 0} (accepts : AcceptsTags S) (sealed : MakesTagsOf S) where
   }
 
   -- one is made, if there is anything to be sent
-  pub sending_made : (old new : StateInner S) (before : List ℕ) → new ≡ record old { connection = new.connection; outgoing = new.outgoing; send_buffer = new.send_buffer } → is_some old.outgoing ≡ false → before ≡ []
+  pub sending_made : (now : Moment) (old new : StateInner S) (before : List ℕ) → new ≡ record old { connection = new.connection; outgoing = new.outgoing; send_buffer = new.send_buffer } → is_some old.outgoing ≡ false → before ≡ []
       → IsWhole new.connection → (AreLawful accepts sealed → CarriesOnBy accepts sealed old.connection new.connection (made_acts before new.send_buffer.items (Ok new.outgoing))) → BringsSome old.connection new.connection
-      → IsEnded old.connection new.connection → IsSending accepts sealed (Ok tt) old new []
-  sending_made old new before same none cleared whole carries brings ends = record {
+      → IsEnded old.connection new.connection → IfSome new.outgoing (λ t. IsTransmitted (sealed old.connection.core.session) now old.connection new.connection before new.send_buffer.items t)
+      → (new.outgoing ≡ None → IsSilent old.connection × IsStill old.connection new.connection)
+      → (h : IsSending accepts sealed (Ok tt) old new []) × (is_some new.outgoing ≡ true → AreMade sealed now h.made old.connection new.connection) × IsFilled sealed now h.made old.connection new.connection
+  sending_made now old new before same none cleared whole carries brings ends sent silent = let h : IsSending accepts sealed (Ok tt) old new [] = record {
     same = same;
     whole = whole;
     made = waits_in new;
@@ -117,7 +136,11 @@ module _ {S : Type 0} (accepts : AcceptsTags S) (sealed : MakesTagsOf S) where
     brings = brings;
     ended = ends;
     order = ap (λ (z : List OutMessage). z ++ waits_in new) (none_waits old.outgoing old.send_buffer.items none);
-  }
+  } in (
+    h,
+    made_one sealed now old.connection new.connection before new.send_buffer.items new.outgoing cleared sent,
+    filled_one sealed now old.connection new.connection before new.send_buffer.items new.outgoing cleared sent silent,
+  )
 
 -- there was nothing to be sent
 pub made_none : {S : Type 0} (s : StateInner S) (before : Connection S) → is_some s.outgoing ≡ false → (s.outgoing ≡ None → IsSilent before × IsStill before s.connection) → HasMadeNone s

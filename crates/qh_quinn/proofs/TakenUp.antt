@@ -3,12 +3,15 @@ use Rattle.std.proofs.Common.{◌≡◌, ◌⊎◌, ◌≢◌, Bool, true, false
 use Rattle.std.specs.List.{list_any}
 use Rattle.std.proofs.lemmas.Bool.{false≢true}
 use Rattle.qh_base.specs.declared.connection_error.ConnectionError.TheVariants as error
+use Rattle.qh_base.specs.declared.time.Moment.{Moment}
 use Rattle.qh_base.specs.declared.transport_error.TransportError.{TransportError}
 use Rattle.qh_book.specs.Interests.{is_same}
 use Rattle.qh_conn.specs.Whole.{IsWhole, StandsStill}
 use Rattle.qh_conn.specs.declared.connection.Connection.{Connection}
 use Rattle.qh_core.specs.Event.{is_drained}
 use Rattle.qh_core.specs.Inner.{is_open}
+use Rattle.qh_core.specs.Receiving.{IsFaulted}
+use Rattle.qh_core.specs.declared.inner.Inner.{Inner}
 use Rattle.qh_core.specs.declared.state.State.{State as CoreState}
 use Rattle.qh_core.specs.declared.state.State.TheVariants as core_state
 use Rattle.qh_quinn.proofs.Bringing.{Both}
@@ -16,7 +19,7 @@ use Rattle.qh_quinn.proofs.Tellings.{Tells, told_stands, told_state}
 use Rattle.qh_quinn.proofs.TurnStates.{IsNews, IsToldOn, Leads, failed_leads, kept_leads, led_state, reason_leads, reason_lost}
 use Rattle.qh_quinn.specs.States.{IsState}
 use Rattle.qh_quinn.specs.Telling.{AreTold}
-use Rattle.qh_quinn.specs.Turning.{HasSameCalls, IsBrought, IsBroughtBy, IsEnded, IsTakenUp}
+use Rattle.qh_quinn.specs.Turning.{HasSameCalls, IsBrought, IsBroughtBy, IsEnded, IsErrorKept, IsHeeded, IsTakenUp}
 use Rattle.qh_quinn.specs.Waiting.{interests_in, is_among}
 use Rattle.qh_quinn.specs.declared.inner.StateInner.{StateInner}
 use Rattle.qh_runtime.specs.Socket.{has_failed}
@@ -61,7 +64,7 @@ unfailed (Ok done) isnt = refl
 -- which error is kept, of those of the state and of its connection
 abbrev pub KeepsLoss : {S : Type 0} → (has_failed was_emptied : Bool) → (old new : StateInner S) → Type 0
 KeepsLoss has_failed was_emptied old new =
-    (has_failed ≡ true → (e : TransportError) × (new.error ≡ Some (error.TransportError e)) × (e.code.0 ≡ codes.internal_error))
+    (has_failed ≡ true → new.error ≡ old.connection.core.error)
     × (has_failed ≡ false → ((new.error ≡ old.connection.core.error) × ((old.error ≡ None) ⊎ ((was_emptied ≡ false) × (is_wanting old.connection ≡ true))))
     ⊎ ((new.error ≡ old.error) × (is_some old.error ≡ true) × ((was_emptied ≡ true) ⊎ (is_wanting old.connection ≡ false))))
 
@@ -151,11 +154,12 @@ module _ {S : Type 0} where
   -- ---- a turn that ended so
 
   -- the socket may have failed: then the datagram that waited is dropped, and the connection is lost by it, unless it was drained
-  pub record IsHeeded (sent done : Result (Unit {0}) IoFault) (old mid : StateInner S) : Type 0 where
+  pub record HasHeeded (now : Moment) (sent done : Result (Unit {0}) IoFault) (old mid : StateInner S) : Type 0 where
     pub other : sent ≢ Err faults.Failed → (done ≡ sent) × (mid ≡ old)
     pub drained : sent ≡ Err faults.Failed → is_drained old.connection.core.state ≡ true → (done ≡ Ok tt) × (mid ≡ record old { outgoing = None })
     pub failed : sent ≡ Err faults.Failed → is_drained old.connection.core.state ≡ false
         → (done ≡ sent) × (is_open mid.connection.core.state ≡ false) × (mid ≡ record old { outgoing = None; connection = record old.connection { core = mid.connection.core } })
+    pub faulted : sent ≡ Err faults.Failed → is_drained old.connection.core.state ≡ false → (e : TransportError) × IsFaulted now e old.connection.core mid.connection.core × (e.code.0 ≡ codes.internal_error)
     pub brings : sent ≡ Err faults.Failed → is_drained old.connection.core.state ≡ false → Brings [] old.connection mid.connection
 
   -- the socket failed, or the connection went on and it didn't
@@ -163,9 +167,10 @@ module _ {S : Type 0} where
     same : HasSameCalls first mid
     how : ((done ≡ Err faults.Failed) × BringsSome first.connection mid.connection × (is_open mid.connection.core.state ≡ false))
         ⊎ ((done ≢ Err faults.Failed) × IsBrought first.connection mid.connection × IsEnded first.connection mid.connection)
+    fault : done ≡ Err faults.Failed → (e : TransportError) × (mid.connection.core.error ≡ Some (error.TransportError e)) × (e.code.0 ≡ codes.internal_error)
 
-  went : Both S → (sent done : Result (Unit {0}) IoFault) (first old mid : StateInner S) → HasSameCalls first old → IsBroughtBy sent first.connection old.connection → IsEnded first.connection old.connection → IsHeeded sent done old mid → Went done first mid
-  went both sent done first old mid same brought ended heeded = at (has_failed sent) refl
+  went : Both S → (now : Moment) (sent done : Result (Unit {0}) IoFault) (first old mid : StateInner S) → HasSameCalls first old → IsBroughtBy sent first.connection old.connection → IsEnded first.connection old.connection → HasHeeded now sent done old mid → Went done first mid
+  went both now sent done first old mid same brought ended heeded = at (has_failed sent) refl
     where
       failing : sent ≡ Err faults.Failed → (drained : Bool) → is_drained old.connection.core.state ≡ drained → Went done first mid
       failing is true drained =
@@ -177,6 +182,7 @@ module _ {S : Type 0} where
               subst (λ (z : StateInner S). IsBrought first.connection z.connection) (sym h.1) (brought_by sent first.connection old.connection brought),
               subst (λ (z : StateInner S). IsEnded first.connection z.connection) (sym h.1) ended,
             );
+            fault = λ e. absurd (false≢true (ap has_failed (sym h.0 ∙ e)));
           }
       failing is false lives =
           let h = heeded.failed is lives in
@@ -187,6 +193,7 @@ module _ {S : Type 0} where
               both first.connection old.connection mid.connection (some_by sent first.connection old.connection is brought) (record { items = []; brings = heeded.brings is lives }),
               h.1,
             );
+            fault = λ e. let f = heeded.faulted is lives in (f.0, ap (λ (z : Inner S). z.error) f.1.closed.rest_is, f.2);
           }
 
       at : (failed : Bool) → has_failed sent ≡ failed → Went done first mid
@@ -201,6 +208,7 @@ module _ {S : Type 0} where
               subst (λ (z : StateInner S). IsBrought first.connection z.connection) (sym h.1) (brought_by sent first.connection old.connection brought),
               subst (λ (z : StateInner S). IsEnded first.connection z.connection) (sym h.1) ended,
             );
+            fault = λ e. absurd (isnt (sym h.0 ∙ e));
           }
 
   -- what was due was told, and the error is kept
@@ -215,12 +223,12 @@ module _ {S : Type 0} where
     pub loss : KeepsLoss failed was_emptied told new
     pub kept : new ≡ record told { error = new.error }
 
-  pub taken_up : Tells S → Both S → (sent done : Result (Unit {0}) IoFault) (first old mid told new : StateInner S) (failed was_emptied : Bool) → IsState first → HasSameCalls first old → IsBroughtBy sent first.connection old.connection
-      → IsEnded first.connection old.connection → was_emptied ≡ is_wanting first.connection → IsHeeded sent done old mid → failed ≡ has_failed done → IsKnown failed was_emptied mid told new → IsTakenUp done first new
-  taken_up law both sent done first old mid told new failed was_emptied state same brought ended was heeded flag known = at w.how
+  pub taken_up : Tells S → Both S → (now : Moment) (sent done : Result (Unit {0}) IoFault) (first old mid told new : StateInner S) (failed was_emptied : Bool) → IsState first → HasSameCalls first old → IsBroughtBy sent first.connection old.connection
+      → IsEnded first.connection old.connection → was_emptied ≡ is_wanting first.connection → HasHeeded now sent done old mid → failed ≡ has_failed done → IsKnown failed was_emptied mid told new → IsTakenUp done first new
+  taken_up law both now sent done first old mid told new failed was_emptied state same brought ended was heeded flag known = at w.how
     where
       w : Went done first mid
-      w = went both sent done first old mid same brought ended heeded
+      w = went both now sent done first old mid same brought ended heeded
 
       on : IsToldOn first mid.connection new
       on = told_on first mid told new w.same known.tells known.whole known.due known.waiting known.rest known.kept known.lives known.lost
@@ -228,16 +236,19 @@ module _ {S : Type 0} where
       at : ((done ≡ Err faults.Failed) × BringsSome first.connection mid.connection × (is_open mid.connection.core.state ≡ false))
           ⊎ ((done ≢ Err faults.Failed) × IsBrought first.connection mid.connection × IsEnded first.connection mid.connection) → IsTakenUp done first new
       at (inl h) =
-          let e = known.loss.0 (flag ∙ ap has_failed h.0) in
-          taken_failed law done first new mid.connection e.0 state h.1 on h.2 e.1 e.2
+          let e = w.fault h.0 in
+          let kept : new.error ≡ Some (error.TransportError e.0) =
+          known.loss.0 (flag ∙ ap has_failed h.0) ∙ (told_state mid.is_connected mid.connection told.is_connected told.connection known.tells).1 ∙ e.1
+          in
+          taken_failed law done first new mid.connection e.0 state h.1 on h.2 kept e.2
       at (inr h) =
           taken_on law done first told new mid.connection was_emptied state h.0 h.1 h.2 on was (ap (λ (z : StateInner S). z.error) known.rest ∙ ap (λ (z : StateInner S). z.error) w.same) (ap (λ (z : StateInner S). z.connection) known.kept)
           (known.loss.1 (flag ∙ unfailed done h.0))
 
-  pub failed_out : (sent done : Result (Unit {0}) IoFault) (old mid told new : StateInner S) → IsHeeded sent done old mid → AreTold mid.is_connected mid.connection told.is_connected told.connection
+  pub failed_out : (now : Moment) (sent done : Result (Unit {0}) IoFault) (old mid told new : StateInner S) → HasHeeded now sent done old mid → AreTold mid.is_connected mid.connection told.is_connected told.connection
       → told ≡ record mid { connection = told.connection; is_connected = told.is_connected; waiting = told.waiting } → new ≡ record told { error = new.error } → sent ≡ Err faults.Failed
       → (new.outgoing ≡ None) × ((done ≡ sent) ⊎ ((done ≡ Ok tt) × (is_drained new.connection.core.state ≡ true)))
-  failed_out sent done old mid told new heeded tells rest kept is = at (is_drained old.connection.core.state) refl
+  failed_out now sent done old mid told new heeded tells rest kept is = at (is_drained old.connection.core.state) refl
     where
       out : mid.outgoing ≡ None → new.outgoing ≡ None
       out none = ap (λ (z : StateInner S). z.outgoing) kept ∙ ap (λ (z : StateInner S). z.outgoing) rest ∙ none
@@ -252,6 +263,85 @@ module _ {S : Type 0} where
       at false lives =
           let h = heeded.failed is lives in
           (out (ap (λ (z : StateInner S). z.outgoing) h.2), inl h.0)
+
+  -- ---- what is said of the connection and of its error
+
+  -- what heeding leaves of the state and of its connection, whether the socket failed or not
+  record Heeds (now : Moment) (done : Result (Unit {0}) IoFault) (old mid : StateInner S) : Type 0 where
+    is_connected : mid.is_connected ≡ old.is_connected
+    kept : mid.error ≡ old.error
+    fails : has_failed done ≡ true → (e : TransportError) × IsFaulted now e old.connection.core mid.connection.core × (mid.connection ≡ record old.connection { core = mid.connection.core }) × (e.code.0 ≡ codes.internal_error)
+    other : has_failed done ≡ false → mid.connection ≡ old.connection
+
+  heeds : (now : Moment) (sent done : Result (Unit {0}) IoFault) (old mid : StateInner S) → HasHeeded now sent done old mid → Heeds now done old mid
+  heeds now sent done old mid h = at (has_failed sent) refl (is_drained old.connection.core.state) refl
+    where
+      at : (failed : Bool) → has_failed sent ≡ failed → (drained : Bool) → is_drained old.connection.core.state ≡ drained → Heeds now done old mid
+      at false off drained state =
+          let k = h.other (not_failed sent off) in
+          record {
+            is_connected = ap (λ (z : StateInner S). z.is_connected) k.1;
+            kept = ap (λ (z : StateInner S). z.error) k.1;
+            fails = λ is. absurd (false≢true (sym off ∙ (sym (ap has_failed k.0) ∙ is)));
+            other = λ is. ap (λ (z : StateInner S). z.connection) k.1;
+          }
+      at true on true state =
+          let k = h.drained (if_failed sent on) state in
+          record {
+            is_connected = ap (λ (z : StateInner S). z.is_connected) k.1;
+            kept = ap (λ (z : StateInner S). z.error) k.1;
+            fails = λ is. absurd (false≢true (sym (ap has_failed k.0) ∙ is));
+            other = λ is. ap (λ (z : StateInner S). z.connection) k.1;
+          }
+      at true on false lives =
+          let k = h.failed (if_failed sent on) lives in
+          let f = h.faulted (if_failed sent on) lives in
+          record {
+            is_connected = ap (λ (z : StateInner S). z.is_connected) k.2;
+            kept = ap (λ (z : StateInner S). z.error) k.2;
+            fails = λ is. (f.0, f.1, ap (λ (z : StateInner S). z.connection) k.2, f.2);
+            other = λ is. absurd (false≢true (sym is ∙ (ap has_failed k.0 ∙ on)));
+          }
+
+  pub heeded_on : (now : Moment) (sent done : Result (Unit {0}) IoFault) (old mid told new : StateInner S) (failed was_emptied : Bool) → HasHeeded now sent done old mid → failed ≡ has_failed done
+      → AreTold mid.is_connected mid.connection told.is_connected told.connection → KeepsLoss failed was_emptied told new → new ≡ record told { error = new.error } → IsHeeded now (has_failed done) old.is_connected old.connection new
+  heeded_on now sent done old mid told new failed was_emptied heeded flag tells loss kept =
+      let h = heeds now sent done old mid heeded in
+      record {
+        lost = mid.connection;
+        fails = λ is.
+            let f = h.fails is in
+            (f.0, f.1, f.2, f.3, loss.0 (flag ∙ is) ∙ (told_state mid.is_connected mid.connection told.is_connected told.connection tells).1 ∙ ap (λ (z : Inner S). z.error) f.1.closed.rest_is);
+        other = h.other;
+        tells = subst (λ (z : StateInner S). AreTold old.is_connected mid.connection z.is_connected z.connection) (sym kept) (subst (λ (was : Bool). AreTold was mid.connection told.is_connected told.connection) h.is_connected tells);
+      }
+
+  pub error_kept : (now : Moment) (sent done : Result (Unit {0}) IoFault) (first old mid told new : StateInner S) (failed was_emptied : Bool) → HasHeeded now sent done old mid → failed ≡ has_failed done
+      → told ≡ record mid { connection = told.connection; is_connected = told.is_connected; waiting = told.waiting } → KeepsLoss failed was_emptied told new → new ≡ record told { error = new.error } → has_failed done ≡ false
+      → first.error ≡ old.error → was_emptied ≡ is_wanting first.connection → IsErrorKept first new
+  error_kept now sent done first old mid told new failed was_emptied heeded flag rest loss kept calm before was = at (loss.1 (flag ∙ calm))
+    where
+      error_is : told.error ≡ first.error
+      error_is = ap (λ (z : StateInner S). z.error) rest ∙ (heeds now sent done old mid heeded).kept ∙ sym before
+
+      same : new.connection ≡ told.connection
+      same = ap (λ (z : StateInner S). z.connection) kept
+
+      -- the error that was kept gives way only to want of memory
+      taken_place : is_some first.error ≡ true → (is_wanting first.connection ≡ true) ⊎ (is_wanting new.connection ≡ false) → (told.error ≡ None) ⊎ ((was_emptied ≡ false) × (is_wanting told.connection ≡ true)) → ⊥
+      taken_place had how (inl none) = false≢true (ap is_some (sym none ∙ error_is) ∙ had)
+      taken_place had (inl on) (inr wants) = false≢true (sym wants.0 ∙ (was ∙ on))
+      taken_place had (inr off) (inr wants) = false≢true (sym off ∙ (ap is_wanting same ∙ wants.1))
+
+      left_as_it_was : is_some told.error ≡ true → (first.error ≡ None) ⊎ ((is_wanting first.connection ≡ false) × (is_wanting new.connection ≡ true)) → (was_emptied ≡ true) ⊎ (is_wanting told.connection ≡ false) → ⊥
+      left_as_it_was had (inl none) how = false≢true (ap is_some (sym none ∙ sym error_is) ∙ had)
+      left_as_it_was had (inr wants) (inl on) = false≢true (sym wants.0 ∙ (sym was ∙ on))
+      left_as_it_was had (inr wants) (inr off) = false≢true (sym off ∙ (sym (ap is_wanting same) ∙ wants.1))
+
+      at : ((new.error ≡ told.connection.core.error) × ((told.error ≡ None) ⊎ ((was_emptied ≡ false) × (is_wanting told.connection ≡ true)))) ⊎ ((new.error ≡ told.error) × (is_some told.error ≡ true) × ((was_emptied ≡ true) ⊎ (is_wanting told.connection ≡ false)))
+          → IsErrorKept first new
+      at (inl by) = record { stays = λ had how. absurd (taken_place had how by.1); lost = λ how. by.0 ∙ sym (ap (λ (z : Connection S). z.core.error) same) }
+      at (inr by) = record { stays = λ had how. by.0 ∙ error_is; lost = λ how. absurd (left_as_it_was by.1 how by.2) }
 
   pub stands_on : (old mid told new : StateInner S) → StandsStill old.connection mid.connection → AreTold mid.is_connected mid.connection told.is_connected told.connection → new ≡ record told { error = new.error } → StandsStill old.connection new.connection
   stands_on old mid told new stands tells kept =

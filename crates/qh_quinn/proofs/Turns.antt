@@ -18,16 +18,16 @@ use Rattle.qh_conn.specs.declared.connection.Connection.{Connection}
 use Rattle.qh_conn.specs.declared.event.ConnectionEvent.{ConnectionEvent}
 use Rattle.qh_core.specs.Event.{is_drained}
 use Rattle.qh_core.specs.Inner.{is_open}
-use Rattle.qh_core.specs.Made.{AcceptsTags, MakesTagsOf}
 use Rattle.qh_core.specs.declared.state.State.{State as CoreState}
 use Rattle.qh_handles.specs.Turns.{turn_reply}
+use Rattle.qh_handshake.specs.Incoming.{SessionView}
 use Rattle.qh_quinn.proofs.StatesKept.{kept, kept_state, rest_by, rest_self}
 use Rattle.qh_quinn.proofs.TakenUp.{drained_shut, if_failed, not_failed}
 use Rattle.qh_quinn.proofs.Tellings.{told_state}
 use Rattle.qh_quinn.specs.Acting.{IsChanged}
 use Rattle.qh_quinn.specs.States.{IsState, Shows}
 use Rattle.qh_quinn.specs.Telling.{AreTold}
-use Rattle.qh_quinn.specs.Turning.{HasMadeNone, HasSentAll, IsAdvanced, IsInOrder, IsTakenUp, IsTurned, IsTurnOf, acts_of_all, made_all, waiting_out, waits_in}
+use Rattle.qh_quinn.specs.Turning.{HasMadeNone, HasSentAll, IsAdvanced, IsErrorKept, IsHeeded, IsInOrder, IsTakenUp, IsTurned, IsTurnOf, acts_of_all, made_all, waiting_out, waits_in}
 use Rattle.qh_quinn.specs.declared.inner.StateInner.{StateInner}
 use Rattle.qh_runtime.specs.Socket.{has_failed, poll_failed}
 use Rattle.qh_runtime.specs.declared.runtime.IoFault.{IoFault}
@@ -40,6 +40,7 @@ use Rattle.qh_spec.specs.Codes as codes
 -- how the answer stands to what was taken up, and to whether the connection is drained
 pub record Ends (answer : Poll (Result (Unit {0}) IoFault)) (done : Result (Unit {0}) IoFault) (drained : Bool) : Type 0 where
   pub faulty : (fault : IoFault) → done ≡ Err fault → answer ≡ Ready (Err fault)
+  pub faulted : (fault : IoFault) → answer ≡ Ready (Err fault) → done ≡ Err fault
   pub over : answer ≡ Ready (Ok tt) → drained ≡ true
   pub goes_on : answer ≡ Pending → (done ≡ Ok tt) × (drained ≡ false)
   pub failed : poll_failed answer ≡ true → done ≡ Err faults.Failed
@@ -47,6 +48,7 @@ pub record Ends (answer : Poll (Result (Unit {0}) IoFault)) (done : Result (Unit
 pub ends_fault : (fault : IoFault) (done : Result (Unit {0}) IoFault) (drained : Bool) → done ≡ Err fault → Ends (Ready (Err fault)) done drained
 ends_fault fault done drained is = record {
   faulty = λ other e. ap Ready (sym is ∙ e);
+  faulted = λ other e. cc;
   over = λ e. cc;
   goes_on = λ e. cc;
   failed = λ e. is ∙ if_failed (Err fault) e;
@@ -58,16 +60,28 @@ ends_rest answer done drained is over goes_on = at drained refl
     at : (d : Bool) → drained ≡ d → Ends answer done drained
     at true e = let a = over e in record {
       faulty = λ fault f. cc;
+      faulted = λ fault f. cc;
       over = λ p. e;
       goes_on = λ p. cc;
       failed = λ p. absurd (false≢true (sym (ap (λ (z : Poll (Result (Unit {0}) IoFault)). poll_failed z) a) ∙ p));
     }
     at false e = let a = goes_on e in record {
       faulty = λ fault f. cc;
+      faulted = λ fault f. cc;
       over = λ p. cc;
       goes_on = λ p. (is, e);
       failed = λ p. absurd (false≢true (sym (ap (λ (z : Poll (Result (Unit {0}) IoFault)). poll_failed z) a) ∙ p));
     }
+
+-- the answer says that the socket failed exactly if what was taken up does
+failed_alike : (answer : Poll (Result (Unit {0}) IoFault)) (done : Result (Unit {0}) IoFault) (drained : Bool) → Ends answer done drained → poll_failed answer ≡ has_failed done
+failed_alike answer done drained ends = at (poll_failed answer) refl (has_failed done) refl
+  where
+    at : (p : Bool) → poll_failed answer ≡ p → (d : Bool) → has_failed done ≡ d → p ≡ d
+    at true p true d = refl
+    at true p false d = absurd (false≢true (sym d ∙ ap has_failed (ends.failed p)))
+    at false p true d = absurd (false≢true (sym p ∙ ap (λ (z : Poll (Result (Unit {0}) IoFault)). poll_failed z) (ends.faulty faults.Failed (if_failed done d))))
+    at false p false d = refl
 
 lost_if : (loss : Option ConnectionError) (up : Bool) → is_some loss ≡ not up → up ≡ false → is_some loss ≡ true
 lost_if loss up is shut = is ∙ ap not shut
@@ -111,6 +125,14 @@ module _ {S : Type 0} where
       at : (done ≡ sent) ⊎ ((done ≡ Ok tt) × (is_drained t.connection.core.state ≡ true)) → ⊥
       at (inl same) = let k : Ok tt ≡ Err faults.Failed = sym ok ∙ same ∙ failed in cc
       at (inr over) = false≢true (sym lives ∙ ap (λ (z : StateInner S). is_drained z.connection.core.state) h.woken ∙ over.1)
+
+  -- nor does one that wants memory
+  wants : (sent done : Result (Unit {0}) IoFault) (s a t w f : StateInner S) → IsEnding sent done s a t w f → done ≡ Err faults.Memory → sent ≢ Err faults.Failed
+  wants sent done s a t w f h is failed = at (h.failed failed).1
+    where
+      at : (done ≡ sent) ⊎ ((done ≡ Ok tt) × (is_drained t.connection.core.state ≡ true)) → ⊥
+      at (inl same) = let k : Err faults.Memory ≡ Err faults.Failed = sym is ∙ same ∙ failed in cc
+      at (inr over) = let k : Err faults.Memory ≡ Ok tt = sym is ∙ over.0 in cc
 
   ending_state : (sent done : Result (Unit {0}) IoFault) (s a t w f : StateInner S) → IsEnding sent done s a t w f → IsState f
   ending_state sent done s a t w f h =
@@ -170,18 +192,36 @@ module _ {S : Type 0} where
       at true e = absurd (isnt (if_failed sent e))
       at false e = refl
 
+  -- one that goes on, or wants memory, isn't one whose socket failed
+  unbroken : (sent done : Result (Unit {0}) IoFault) (answer : Poll (Result (Unit {0}) IoFault)) (s a t w f : StateInner S) → IsEnding sent done s a t w f → Ends answer done (is_drained w.connection.core.state)
+      → (answer ≡ Pending) ⊎ (answer ≡ Ready (Err faults.Memory)) → sent ≢ Err faults.Failed
+  unbroken sent done answer s a t w f h ends (inl is) = let e = ends.goes_on is in unfailed sent done s a t w f h e.0 e.1
+  unbroken sent done answer s a t w f h ends (inr is) = wants sent done s a t w f h (ends.faulted faults.Memory is)
+
   wanting_on : (sent done : Result (Unit {0}) IoFault) (answer : Poll (Result (Unit {0}) IoFault)) (s a t w f : StateInner S) → IsEnding sent done s a t w f → Ends answer done (is_drained w.connection.core.state) → sent ≡ Err faults.Memory → answer ≡ Ready (Err faults.Memory)
   wanting_on sent done answer s a t w f h ends is =
       let isnt : sent ≢ Err faults.Failed = λ failed. let k : Err faults.Memory ≡ Err faults.Failed = sym is ∙ failed in cc in
       ends.faulty faults.Memory ((h.other isnt).0 ∙ is)
 
-  pub turned : (T : Type 0) (accepts : AcceptsTags S) (sealed : MakesTagsOf S) (sent done : Result (Unit {0}) IoFault) (answer : Poll (Result (Unit {0}) IoFault)) (now : Moment) (is_held : Bool) (out : List OutMessage) (s a t w f : StateInner S)
-      (advanced : IsAdvanced accepts sealed sent (record s { last_turn = now }) a out) → length out ≤ 20 → (is_held ≡ true → (advanced.made ≡ []) × (out ≡ []))
-      → ((sent ≡ Err faults.Memory → ⊥) → IsInOrder accepts sealed now advanced.handed advanced.made s.connection a.connection) → IsEnding sent done s a t w f → Ends answer done (is_drained w.connection.core.state)
-      → IsTurned T accepts sealed s now is_held out answer f
-  turned T accepts sealed sent done answer now is_held out s a t w f advanced few held ordered h ends =
+  -- calls that are woken, and the driver that waits, change nothing of it
+  heeded_still : (now : Moment) (failed was : Bool) (c : Connection S) (t w f : StateInner S) → w ≡ record t { waiting = w.waiting } → f ≡ record w { driver = f.driver } → IsHeeded now failed was c t → IsHeeded now failed was c f
+  heeded_still now failed was c t w f woken left h =
+      let k : IsHeeded now failed was c w = subst (λ (z : StateInner S). IsHeeded now failed was c z) (sym woken) (record { lost = h.lost; fails = h.fails; other = h.other; tells = h.tells }) in
+      subst (λ (z : StateInner S). IsHeeded now failed was c z) (sym left) (record { lost = k.lost; fails = k.fails; other = k.other; tells = k.tells })
+
+  kept_still : (s t w f : StateInner S) → w ≡ record t { waiting = w.waiting } → f ≡ record w { driver = f.driver } → IsErrorKept s t → IsErrorKept s f
+  kept_still s t w f woken left h =
+      let k : IsErrorKept s w = subst (λ (z : StateInner S). IsErrorKept s z) (sym woken) (record { stays = h.stays; lost = h.lost }) in
+      subst (λ (z : StateInner S). IsErrorKept s z) (sym left) (record { stays = k.stays; lost = k.lost })
+
+  pub turned : (T : Type 0) (v : SessionView S) (sent done : Result (Unit {0}) IoFault) (answer : Poll (Result (Unit {0}) IoFault)) (now : Moment) (is_held : Bool) (out : List OutMessage) (s a t w f : StateInner S)
+      (advanced : IsAdvanced v.accepts v.sealed sent (record s { last_turn = now }) a out) → length out ≤ 20 → (is_held ≡ true → (advanced.made ≡ []) × (out ≡ []))
+      → ((sent ≡ Err faults.Memory → ⊥) → IsInOrder v now advanced.handed advanced.made s.connection a.connection) → IsEnding sent done s a t w f → Ends answer done (is_drained w.connection.core.state)
+      → IsHeeded now (has_failed done) a.is_connected a.connection t → (has_failed done ≡ false → s.error ≡ a.error → IsErrorKept s t) → IsTurned T v s now is_held out answer f
+  turned T v sent done answer now is_held out s a t w f advanced few held ordered h ends heeded kept_error =
       let events : f.events.items ≡ a.events.items = ap (λ (z : StateInner S). z.events.items) h.left ∙ ap (λ (z : StateInner S). z.events.items) h.woken ∙ ap (λ (z : StateInner S). z.events.items) h.rest in
       let same : f.connection ≡ t.connection = ap (λ (z : StateInner S). z.connection) h.left ∙ ap (λ (z : StateInner S). z.connection) h.woken in
+      let failed : poll_failed answer ≡ has_failed done = failed_alike answer done (is_drained w.connection.core.state) ends in
       let drained : is_drained f.connection.core.state ≡ is_drained w.connection.core.state = ap (λ (z : StateInner S). is_drained z.connection.core.state) h.left in
       record {
         each = turned_each T sent done answer now s a t w f h ends;
@@ -191,19 +231,16 @@ module _ {S : Type 0} where
         dropped = dropped_if (has_failed sent) a;
         events = advanced.events ∙ ap (λ (l : List ConnectionEvent). advanced.handed ++ l) (sym events);
         all = λ isnt. events ∙ advanced.all (λ is. isnt (wanting_on sent done answer s a t w f h ends is));
-        carries = λ lawful hello acts stood. subst (λ (z : Connection S). Stands accepts sealed hello z (acts ++ (acts_of_all advanced.handed ++ made_all advanced.made))) (sym same) (h.stands accepts sealed hello (acts ++ (acts_of_all advanced.handed ++ made_all advanced.made)) (advanced.carries lawful hello acts stood));
-        in_order = λ isnt.
-            let o = ordered (λ is. isnt (wanting_on sent done answer s a t w f h ends is)) in
-            record {
-              told = o.told;
-              hands = o.hands;
-              brings = o.brings;
-              timed = o.timed;
-              times = o.times;
-              makes = λ lawful hello acts stood. subst (λ (z : Connection S). Stands accepts sealed hello z (acts ++ made_all advanced.made)) (sym same) (h.stands accepts sealed hello (acts ++ made_all advanced.made) (o.makes lawful hello acts stood));
-            };
+        carries = λ lawful hello acts stood. subst (λ (z : Connection S). Stands v.accepts v.sealed hello z (acts ++ (acts_of_all advanced.handed ++ made_all advanced.made))) (sym same) (h.stands v.accepts v.sealed hello (acts ++ (acts_of_all advanced.handed ++ made_all advanced.made)) (advanced.carries lawful hello acts stood));
+        in_order = λ isnt. (
+          a.connection,
+          ordered (λ is. isnt (wanting_on sent done answer s a t w f h ends is)),
+          subst (λ (x : Bool). IsHeeded now x s.is_connected a.connection f) (sym failed)
+              (subst (λ (was : Bool). IsHeeded now (has_failed done) was a.connection f) (ap (λ (z : StateInner S). z.is_connected) advanced.same) (heeded_still now (has_failed done) a.is_connected a.connection t w f h.woken h.left heeded)),
+        );
+        error = λ is. kept_still s t w f h.woken h.left (kept_error (sym failed ∙ is) (sym (ap (λ (z : StateInner S). z.error) advanced.same)));
         order = advanced.order ∙ ap (λ (l : List OutMessage). out ++ l) (left_waiting sent done s a t w f h (has_failed sent) refl);
-        none_dropped = λ is. let e = ends.goes_on is in none_dropped sent a (unfailed sent done s a t w f h e.0 e.1);
+        none_dropped = λ is. none_dropped sent a (unbroken sent done answer s a t w f h ends is);
         few_dropped = few_dropped (has_failed sent) a;
         last_turn = ap (λ (z : StateInner S). z.last_turn) h.left ∙ ap (λ (z : StateInner S). z.last_turn) h.woken ∙ ap (λ (z : StateInner S). z.last_turn) h.rest ∙ advanced.last_turn;
         few = few;

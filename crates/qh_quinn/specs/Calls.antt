@@ -22,6 +22,7 @@ use Rattle.qh_core.specs.declared.state.Close.TheVariants.{Application}
 use Rattle.qh_datagrams.specs.Datagrams.{with_room}
 use Rattle.qh_quinn.specs.Readers.{reader_in}
 use Rattle.qh_quinn.specs.States.{Shows}
+use Rattle.qh_quinn.specs.Streaming.{AcceptsOne, EndsReading, EndsSending, FinishesOne, OpensOne, PrioritizesOne, ReadsOne, ResetsOne, StopsOne, TakesResetOf, WritesTo}
 use Rattle.qh_quinn.specs.declared.inner.StateInner.{StateInner}
 use Rattle.qh_spec.specs.Transcript.{Act, Finished, ReadEnd, ReadReset, Reset, Stopped, Wrote}
 use Rattle.qh_spec.specs.declared.sides.Dir.TheVariants.{Bi, Uni}
@@ -118,10 +119,6 @@ IsSending other r = ⊥
 module _ {S : Type 0} where
   -- ---- what it makes of the connection
 
-  -- only the streams changed
-  abbrev pub IsOnStreams : (old new : Connection S) → Type 0
-  IsOnStreams old new = new ≡ record old { core = with_streams old.core new.core.space.streams }
-
   -- This end closes with a code and a reason of the application's, if it is open, at the later of two moments.
   pub record ClosesWith (one other : Moment) (code : ℕ) (reason : List ℕ) (old new : Connection S) : Type 0 where
     pub moment : Moment
@@ -134,10 +131,11 @@ module _ {S : Type 0} where
   abbrev pub EndsHandleOf : (handles : ℕ) → Option ConnectionError → (last_turn : Moment) → (old new : Connection S) → Type 0
   EndsHandleOf handles error last_turn old new = MatchBool (handles - 1 == 0 && not (is_some error)) (ClosesWith last_turn last_turn 0 [] old new) (new ≡ old)
 
-  -- the handle of a half ends: something may change of the half first
-  pub record EndsHalfOf (handles : ℕ) (error : Option ConnectionError) (last_turn : Moment) (old new : Connection S) : Type 0 where
+  -- the handle of a half ends: first of the half, if no error is kept
+  pub record EndsHalfOf (Half : Connection S → Connection S → Type 0) (handles : ℕ) (error : Option ConnectionError) (last_turn : Moment) (old new : Connection S) : Type 0 where
     pub mid : Connection S
-    pub streams : IsOnStreams old mid
+    pub half : Half old mid
+    pub lost : is_some error ≡ true → mid ≡ old
     pub ends : EndsHandleOf handles error last_turn mid new
 
   -- a limit is set, and held for the peer's hello if that wasn't read
@@ -150,29 +148,40 @@ module _ {S : Type 0} where
   IsSet (setting.SendWindow bytes) old new = IsLimitSet (record old.core.space.streams { send = record old.core.space.streams.send { send_window = bytes } }) (record old.early { send_window = Some bytes }) old new
   IsSet (setting.ReceiveWindow bytes) old new = IsLimitSet (record old.core.space.streams { recv = record old.core.space.streams.recv { receive_window = bytes } }) (record old.early { receive_window = Some bytes }) old new
 
-  -- a datagram is queued, if it is
+  -- a datagram is queued; one that waits for room notes that it does
   abbrev pub IsQueued : {T : Type 0} → (payload : List ℕ) → (wait : Bool) → Reply T → (old new : Connection S) → Type 0
   IsQueued payload wait reply.Done old new = new ≡ record old { control = record old.control { datagrams = record old.control.datagrams { outgoing = queued_behind wait payload old.control.datagram_send old.control.datagrams.outgoing } } }
-  IsQueued payload wait r old new = new ≡ record old { control = record old.control { datagrams = record old.control.datagrams { is_send_blocked = new.control.datagrams.is_send_blocked } } }
+  IsQueued payload wait reply.Pending old new = new ≡ record old { control = record old.control { datagrams = record old.control.datagrams { is_send_blocked = true } } }
+  IsQueued payload wait r old new = new ≡ old
 
-  -- What a call makes of the connection. A call on a stream changes the streams alone; of what it does there the book and the acts tell.
+  -- the oldest datagram that came is taken
+  pub record IsTaken (payload : List ℕ) (old new : Connection S) : Type 0 where
+    pub oldest : old.control.datagrams.incoming ≡ payload ∷ new.control.datagrams.incoming
+    pub rest : new ≡ record old { control = record old.control { datagrams = record old.control.datagrams { incoming = new.control.datagrams.incoming } } }
+
+  abbrev pub IsReceived : {T : Type 0} → Reply T → (old new : Connection S) → Type 0
+  IsReceived (reply.Datagram payload) old new = IsTaken payload old new
+  IsReceived r old new = new ≡ old
+
+  -- What a call makes of the connection.
   abbrev pub IsCalled : {T : Type 0} → Call → Reply T → (old new : StateInner S) → Type 0
   IsCalled (call.Close now code reason) r old new = ClosesWith now old.last_turn code reason old.connection new.connection
   IsCalled call.EndHandle r old new = EndsHandleOf old.handles old.error old.last_turn old.connection new.connection
-  IsCalled (call.EndSend id) r old new = EndsHalfOf old.handles old.error old.last_turn old.connection new.connection
-  IsCalled (call.EndRecv id) r old new = MatchOption (reader_in old.readers id.0) (new.connection ≡ old.connection) (λ reader. EndsHalfOf old.handles old.error old.last_turn old.connection new.connection)
+  IsCalled (call.EndSend id) r old new = EndsHalfOf (EndsSending id.0) old.handles old.error old.last_turn old.connection new.connection
+  IsCalled (call.EndRecv id) r old new = MatchOption (reader_in old.readers id.0) (new.connection ≡ old.connection) (λ reader. EndsHalfOf (EndsReading old.error reader id.0) old.handles old.error old.last_turn old.connection new.connection)
   IsCalled (call.Set setting) r old new = IsSet setting old.connection new.connection
   IsCalled (call.SendDatagram payload wait) r old new = IsQueued payload wait r old.connection new.connection
-  IsCalled call.ReadDatagram r old new = new.connection ≡ record old.connection { control = record old.connection.control { datagrams = record old.connection.control.datagrams { incoming = new.connection.control.datagrams.incoming } } }
-  IsCalled call.Connecting r old new = new.connection ≡ old.connection
-  IsCalled call.HandshakeData r old new = new.connection ≡ old.connection
-  IsCalled (call.Stopped id) r old new = new.connection ≡ old.connection
-  IsCalled (call.Priority id) r old new = new.connection ≡ old.connection
-  IsCalled call.CloseReason r old new = new.connection ≡ old.connection
-  IsCalled call.Closed r old new = new.connection ≡ old.connection
-  IsCalled call.CloneHandle r old new = new.connection ≡ old.connection
-  IsCalled (call.Get getter) r old new = new.connection ≡ old.connection
-  IsCalled other r old new = IsOnStreams old.connection new.connection
+  IsCalled call.ReadDatagram r old new = IsReceived r old.connection new.connection
+  IsCalled (call.Open dir) r old new = OpensOne dir r old.connection new.connection
+  IsCalled (call.Accept dir) r old new = AcceptsOne dir r old.connection new.connection
+  IsCalled (call.Read id max_length is_ordered) r old new = ReadsOne id.0 max_length is_ordered r old new
+  IsCalled (call.Write id payload) r old new = WritesTo id.0 payload r old.connection new.connection
+  IsCalled (call.Finish id) r old new = FinishesOne id.0 r old.connection new.connection
+  IsCalled (call.Reset id code) r old new = ResetsOne id.0 code r old.connection new.connection
+  IsCalled (call.Stop id code) r old new = StopsOne id.0 code old new
+  IsCalled (call.ReceivedReset id) r old new = TakesResetOf id.0 r old new
+  IsCalled (call.SetPriority id priority) r old new = PrioritizesOne id.0 priority r old.connection new.connection
+  IsCalled other r old new = new.connection ≡ old.connection
 
   -- ---- the driver
 

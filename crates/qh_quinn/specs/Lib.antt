@@ -3,6 +3,7 @@ pub mod Calls
 pub mod First
 pub mod Readers
 pub mod States
+pub mod Streaming
 pub mod Telling
 pub mod Told
 pub mod Turning

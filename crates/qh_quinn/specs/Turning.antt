@@ -1,5 +1,5 @@
 -- What a turn of the driver does (quinn, `ConnectionDriver::poll`).
-use Rattle.std.specs.Prelude.{◌≡◌, ◌⊎◌, ◌≤◌, ◌<◌, ℕ, ◌^◌, ◌-◌, Bool, true, false, List, [], ◌∷◌, ◌++◌, length, Option, Some, None, Result, Ok, Err}
+use Rattle.std.specs.Prelude.{◌≡◌, ◌⊎◌, ◌≤◌, ◌<◌, ℕ, ◌^◌, ◌-◌, Bool, true, false, List, [], ◌∷◌, ◌++◌, length, Option, Some, None, is_some, Result, Ok, Err}
 use Rattle.futures.specs.declared.task.Poll.{Poll}
 use Rattle.futures.specs.declared.task.Poll.TheVariants.{Pending, Ready}
 use Rattle.qh_base.specs.declared.connection_error.ConnectionError.TheVariants as error
@@ -12,8 +12,8 @@ use Rattle.qh_book.specs.Shown.{Note}
 use Rattle.qh_book.specs.Step.{StepsWith}
 use Rattle.qh_book.specs.declared.call.Call.TheVariants as call
 use Rattle.qh_book.specs.declared.item.Item.{Item}
-use Rattle.qh_conn.specs.Incoming.{acts_of}
-use Rattle.qh_conn.specs.Outgoing.{IsSilent, IsStill}
+use Rattle.qh_conn.specs.Incoming.{IsEventHandled, acts_of}
+use Rattle.qh_conn.specs.Outgoing.{IsSilent, IsStill, IsTransmitted}
 use Rattle.qh_conn.specs.Telling.{IsDueAt, IsFirstDue, IsTimedOut}
 use Rattle.qh_conn.specs.Whole.{CarriesOnBy, IsWhole}
 use Rattle.qh_conn.specs.declared.connection.Connection.{Connection}
@@ -21,11 +21,14 @@ use Rattle.qh_conn.specs.declared.event.ConnectionEvent.{ConnectionEvent}
 use Rattle.qh_core.specs.Event.{is_drained}
 use Rattle.qh_core.specs.Inner.{is_open}
 use Rattle.qh_core.specs.Made.{AcceptsTags, MakesTagsOf}
+use Rattle.qh_core.specs.Receiving.{IsFaulted}
 use Rattle.qh_handles.specs.Turns.{count_of, turn_reply}
+use Rattle.qh_handshake.specs.Incoming.{SessionView}
 use Rattle.qh_packet.specs.Session.{MakesTags, NamesTags}
 use Rattle.qh_quinn.specs.States.{IsState, Shows}
 use Rattle.qh_quinn.specs.Telling.{AreTold}
 use Rattle.qh_quinn.specs.declared.inner.StateInner.{StateInner}
+use Rattle.qh_runtime.specs.Socket.{poll_failed}
 use Rattle.qh_runtime.specs.declared.runtime.IoFault.{IoFault}
 use Rattle.qh_runtime.specs.declared.runtime.OutMessage.{OutMessage}
 use Rattle.qh_shown.specs.Brings.{BringsSome, EndsWanting}
@@ -141,14 +144,45 @@ module _ {S : Type 0} where
     done : (moment : ℕ) → IsFirstDue old moment → moment ≤ now.0 → IsTimedOut now.0 old new → IsTimedAt now old new
     not_yet : ((moment : ℕ) → IsDueAt old moment → now.0 < moment) → new ≡ old → IsTimedAt now old new
 
-  -- As if events were handed over, then what was due was done, and then datagrams were made.
-  pub record IsInOrder (accepts : AcceptsTags S) (sealed : MakesTagsOf S) (now : Moment) (handed : List ConnectionEvent) (made : List OutMessage) (old new : Connection S) : Type 0 where
+  -- these events were handed over, one after another
+  abbrev pub AreHandled : SessionView S → List ConnectionEvent → (old new : Connection S) → Type 0
+  AreHandled v [] old new = new ≡ old
+  AreHandled v (e ∷ es) old new = (mid : Connection S) × IsEventHandled v e old mid × AreHandled v es mid new
+
+  -- these datagrams were made, one after another
+  abbrev pub AreMade : MakesTagsOf S → (now : Moment) → List OutMessage → (old new : Connection S) → Type 0
+  AreMade sealed now [] old new = new ≡ old
+  AreMade sealed now (m ∷ ms) old new = (mid : Connection S) × IsTransmitted (sealed old.core.session) now old mid [] m.bytes m.transmit × AreMade sealed now ms mid new
+
+  -- it was asked for no more, or there was nothing more to be sent
+  abbrev pub AsksNoMore : (old new : Connection S) → Type 0
+  AsksNoMore old new = (new ≡ old) ⊎ (IsSilent old × IsStill old new)
+
+  -- These datagrams were made, and no more.
+  pub record IsFilled (sealed : MakesTagsOf S) (now : Moment) (made : List OutMessage) (old new : Connection S) : Type 0 where
+    pub filled : Connection S
+    pub makes : AreMade sealed now made old filled
+    pub ends : AsksNoMore filled new
+
+  -- These events were handed over, then what was due was done, and then these datagrams were made, and no more.
+  pub record IsInOrder (v : SessionView S) (now : Moment) (handed : List ConnectionEvent) (made : List OutMessage) (old new : Connection S) : Type 0 where
     pub told : Connection S
-    pub hands : AreLawful accepts sealed → CarriesOnBy accepts sealed old told (acts_of_all handed)
-    pub brings : BringsSome old told
+    pub hands : AreHandled v handed old told
     pub timed : Connection S
     pub times : IsTimedAt now told timed
-    pub makes : AreLawful accepts sealed → CarriesOnBy accepts sealed timed new (made_all made)
+    pub fills : IsFilled v.sealed now made timed new
+
+  -- Then a connection whose socket failed was lost by an internal error, which is the kept one; and what was due was told to the application.
+  pub record IsHeeded (now : Moment) (has_failed was_told : Bool) (old : Connection S) (new : StateInner S) : Type 0 where
+    pub lost : Connection S
+    pub fails : has_failed ≡ true → (e : TransportError) × IsFaulted now e old.core lost.core × (lost ≡ record old { core = lost.core }) × (e.code.0 ≡ codes.internal_error) × (new.error ≡ Some (error.TransportError e))
+    pub other : has_failed ≡ false → lost ≡ old
+    pub tells : AreTold was_told lost new.is_connected new.connection
+
+  -- The error that was kept is kept still, but want of memory in this turn takes its place; and what the connection was lost by in this turn is kept, if none was.
+  pub record IsErrorKept (old new : StateInner S) : Type 0 where
+    pub stays : is_some old.error ≡ true → (is_wanting old.connection ≡ true) ⊎ (is_wanting new.connection ≡ false) → new.error ≡ old.error
+    pub lost : (old.error ≡ None) ⊎ ((is_wanting old.connection ≡ false) × (is_wanting new.connection ≡ true)) → new.error ≡ new.connection.core.error
 
   -- What a turn brought is known to the handles: items lead from each book that showed the state at its begin to one that shows it now. If the turn answers
   -- that the socket failed, that is the kept error.
@@ -207,8 +241,9 @@ module _ {S : Type 0} (T : Type 0) where
 
 module _ {S : Type 0} (T : Type 0) where
   -- What a turn did: events that waited were handed over in their order, all of them unless memory was wanting; what is due was done; datagrams were made,
-  -- none while the driver was held, and these messages were handed to the socket, behind one that waited for it, but for one that it failed at.
-  pub record IsTurned (accepts : AcceptsTags S) (sealed : MakesTagsOf S) (old : StateInner S) (now : Moment) (is_held : Bool) (out : List OutMessage) (answer : Poll (Result (Unit {0}) IoFault)) (new : StateInner S) : Type 0 where
+  -- none while the driver was held, and these messages were handed to the socket, behind one that waited for it, but for one that it failed at; then the
+  -- application was told.
+  pub record IsTurned (v : SessionView S) (old : StateInner S) (now : Moment) (is_held : Bool) (out : List OutMessage) (answer : Poll (Result (Unit {0}) IoFault)) (new : StateInner S) : Type 0 where
     pub each : (b : Book) → Shows old b → IsTurnOf T now answer b new
     pub state : IsState new
     pub handed : List ConnectionEvent
@@ -216,10 +251,11 @@ module _ {S : Type 0} (T : Type 0) where
     pub dropped : List OutMessage
     pub events : old.events.items ≡ handed ++ new.events.items
     pub all : (answer ≡ Ready (Err IoFault.Memory) → ⊥) → new.events.items ≡ []
-    pub carries : AreLawful accepts sealed → CarriesOnBy accepts sealed old.connection new.connection (acts_of_all handed ++ made_all made)
-    pub in_order : (answer ≡ Ready (Err IoFault.Memory) → ⊥) → IsInOrder accepts sealed now handed made old.connection new.connection
+    pub carries : AreLawful v.accepts v.sealed → CarriesOnBy v.accepts v.sealed old.connection new.connection (acts_of_all handed ++ made_all made)
+    pub in_order : (answer ≡ Ready (Err IoFault.Memory) → ⊥) → (sent : Connection S) × IsInOrder v now handed made old.connection sent × IsHeeded now (poll_failed answer) old.is_connected sent new
+    pub error : poll_failed answer ≡ false → IsErrorKept old new
     pub order : waits_in old ++ made ≡ out ++ (dropped ++ waits_in new)
-    pub none_dropped : answer ≡ Pending → dropped ≡ []
+    pub none_dropped : (answer ≡ Pending) ⊎ (answer ≡ Ready (Err IoFault.Memory)) → dropped ≡ []
     pub few_dropped : length dropped ≤ 1
     pub last_turn : new.last_turn ≡ now
     pub few : length out ≤ 20

@@ -1,5 +1,5 @@
 -- Calls that wait, each for a task.
-use Rattle.std.specs.Prelude.{◌≡◌, ◌⊎◌, ℕ, Bool, true, List, Some, map, slice_get}
+use Rattle.std.specs.Prelude.{◌≡◌, ◌⊎◌, ◌==◌, ℕ, Bool, true, ◌&&◌, List, Option, Some, IsSomeAnd, map, slice_get}
 use Rattle.std.specs.List.{list_any}
 use Rattle.futures.specs.Task.{Wakes}
 use Rattle.futures.specs.declared.task.context.Context.{Context}
@@ -28,3 +28,11 @@ pub record HasWaker (i : Interest) (cx : Context) (waiting : List Waiting) : Typ
 -- so it is, unless there was no memory for a waker, which the context says
 abbrev pub IsHeard : (i : Interest) → (before after : Context) → List Waiting → Type 0
 IsHeard i before after waiting = (after.lacks_waker ≡ true) ⊎ HasWaker i before waiting
+
+-- the entries of other calls, and of other tasks, are as they were
+abbrev pub KeepsOthers : Interest → (task : ℕ) → (old new : List Waiting) → Type 0
+KeepsOthers i task old new = (k : ℕ) (w : Waiting) → slice_get old k ≡ Some w → (is_same w.interest i && (w.task == task) ≡ true → ⊥) → slice_get new k ≡ Some w
+
+-- the driver's waker is of the task that is polled, unless there was no memory for one, which the context says
+abbrev pub HearsDriver : Option Waker → (before after : Context) → Type 0
+HearsDriver driver before after = (after.lacks_waker ≡ true) ⊎ IsSomeAnd driver (λ waker. Wakes waker before)

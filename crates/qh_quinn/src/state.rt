@@ -9,7 +9,7 @@ ghost use Rattle.qh_handles.specs.Told.{IsDrive, IsPolled};
 ghost use Rattle.qh_quinn.specs.Acting.{IsFree, IsKept, IsMade, IsTelling, IsUnmade, KeepsTurns};
 ghost use Rattle.qh_quinn.specs.First.{IsFirstState};
 ghost use Rattle.qh_quinn.specs.Told.{TellsOf};
-ghost use Rattle.qh_quinn.specs.Waiting.{IsHeard};
+ghost use Rattle.qh_quinn.specs.Waiting.{IsHeard, KeepsOthers};
 ghost use Rattle.qh_shown.specs.Brings.{IsLogging};
 ghost use Rattle.qh_shown.specs.Connections.{IsBegun};
 
@@ -123,6 +123,7 @@ where
         ensures tells { IsTelling call → IfOk result (λ r. TellsOf S.knows S.name S.told self.old.connection self.old.error call r) }
         ensures armed { IfOk result (λ r. r ≡ reply.Pending → IsArmed cx.new) }
         ensures heard { IfOk result (λ r. r ≡ reply.Pending → (i : AnInterest) → interest_of call ≡ Some i → IsHeard i cx.old cx.new self.new.waiting.items) }
+        ensures others { IfOk result (λ r. r ≡ reply.Pending → (i : AnInterest) → interest_of call ≡ Some i → KeepsOthers i cx.old.turn.task self.old.waiting.items self.new.waiting.items) }
         ensures kept { Keeps cx.old cx.new }
     {
         self.inner.polled(call, cx)
@@ -136,18 +137,20 @@ where
     type HandshakeData = S::HandshakeData;
 
     ghost use Rattle.std.specs.Prelude.{List};
-    ghost use Rattle.qh_quinn.specs.Acting.{IsFree, IsMade, IsTelling, IsUnmade};
+    ghost use Rattle.qh_quinn.specs.Acting.{IsFree, IsMade, IsTelling, IsUnmade, KeepsTurns};
     ghost use Rattle.qh_quinn.specs.Told.{TellsOf};
     ghost use Rattle.qh_quinn.specs.Turning.{HasSentAll, IsTurned};
+    ghost use Rattle.qh_quinn.specs.Waiting.{HearsDriver};
+    ghost use Rattle.futures.specs.declared.task.Poll.TheVariants as polls;
     ghost use Rattle.qh_handles.specs.declared.told.Told.{Told as AToldValue};
 
-    ghost acts = { λ s c r t. IsMade c r s t × (IsTelling c → TellsOf S.knows S.name S.told s.connection s.error c r) };
+    ghost acts = { λ s c r t. IsMade c r s t × KeepsTurns s t × (IsTelling c → TellsOf S.knows S.name S.told s.connection s.error c r) };
 
-    ghost stays = { λ s t. IsUnmade s t };
+    ghost stays = { λ s t. IsUnmade s t × KeepsTurns s t };
 
     ghost takes_none = { λ s c. IsFree c };
 
-    ghost drives = { λ s now held out answer going t. IsTurned (AToldValue S.HandshakeData) S.accepts S.sealed s now held out answer t };
+    ghost drives = { λ s now held out answer going before after t. IsTurned (AToldValue S.HandshakeData) (record { name = S.name; knows = S.knows; key = S.key; sealed = S.sealed; accepts = S.accepts }) s now held out answer t × (answer ≡ polls.Pending → going ≡ false → HearsDriver t.driver before after) };
 
     ghost is_sent = { λ s. HasSentAll s };
 

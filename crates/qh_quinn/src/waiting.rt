@@ -1,8 +1,8 @@
-ghost use Rattle.std.specs.Prelude.{◌≡◌, ◌⊎◌, ◌<◌, ◌||◌, Bool, [], true, length, slice_get, None, Some, IfSome, IsSomeAnd, vec_capacity, vec_len};
+ghost use Rattle.std.specs.Prelude.{◌≡◌, ◌≢◌, ◌⊎◌, ℕ, ◌<◌, ◌||◌, Bool, [], true, length, slice_get, None, Some, IfSome, IsSomeAnd, vec_capacity, vec_len};
 ghost use Rattle.futures.specs.Task.{IsArmed, Keeps, Wakes};
 ghost use Rattle.qh_book.specs.Interests.{interest_of, is_same, is_same_dir};
 ghost use Rattle.qh_book.specs.declared.interest.Interest.{Interest as AnInterest};
-ghost use Rattle.qh_quinn.specs.Waiting.{IsHeard, interests_in, is_among};
+ghost use Rattle.qh_quinn.specs.Waiting.{IsHeard, KeepsOthers, interests_in, is_among};
 
 use futures::task::{Context, Poll, Source, Waker};
 use qh_base::Dir;
@@ -20,7 +20,7 @@ pub struct Waiting {
 
 // Where the task stands that waits for this call, if it does.
 fn place(waiting: &[Waiting], interest: Interest, task: usize) -> Option<usize>
-    ensures { IfSome result (λ at. IsSomeAnd (slice_get waiting.now at) (λ w. is_same w.interest interest ≡ true)) }
+    ensures { IfSome result (λ at. IsSomeAnd (slice_get waiting.now at) (λ w. (is_same w.interest interest ≡ true) × (w.task ≡ task))) }
 {
     for at in 0..waiting.len() {
         if waiting[at].task == task && is_same(waiting[at].interest, interest) {
@@ -35,6 +35,7 @@ fn arm(waiting: &mut [Waiting], at: usize, source: &Source, cx: &mut Context<'_>
     requires { at < length waiting.old }
     ensures same { interests_in waiting.new ≡ interests_in waiting.old }
     ensures heard { (cx.new.lacks_waker ≡ true) ⊎ IsSomeAnd (slice_get waiting.new at) (λ w. IsSomeAnd w.waker (λ k. Wakes k cx.old)) }
+    ensures others { (k : ℕ) → k ≢ at → slice_get waiting.new k ≡ slice_get waiting.old k }
     ensures armed { IsArmed cx.new }
     ensures kept { Keeps cx.old cx.new }
 {
@@ -51,6 +52,7 @@ pub fn register(
     requires { vec_len waiting.old < vec_capacity waiting.old }
     ensures interests { (i : AnInterest) → is_among i waiting.new.items ≡ (is_among i waiting.old.items || is_same interest i) }
     ensures heard { IsHeard interest cx.old cx.new waiting.new.items }
+    ensures others { KeepsOthers interest cx.old.turn.task waiting.old.items waiting.new.items }
     ensures armed { IsArmed cx.new }
     ensures kept { Keeps cx.old cx.new }
 {

@@ -8,7 +8,7 @@ ghost use Rattle.qh_quinn.specs.Acting.{Acts, Answers, IsFree, IsLent, IsOfStrea
 ghost use Rattle.qh_quinn.specs.Calls.{CallsOf};
 ghost use Rattle.qh_quinn.specs.States.{IsState};
 ghost use Rattle.qh_quinn.specs.Told.{TellsOf};
-ghost use Rattle.qh_quinn.specs.Waiting.{IsHeard};
+ghost use Rattle.qh_quinn.specs.Waiting.{IsHeard, KeepsOthers};
 
 use super::StateInner;
 use crate::waiting::{interest_of, register};
@@ -52,6 +52,7 @@ where
         ensures calls { CallsOf call result self.old self.new }
         ensures armed { IfOk result (λ r. r ≡ reply.Pending → IsArmed cx.new) }
         ensures heard { IfOk result (λ r. r ≡ reply.Pending → (i : AnInterest) → interest_of call ≡ Some i → IsHeard i cx.old cx.new self.new.waiting.items) }
+        ensures others { IfOk result (λ r. r ≡ reply.Pending → (i : AnInterest) → interest_of call ≡ Some i → KeepsOthers i cx.old.turn.task self.old.waiting.items self.new.waiting.items) }
         ensures kept { Keeps cx.old cx.new }
         ensures fits { IfOk result (λ r. MayReply call r) }
         ensures free { IsFree call → IsOk result }

@@ -1,15 +1,16 @@
-ghost use Rattle.std.specs.Prelude.{◌≡◌, ◌==◌, ◌&&◌, not, None, Some, is_some};
+ghost use Rattle.std.specs.Prelude.{◌≡◌, ◌==◌, ◌&&◌, not, None, Some, true, is_some};
 ghost use Rattle.qh_book.specs.Book.{Book, with_close, without_handle};
 ghost use Rattle.qh_book.specs.Pages.{SendPage, live_send};
 ghost use Rattle.qh_book.specs.Receiving.{with_recv_ended, without_reader};
 ghost use Rattle.qh_book.specs.Sending.{with_send_ended};
 ghost use Rattle.qh_book.specs.declared.call.Call.TheVariants as call;
 ghost use Rattle.qh_quinn.specs.Acting.{Answers, IsAnswered, IsChanged, KeepsTurns, lost_or_pending, recv_handle_ended};
-ghost use Rattle.qh_quinn.specs.Calls.{CallsOf, IsCallOf, IsOnStreams, WakesIfChanged, recv_handle_acts, send_handle_acts};
+ghost use Rattle.qh_quinn.specs.Calls.{CallsOf, IsCallOf, WakesIfChanged, recv_handle_acts, send_handle_acts};
 ghost use Rattle.qh_conn.specs.Whole.{CarriesOn};
 ghost use Rattle.qh_book.specs.declared.reply.Reply.TheVariants as reply;
 ghost use Rattle.qh_quinn.specs.Readers.{reader_in};
 ghost use Rattle.qh_quinn.specs.States.{IsState, Shows};
+ghost use Rattle.qh_quinn.specs.Streaming.{EndsReading, EndsSending, is_stopped_by_end};
 
 use super::StateInner;
 use crate::readers::Reader;
@@ -113,7 +114,8 @@ impl<S> StateInner<S> {
         requires { IsState self.old }
         ensures changed { IsChanged (λ b. with_send_ended b id.0) self.old self.new }
         ensures carries { (b : Book) → Shows self.old b → CarriesOn self.old.connection self.new.connection (send_handle_acts b id.0) }
-        ensures streams { IsOnStreams self.old.connection self.new.connection }
+        ensures half { EndsSending id.0 self.old.connection self.new.connection }
+        ensures lost { is_some self.old.error ≡ true → self.new.connection ≡ self.old.connection }
         ensures wakes { WakesIfChanged self.old self.new }
         ensures counts { (self.new.handles ≡ self.old.handles) × (self.new.error ≡ self.old.error) }
         ensures rest { KeepsTurns self.old self.new }
@@ -163,7 +165,8 @@ impl<S> StateInner<S> {
         requires there { reader_in self.old.readers id.0 ≡ Some reader }
         ensures changed { IsChanged (λ b. with_recv_ended b id.0) self.old self.new }
         ensures carries { (b : Book) → Shows self.old b → CarriesOn self.old.connection self.new.connection (recv_handle_acts b id.0) }
-        ensures streams { IsOnStreams self.old.connection self.new.connection }
+        ensures half { EndsReading self.old.error reader id.0 self.old.connection self.new.connection }
+        ensures lost { is_some self.old.error ≡ true → self.new.connection ≡ self.old.connection }
         ensures wakes { WakesIfChanged self.old self.new }
         ensures counts { (self.new.handles ≡ self.old.handles) × (self.new.error ≡ self.old.error) }
         ensures rest { KeepsTurns self.old self.new }
@@ -176,7 +179,7 @@ impl<S> StateInner<S> {
 
     // Whether the end of its handle stops a half: one that is read and gave no error, of a connection that isn't lost.
     fn is_stopped_by_end(&self, reader: &Reader) -> bool
-        ensures { result ≡ ((not (is_some self.now.error) && reader.now.is_open) && not reader.now.gave_error) }
+        ensures { result ≡ is_stopped_by_end self.now.error reader.now }
     {
         self.error.is_none() && reader.is_open && !reader.gave_error
     }

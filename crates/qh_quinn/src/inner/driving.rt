@@ -2,17 +2,18 @@ ghost use Rattle.std.specs.Prelude.{◌≡◌, ◌⊎◌, ◌≢◌, ◌≤◌, 
 ghost use Rattle.futures.specs.Poll.{IfReady, OnPending};
 ghost use Rattle.futures.specs.Task.{IsArmed, Keeps};
 ghost use Rattle.futures.specs.declared.task.Poll.TheVariants as polls;
-ghost use Rattle.qh_base.specs.declared.connection_error.ConnectionError.TheVariants as error;
 ghost use Rattle.qh_base.specs.declared.transport_error.TransportError.{TransportError as ATransportError};
 ghost use Rattle.qh_conn.specs.Whole.{IsWhole, StandsStill};
 ghost use Rattle.qh_core.specs.Event.{is_drained};
 ghost use Rattle.qh_core.specs.Inner.{is_open};
+ghost use Rattle.qh_core.specs.Receiving.{IsFaulted};
 ghost use Rattle.qh_handles.specs.Turns.{AreReady, AreSent, HasCause, IsFull, IsTurnFault};
 ghost use Rattle.qh_handles.specs.declared.told.Told.{Told as AToldValue};
 ghost use Rattle.qh_quinn.specs.States.{IsState};
 ghost use Rattle.qh_quinn.specs.declared.inner.StateInner.{StateInner as AState};
-ghost use Rattle.qh_quinn.specs.Turning.{HasMadeNone, HasSameCalls, HasSentAll, IsAdvanced, IsBroughtBy, IsCounted, IsEnded, IsInOrder, IsShown, IsTakenUp, IsTurned};
+ghost use Rattle.qh_quinn.specs.Turning.{HasMadeNone, HasSameCalls, HasSentAll, IsAdvanced, IsBroughtBy, IsCounted, IsEnded, IsErrorKept, IsHeeded, IsInOrder, IsShown, IsTakenUp, IsTurned};
 ghost use Rattle.qh_quinn.specs.Telling.{AreTold};
+ghost use Rattle.qh_quinn.specs.Waiting.{HearsDriver};
 ghost use Rattle.qh_runtime.specs.Socket.{IsNeither, has_failed};
 ghost use Rattle.qh_runtime.specs.declared.runtime.IoFault.TheVariants as faults;
 ghost use Rattle.qh_runtime.specs.declared.runtime.OutMessage.{OutMessage as AnOutMessage};
@@ -22,7 +23,7 @@ ghost use Rattle.qh_spec.specs.Codes as codes;
 
 use super::StateInner;
 use futures::task::{Context, Poll};
-use qh_base::{ConnectionError, Moment, Reason, TransportError, TransportErrorCode};
+use qh_base::{Moment, Reason, TransportError, TransportErrorCode};
 use qh_handles::DriverPart;
 use qh_packet::Session;
 use qh_runtime::{AsyncUdpSocket, IoFault};
@@ -38,7 +39,7 @@ impl<S: Session> StateInner<S> {
         cx: &mut Context<'_>,
     ) -> Poll<Result<(), IoFault>>
         requires { IsState self.old }
-        ensures turned { (out : List AnOutMessage) × IsTurned (AToldValue S.HandshakeData) S.accepts S.sealed self.old now part.old.is_held out result self.new × AreSent out (X.departed socket.old) (X.departed socket.new)
+        ensures turned { (out : List AnOutMessage) × IsTurned (AToldValue S.HandshakeData) (record { name = S.name; knows = S.knows; key = S.key; sealed = S.sealed; accepts = S.accepts }) self.old now part.old.is_held out result self.new × AreSent out (X.departed socket.old) (X.departed socket.new)
             × (AreReady X.never_blocks X.Poller.never_blocks socket.old part.old.poller → result ≡ polls.Pending → IsFull part.new.keeps_going out) }
         ensures arrived { X.arrived socket.new ≡ X.arrived socket.old }
         ensures cause { HasCause X.Poller.faults result (X.faults socket.old) (X.faults socket.new) part.old.made part.new.made part.old.poller part.new.poller }
@@ -48,6 +49,7 @@ impl<S: Session> StateInner<S> {
         ensures errors { IfReady result (λ r. IfErr r IsTurnFault) }
         ensures held { part.new.is_held ≡ part.old.is_held }
         ensures armed { OnPending result (IsArmed cx.new) }
+        ensures heard { result ≡ polls.Pending → part.new.keeps_going ≡ false → HearsDriver self.new.driver cx.old cx.new }
         ensures kept { Keeps cx.old cx.new }
     {
         let was_emptied = self.is_emptied();
@@ -66,6 +68,7 @@ impl<S: Session> StateInner<S> {
     fn rest(&mut self, keeps_going: bool, cx: &mut Context<'_>) -> Poll<Result<(), IoFault>>
         ensures drained { is_drained self.old.connection.core.state ≡ true → (result ≡ polls.Ready (Ok tt)) × (self.new ≡ self.old) }
         ensures waits { is_drained self.old.connection.core.state ≡ false → (result ≡ polls.Pending) × IsArmed cx.new }
+        ensures heard { result ≡ polls.Pending → keeps_going ≡ false → HearsDriver self.new.driver cx.old cx.new }
         ensures same { self.new ≡ record self.old { driver = self.new.driver } }
         ensures kept { Keeps cx.old cx.new }
     {
@@ -90,7 +93,7 @@ impl<S: Session> StateInner<S> {
         requires logging { IsLogging self.old.connection }
         requires shown { IsShown self.old.connection }
         ensures advanced { (out : List AnOutMessage) × (advanced : IsAdvanced S.accepts S.sealed result self.old self.new out) × AreSent out (X.departed socket.old) (X.departed socket.new) × (length out ≤ 20) × (part.old.is_held ≡ true → (advanced.made ≡ []) × (out ≡ []))
-            × ((result ≡ Err faults.Memory → ⊥) → IsInOrder S.accepts S.sealed now advanced.handed advanced.made self.old.connection self.new.connection)
+            × ((result ≡ Err faults.Memory → ⊥) → IsInOrder (record { name = S.name; knows = S.knows; key = S.key; sealed = S.sealed; accepts = S.accepts }) now advanced.handed advanced.made self.old.connection self.new.connection)
             × (AreReady X.never_blocks X.Poller.never_blocks socket.old part.old.poller → part.old.keeps_going ≡ false → OnOk result (IsFull part.new.keeps_going out)) }
         ensures logging { OnOk result (IsLogging self.new.connection) }
         ensures arrived { X.arrived socket.new ≡ X.arrived socket.old }
@@ -121,6 +124,8 @@ impl<S: Session> StateInner<S> {
         ensures taken { (first : AState S) → IsState first → HasSameCalls first self.old → IsBroughtBy sent first.connection self.old.connection → IsEnded first.connection self.old.connection → was_emptied ≡ is_wanting first.connection → IsTakenUp result first self.new }
         ensures other { sent ≢ Err faults.Failed → (result ≡ sent) × AreTold self.old.is_connected self.old.connection self.new.is_connected self.new.connection × (self.new.outgoing ≡ self.old.outgoing) }
         ensures failed { sent ≡ Err faults.Failed → (self.new.outgoing ≡ None) × ((result ≡ sent) ⊎ ((result ≡ Ok tt) × (is_drained self.new.connection.core.state ≡ true))) }
+        ensures heeded { IsHeeded now (has_failed result) self.old.is_connected self.old.connection self.new }
+        ensures error { has_failed result ≡ false → (first : AState S) → first.error ≡ self.old.error → was_emptied ≡ is_wanting first.connection → IsErrorKept first self.new }
         ensures stands { StandsStill self.old.connection self.new.connection }
         ensures rest { self.new ≡ record self.old { connection = self.new.connection; is_connected = self.new.is_connected; error = self.new.error; waiting = self.new.waiting; outgoing = self.new.outgoing } }
     {
@@ -135,13 +140,11 @@ impl<S: Session> StateInner<S> {
 
     // Why the connection is lost is kept, as the handles are told: the socket failed, or nothing was kept before, or want of memory ended it now.
     fn keep_loss(&mut self, has_failed: bool, was_emptied: bool)
-        ensures failed { has_failed ≡ true → (e : ATransportError) × (self.new.error ≡ Some (error.TransportError e)) × (e.code.0 ≡ codes.internal_error) }
+        ensures failed { has_failed ≡ true → self.new.error ≡ self.old.connection.core.error }
         ensures other { has_failed ≡ false → ((self.new.error ≡ self.old.connection.core.error) × ((self.old.error ≡ None) ⊎ ((was_emptied ≡ false) × (is_wanting self.old.connection ≡ true)))) ⊎ ((self.new.error ≡ self.old.error) × (is_some self.old.error ≡ true) × ((was_emptied ≡ true) ⊎ (is_wanting self.old.connection ≡ false))) }
         ensures rest { self.new ≡ record self.old { error = self.new.error } }
     {
-        if has_failed {
-            self.error = Some(ConnectionError::TransportError(socket_fault()));
-        } else if self.error.is_none() || !was_emptied && self.is_emptied() {
+        if has_failed || self.error.is_none() || !was_emptied && self.is_emptied() {
             self.error = self.connection.close_reason();
         }
     }
@@ -152,6 +155,7 @@ impl<S: Session> StateInner<S> {
         ensures other { sent ≢ Err faults.Failed → (result ≡ sent) × (self.new ≡ self.old) }
         ensures drained { sent ≡ Err faults.Failed → is_drained self.old.connection.core.state ≡ true → (result ≡ Ok tt) × (self.new ≡ record self.old { outgoing = None }) }
         ensures failed { sent ≡ Err faults.Failed → is_drained self.old.connection.core.state ≡ false → (result ≡ sent) × (is_open self.new.connection.core.state ≡ false) × (self.new ≡ record self.old { outgoing = None; connection = record self.old.connection { core = self.new.connection.core } }) }
+        ensures faulted { sent ≡ Err faults.Failed → is_drained self.old.connection.core.state ≡ false → (e : ATransportError) × IsFaulted now e self.old.connection.core self.new.connection.core × (e.code.0 ≡ codes.internal_error) }
         ensures brings { sent ≡ Err faults.Failed → is_drained self.old.connection.core.state ≡ false → Brings [] self.old.connection self.new.connection }
         ensures stands { StandsStill self.old.connection self.new.connection }
         ensures whole { IsWhole self.new.connection }

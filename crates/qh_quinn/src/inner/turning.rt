@@ -1,8 +1,8 @@
-ghost use Rattle.std.specs.Prelude.{◌≡◌, ◌⊎◌, ◌≤◌, ◌++◌, [], false, true, List, None, Ok, IfErr, OnOk, is_some, length};
+ghost use Rattle.std.specs.Prelude.{◌≡◌, ◌⊎◌, ◌≤◌, ◌++◌, [], false, true, Err, List, None, Ok, IfErr, OnOk, is_some, length};
 ghost use Rattle.futures.specs.Task.{Keeps};
 ghost use Rattle.qh_conn.specs.Whole.{IsWhole};
 ghost use Rattle.qh_handles.specs.Turns.{AreReady, AreSent, IsFull};
-ghost use Rattle.qh_quinn.specs.Turning.{HasMadeNone, IsCounted, IsHandled, IsSending, IsShown, IsTimedAt, ended, ended_by, waits_in};
+ghost use Rattle.qh_quinn.specs.Turning.{AreHandled, AreMade, HasMadeNone, IsCounted, IsFilled, IsHandled, IsSending, IsShown, IsTimedAt, ended, ended_by, waits_in};
 ghost use Rattle.qh_runtime.specs.Socket.{IsNeither, has_failed};
 ghost use Rattle.qh_runtime.specs.declared.runtime.IoFault.TheVariants as faults;
 ghost use Rattle.qh_runtime.specs.declared.runtime.OutMessage.{OutMessage as AnOutMessage};
@@ -30,7 +30,7 @@ impl<S: Session> StateInner<S> {
         requires whole { IsWhole self.old.connection }
         requires logging { IsLogging self.old.connection }
         requires shown { IsShown self.old.connection }
-        ensures handled { IsHandled S.accepts S.sealed result self.old self.new }
+        ensures handled { (h : IsHandled S.accepts S.sealed result self.old self.new) × OnOk result (AreHandled (record { name = S.name; knows = S.knows; key = S.key; sealed = S.sealed; accepts = S.accepts }) h.handed self.old.connection self.new.connection) }
         ensures all { OnOk result (self.new.events.items ≡ []) }
         ensures part { part.new ≡ record part.old { poller = part.new.poller } }
         ensures poller { (part.new.poller ≡ part.old.poller) ⊎ (part.new.poller ≡ None) }
@@ -74,8 +74,9 @@ impl<S: Session> StateInner<S> {
         requires whole { IsWhole self.old.connection }
         requires shown { IsShown self.old.connection }
         requires calm { is_wanting self.old.connection ≡ false }
-        ensures sending { (out : List AnOutMessage) × IsSending S.accepts S.sealed result self.old self.new out × AreSent out (X.departed socket.old) (X.departed socket.new) × (length out ≤ 20)
-            × (AreReady X.never_blocks X.Poller.never_blocks socket.old part.old.poller → part.old.keeps_going ≡ false → OnOk result (IsFull part.new.keeps_going out)) }
+        ensures sending { (out : List AnOutMessage) × (sending : IsSending S.accepts S.sealed result self.old self.new out) × AreSent out (X.departed socket.old) (X.departed socket.new) × (length out ≤ 20)
+            × (AreReady X.never_blocks X.Poller.never_blocks socket.old part.old.poller → part.old.keeps_going ≡ false → OnOk result (IsFull part.new.keeps_going out))
+            × ((result ≡ Err faults.Memory → ⊥) → IsFilled S.sealed now sending.made self.old.connection self.new.connection) }
         ensures arrived { X.arrived socket.new ≡ X.arrived socket.old }
         ensures counted { IsCounted X.Poller.faults (has_failed result) (X.faults socket.old) (X.faults socket.new) part.old.made part.new.made part.old.poller part.new.poller }
         ensures sent { AreReady X.never_blocks X.Poller.never_blocks socket.old part.old.poller → OnOk result (part.new.keeps_going ≡ false → HasMadeNone self.new) }
@@ -105,8 +106,10 @@ impl<S: Session> StateInner<S> {
         requires whole { IsWhole self.old.connection }
         requires shown { IsShown self.old.connection }
         requires calm { is_wanting self.old.connection ≡ false }
-        ensures sending { (out : List AnOutMessage) × IsSending S.accepts S.sealed (ended_by result) self.old self.new out × AreSent out (X.departed socket.old) (X.departed socket.new) × (length out ≤ 1)
-            × (AreReady X.never_blocks X.Poller.never_blocks socket.old part.old.poller → result ≡ Ok true → length out ≡ 1) }
+        ensures sending { (out : List AnOutMessage) × (sending : IsSending S.accepts S.sealed (ended_by result) self.old self.new out) × AreSent out (X.departed socket.old) (X.departed socket.new) × (length out ≤ 1)
+            × (AreReady X.never_blocks X.Poller.never_blocks socket.old part.old.poller → result ≡ Ok true → length out ≡ 1)
+            × (result ≡ Ok true → AreMade S.sealed now sending.made self.old.connection self.new.connection)
+            × ((result ≡ Err faults.Memory → ⊥) → IsFilled S.sealed now sending.made self.old.connection self.new.connection) }
         ensures arrived { X.arrived socket.new ≡ X.arrived socket.old }
         ensures counted { IsCounted X.Poller.faults (has_failed result) (X.faults socket.old) (X.faults socket.new) part.old.made part.new.made part.old.poller part.new.poller }
         ensures sent { AreReady X.never_blocks X.Poller.never_blocks socket.old part.old.poller → result ≡ Ok false → HasMadeNone self.new }
@@ -128,7 +131,7 @@ impl<S: Session> StateInner<S> {
         requires whole { IsWhole self.old.connection }
         requires shown { IsShown self.old.connection }
         requires calm { is_wanting self.old.connection ≡ false }
-        ensures sending { IsSending S.accepts S.sealed (ended result) self.old self.new [] }
+        ensures sending { (sending : IsSending S.accepts S.sealed (ended result) self.old self.new []) × (result ≡ Ok true → AreMade S.sealed now sending.made self.old.connection self.new.connection) × OnOk result (IsFilled S.sealed now sending.made self.old.connection self.new.connection) }
         ensures there { result ≡ Ok true → is_some self.new.outgoing ≡ true }
         ensures none { result ≡ Ok false → HasMadeNone self.new }
     {

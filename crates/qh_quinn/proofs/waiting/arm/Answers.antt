@@ -1,5 +1,5 @@
 use Rattle.qh_quinn.proofs.Heard.{armed_heard}
-use Rattle.qh_quinn.proofs.WaitingLists.{armed_same}
+use Rattle.qh_quinn.proofs.WaitingLists.{armed_same, others_set}
 use Rattle.qh_quinn.proofs.waiting.arm.Goals as goal
 
 pub returns-clause-same : goal.returns-clause-same
@@ -7,3 +7,6 @@ returns-clause-same c = armed_same c.args.waiting.now c.args.at c.index-waiting-
 
 pub returns-clause-heard : goal.returns-clause-heard
 returns-clause-heard c = armed_heard c.args.waiting.now c.args.at _ c.args.cx.now c.register-pending.new.self.lacks_waker c.requires c.register-pending.ensures.left
+
+pub returns-clause-others : goal.returns-clause-others
+returns-clause-others c = λ k isnt. others_set c.args.waiting.now c.args.at k _ isnt

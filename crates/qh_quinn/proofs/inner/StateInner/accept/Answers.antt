@@ -1,5 +1,6 @@
 use Rattle.std.proofs.Common.{refl, sym, ap, ◌∙◌, ◌==◌, subst, Option, Some, if◌then◌else◌}
 use Rattle.qh_book.specs.declared.call.Call.TheVariants as call
+use Rattle.qh_core.specs.Inner.{with_streams}
 use Rattle.qh_quinn.proofs.Moving.{moved}
 use Rattle.qh_quinn.proofs.OpenCalls.{accepts, lost_or_waits_roomy, none_to_accept, stays_err, stays_roomy}
 use Rattle.qh_conn.specs.declared.connection.Connection.{Connection}
@@ -8,8 +9,9 @@ use Rattle.qh_quinn.specs.Acting.{IsAnswered}
 use Rattle.qh_quinn.specs.Readers.{new_reader}
 use Rattle.qh_quinn.specs.declared.readers.Reader.{Reader}
 use Rattle.qh_streams.specs.Streams.{counts_of, is_two_way, with_accepted, with_counts}
-use Rattle.qh_quinn.proofs.CallParts.{quiet}
+use Rattle.qh_quinn.proofs.CallParts.{quiet, undone}
 use Rattle.qh_book.specs.declared.reply.Reply.TheVariants as reply
+use Rattle.qh_quinn.proofs.CallStreams.{accepts_none, core_is}
 use Rattle.qh_quinn.proofs.inner.StateInner.accept.Goals as goal
 
 pub returns-in_err-reserve-clause-value : goal.returns-in_err-reserve-clause-value
@@ -47,5 +49,20 @@ returns-clause-calls g c =
     let to = c.accept.new.self in
     let e = c.in-Some-accept.ensures in
     let streams = s.connection.core.space.streams in
-    let on = on_streams s.connection to (with_counts streams (is_two_way c.args.dir) (with_accepted (counts_of streams (is_two_way c.args.dir)))) e.some.2 e.rest in
-    quiet (call.Accept c.args.dir) (reply.Opened c.in-Some-accept.id) s (record s { connection = to; handles = c.in-Some.handles; readers = c.hold.new.self }) e.stands (λ b. refl) (λ sends. sends) on.0
+    quiet (call.Accept c.args.dir) (reply.Opened c.in-Some-accept.id) s (record s { connection = to; handles = c.in-Some.handles; readers = c.hold.new.self }) e.stands (λ b. refl) (λ sends. sends)
+    (record { is_next = e.some.0; came = e.some.1; is = core_is s.connection to e.rest (with_streams s.connection.core (with_counts streams (is_two_way c.args.dir) (with_accepted (counts_of streams (is_two_way c.args.dir))))) e.some.2 })
+
+pub returns-then-is_emptied-clause-calls : goal.returns-then-is_emptied-clause-calls
+returns-then-is_emptied-clause-calls g c =
+    let s = c.args.self.now in
+    let a = c.args in
+    undone (call.Accept a.dir) c.closed_or_waits.result s (record s { readers = c.reserve.new.self }) refl (λ b shown. refl) (accepts_none a.dir c.closed_or_waits.result s.error s.connection s.connection c.closed_or_waits.ensures refl)
+
+pub returns-in_default-accept-clause-calls : goal.returns-in_default-accept-clause-calls
+returns-in_default-accept-clause-calls g c =
+    let s = c.args.self.now in
+    let to = c.accept.new.self in
+    let a = c.args in
+    let result = c.closed_or_waits-in_default-accept.result in
+    let same = (c.in_default-accept.ensures.none refl).1 in
+    undone (call.Accept a.dir) result s (record s { connection = to; readers = c.reserve.new.self }) same (λ b shown. refl) (accepts_none a.dir result s.error s.connection to c.closed_or_waits-in_default-accept.ensures same)

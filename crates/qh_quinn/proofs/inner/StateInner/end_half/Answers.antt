@@ -1,8 +1,10 @@
-use Rattle.std.proofs.Common.{sym, ◌∙◌}
+use Rattle.std.proofs.Common.{refl, sym, ◌∙◌}
+use Rattle.std.proofs.lemmas.Bool.{false≢true}
 use Rattle.qh_quinn.proofs.HalfEnds.{ends_by_finish, ends_by_reset, lost_ends}
 use Rattle.qh_quinn.proofs.Moving.{none_at}
-use Rattle.qh_quinn.proofs.CallCloses.{finish_carries, lost_carries, reset_carries}
+use Rattle.qh_quinn.proofs.CallCloses.{finish_carries, half_finished, half_reset, lost_carries, reset_carries}
 use Rattle.qh_quinn.proofs.CallParts.{nothing_more}
+use Rattle.qh_quinn.specs.Streaming.{EndsSending}
 use Rattle.qh_quinn.proofs.inner.StateInner.end_half.Goals as goal
 
 pub stop_code-requires-clause-unlost : goal.stop_code-requires-clause-unlost
@@ -37,3 +39,21 @@ pub returns-clause-carries : goal.returns-clause-carries
 returns-clause-carries g c =
     let s = c.args.self.now in
     reset_carries s c.reset.new.self c.args.id c.in-Some.code c.reset.result (none_at s.error (sym c.is_some.ensures ∙ c.if-is_some.false)) (λ b shown p live. c.stop_code.ensures b shown p live ∙ c.in-Some.is) c.reset.ensures.value c.reset.ensures.calls
+
+pub returns-then-is_some-clause-half : goal.returns-then-is_some-clause-half
+returns-then-is_some-clause-half g c = EndsSending.kept refl
+
+pub returns-in_default-clause-half : goal.returns-in_default-clause-half
+returns-in_default-clause-half g c = half_finished c.args.id.0 c.finish.result c.args.self.now.connection c.finish.new.self.connection c.finish.ensures.calls.called
+
+pub returns-clause-half : goal.returns-clause-half
+returns-clause-half g c = half_reset c.args.id.0 c.in-Some.code c.reset.result c.args.self.now.connection c.reset.new.self.connection c.reset.ensures.calls.called
+
+pub returns-then-is_some-clause-lost : goal.returns-then-is_some-clause-lost
+returns-then-is_some-clause-lost g c = λ lost. refl
+
+pub returns-in_default-clause-lost : goal.returns-in_default-clause-lost
+returns-in_default-clause-lost g c = λ lost. absurd (false≢true (sym (sym c.is_some.ensures ∙ c.if-is_some.false) ∙ lost))
+
+pub returns-clause-lost : goal.returns-clause-lost
+returns-clause-lost g c = λ lost. absurd (false≢true (sym (sym c.is_some.ensures ∙ c.if-is_some.false) ∙ lost))

@@ -23,5 +23,5 @@ pub returns-clause-calls : goal.returns-clause-calls
 returns-clause-calls g c =
     let e = c.end_reading.ensures in
     recv_ends_called c.args.self.now c.end_reading.new.self c.end_reader.new.self c.end_handle.new.self c.args.id c.in-Some.reader (sym c.in-Some.ensures)
-    (record { changed = e.changed; carries = e.carries; streams = e.streams; wakes = e.wakes; handles = e.counts.0; error = e.counts.1; last_turn = turn_kept c.args.self.now c.end_reading.new.self e.rest })
+    (record { changed = e.changed; carries = e.carries; half = e.half; lost = e.lost; wakes = e.wakes; handles = e.counts.0; error = e.counts.1; last_turn = turn_kept c.args.self.now c.end_reading.new.self e.rest })
     c.end_reader.ensures.changed c.end_reader.ensures.same c.end_handle.ensures.calls c.end_handle.ensures.awake

@@ -14,4 +14,4 @@ pub returns-clause-calls : goal.returns-clause-calls
 returns-clause-calls g c =
     let e = c.end_half.ensures in
     let h = c.end_handle.ensures in
-    send_ended c.args.id c.args.self.now c.end_half.new.self c.end_handle.new.self (λ b. with_send_ended b c.args.id.0) e.changed e.carries e.streams e.counts e.rest e.wakes h.awake h.calls
+    send_ended c.args.id c.args.self.now c.end_half.new.self c.end_handle.new.self (λ b. with_send_ended b c.args.id.0) e.changed e.carries e.half e.lost e.counts e.rest e.wakes h.awake h.calls

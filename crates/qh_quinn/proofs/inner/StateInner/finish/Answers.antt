@@ -2,10 +2,12 @@ use Rattle.std.proofs.Common.{refl, sym, ◌∙◌, None}
 use Rattle.qh_book.specs.declared.call.Call.TheVariants as call
 use Rattle.qh_book.specs.declared.reply.Reply.TheVariants as reply
 use Rattle.qh_half.specs.declared.fault.FinishFault.TheVariants as finish
+use Rattle.qh_halves.specs.SendHalves.{Finishes}
 use Rattle.qh_quinn.proofs.Sends.{finished, sends_at}
 use Rattle.qh_quinn.proofs.Writes.{finish_refused, on_streams}
-use Rattle.qh_quinn.proofs.CallParts.{same_on_streams, undone}
+use Rattle.qh_quinn.proofs.CallParts.{undone}
 use Rattle.qh_quinn.proofs.CallSends.{finished_calls, needless_calls}
+use Rattle.qh_quinn.proofs.CallStreams.{send_changed}
 use Rattle.qh_quinn.proofs.inner.StateInner.finish.Goals as goal
 
 pub returns-in-Ok-clause-value : goal.returns-in-Ok-clause-value
@@ -34,8 +36,8 @@ returns-in-Ok-clause-calls g c =
     let s = c.args.self.now in
     let e = c.in-Ok.ensures in
     let to = c.finish.new.self in
-    let on = on_streams s.connection to (record s.connection.core.space.streams { send = to.core.space.streams.send }) e.ok.1 e.rest in
-    finished_calls c.args.id s c.wake.new.self to c.refusals_shown.ensures.half (sym c.is_emptied.ensures ∙ c.if-is_emptied.false) c.wake.ensures on.0 e.ok.0 e.carries
+    finished_calls c.args.id s c.wake.new.self to c.refusals_shown.ensures.half (sym c.is_emptied.ensures ∙ c.if-is_emptied.false) c.wake.ensures
+    (send_changed s.connection to e.rest Finishes c.args.id.0 0 e.ok.0 e.ok.1) e.carries
 
 pub returns-in-Err-Stopped-clause-calls : goal.returns-in-Err-Stopped-clause-calls
 returns-in-Err-Stopped-clause-calls g c =
@@ -47,4 +49,4 @@ pub returns-in-Err-ClosedStream-clause-calls : goal.returns-in-Err-ClosedStream-
 returns-in-Err-ClosedStream-clause-calls g c =
     let s = c.args.self.now in
     let same = c.in-Err-ClosedStream.ensures.fault.1 in
-    undone (call.Finish c.args.id) reply.ClosedStream s (record s { connection = c.finish.new.self }) same (λ b shown. refl) (same_on_streams s.connection c.finish.new.self same)
+    undone (call.Finish c.args.id) reply.ClosedStream s (record s { connection = c.finish.new.self }) same (λ b shown. refl) same

@@ -32,4 +32,5 @@ returns-clause-calls g c =
     let e = c.in_ok-id.ensures in
     let some = rw c.in-Some-2.is at e.some in
     let id = c.in-Some-2.id in
-    quiet (call.Open c.args.dir) (reply.Opened id) s (record s { connection = to; handles = c.in-Some-handles_with.handles; readers = c.hold_opened.new.held }) e.stands (λ b. refl) (λ sends. sends) (onward s.connection to some.4 e.rest)
+    quiet (call.Open c.args.dir) (reply.Opened id) s (record s { connection = to; handles = c.in-Some-handles_with.handles; readers = c.hold_opened.new.held }) e.stands (λ b. refl) (λ sends. sends)
+    (record { is_next = some.1; permitted = some.2; opened = some.3; rest = onward s.connection to some.4 e.rest })

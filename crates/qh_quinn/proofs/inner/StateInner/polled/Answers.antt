@@ -1,10 +1,11 @@
-use Rattle.std.proofs.Common.{refl, sym, subst, ◌∙◌, Ok}
+use Rattle.std.proofs.Common.{◌≡◌, List, refl, sym, subst, ◌∙◌, Ok}
 use Rattle.std.proofs.lemmas.Option.{same_Some}
 use Rattle.qh_book.specs.declared.interest.Interest.{Interest}
 use Rattle.qh_book.specs.declared.reply.Reply.TheVariants as reply
 use Rattle.qh_quinn.proofs.Acts.{answered_from, fits, never_armed, pending_acts, plain_acts, plain_ready, replied, roomy}
 use Rattle.qh_quinn.proofs.CallActs.{call_beside, calls_beside}
-use Rattle.qh_quinn.specs.Waiting.{IsHeard}
+use Rattle.qh_quinn.specs.Waiting.{IsHeard, KeepsOthers}
+use Rattle.qh_quinn.specs.declared.waiting.Waiting.{Waiting}
 use Rattle.qh_quinn.proofs.inner.StateInner.polled.Goals as goal
 
 pub returns-in_default-clause-acted : goal.returns-in_default-clause-acted
@@ -43,6 +44,27 @@ pub returns-in-Pending-clause-heard : goal.returns-in-Pending-clause-heard
 returns-in-Pending-clause-heard g c = λ is i of.
     subst (λ (j : Interest). IsHeard j c.args.cx.now c.register.new.cx c.register.new.waiting.items) (same_Some c.in-Some.interest i (c.in-Some.ensures ∙ of)) c.register.ensures.heard
 
+pub returns-in-Pending-clause-fits : goal.returns-in-Pending-clause-fits
+returns-in-Pending-clause-fits g c =
+    let s = c.args.self.now in
+    let mid = c.answered-2.new.self in
+    let e = c.in_ok-reply.ensures in
+    let value = answered_from s (record s { waiting = c.reserve.new.self }) mid c.args.call (Ok reply.Pending) (roomy s (record s { waiting = c.reserve.new.self }) refl c.reserve.ensures.items) (rw c.in-Pending.is at e.value) in
+    fits c.replies_fit.ensures c.args.call (Ok reply.Pending) s mid c.requires.no_turn c.requires.state (rw c.in-Pending.is at e.fits) value
+
+pub returns-in_default-clause-others : goal.returns-in_default-clause-others
+returns-in_default-clause-others g c =
+    never_armed c.answered.result _ (plain_ready c.pending_registers.ensures.registers c.args.call c.answered.result c.args.self.now c.answered.new.self (sym c.in_default.ensures) c.requires.state c.answered.ensures.value)
+
+pub returns-in-Pending-clause-others : goal.returns-in-Pending-clause-others
+returns-in-Pending-clause-others g c = λ is i of.
+    let room = c.reserve.new.self in
+    let mid = c.answered-2.new.self.waiting in
+    let kept : mid ≡ room = c.in_ok-reply.ensures.waiting c.in-Pending.is in
+    let items : mid.items ≡ c.args.self.now.waiting.items = rw kept c.reserve.ensures.items in
+    subst (λ (j : Interest). KeepsOthers j c.args.cx.now.turn.task c.args.self.now.waiting.items c.register.new.waiting.items) (same_Some c.in-Some.interest i (c.in-Some.ensures ∙ of))
+    (subst (λ (ws : List Waiting). KeepsOthers c.in-Some.interest c.args.cx.now.turn.task ws c.register.new.waiting.items) items c.register.ensures.others)
+
 pub returns : goal.returns
 returns g c =
     let s = c.args.self.now in
@@ -57,6 +79,7 @@ returns g c =
       calls = calls_beside c.args.call (Ok r) s room mid (roomy s room refl c.reserve.ensures.items) e.calls;
       armed = λ is. absurd (isnt is);
       heard = λ is. absurd (isnt is);
+      others = λ is. absurd (isnt is);
       kept = λ fact held. held;
       fits = fits c.replies_fit.ensures c.args.call (Ok r) s mid c.requires.no_turn c.requires.state e.fits answered;
       free = λ free. refl;

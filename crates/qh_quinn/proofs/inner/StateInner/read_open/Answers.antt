@@ -1,4 +1,4 @@
-use Rattle.std.proofs.Common.{◌≡◌, ◌==◌, [], ◌∷◌, Err, refl, sym, ap, ◌∙◌, subst, Some, None, false, true}
+use Rattle.std.proofs.Common.{◌≡◌, ◌==◌, [], ◌∷◌, Err, refl, sym, ap, ◌∙◌, inl, subst, Some, None, false, true}
 use Rattle.qh_book.specs.declared.call.Call.TheVariants as call
 use Rattle.qh_book.specs.declared.reply.Reply.TheVariants as reply
 use Rattle.qh_conn.specs.declared.connection.Connection.{Connection}
@@ -9,6 +9,7 @@ use Rattle.qh_core.specs.Follows.{take_acts}
 use Rattle.qh_half.specs.declared.fault.ReadableFault.TheVariants as readable
 use Rattle.qh_half.specs.declared.fault.ReadFault.TheVariants as fault
 use Rattle.qh_quinn.proofs.CallReads.{called_woken, connection_kept, ended_read, read_none, read_quiet, same_by_streams}
+use Rattle.qh_quinn.proofs.CallStreams.{read_still, reads_blocked, reads_illegal, reads_in}
 use Rattle.qh_quinn.proofs.Moving.{onward, stays_same}
 use Rattle.qh_quinn.proofs.OpenReads.{blocked_answers, fault_is, illegal_answers}
 use Rattle.qh_quinn.proofs.ReadCalls.{begun_in, greeted_if_held, never_closed}
@@ -114,9 +115,12 @@ returns-in-Ok-Some-clause-calls g c =
     let to = c.read.new.self in
     let a = c.args in
     let chunk = c.in-Ok-Some.chunk in
+    let reads = read_still s a.id.0 a.reader c.requires.there c.requires.calm c.requires.opened in
+    let r = rw c.in-Ok-Some.field-0-is at c.in-Ok-Some.ensures.ok in
     rw c.in-Ok-Some.field-0-is
-    (called_woken {T = g.row.T.Denot} (call.Read a.id a.max_length a.is_ordered) (reply.Bytes chunk.offset chunk.bytes) s c.take.new.self to c.take.new.self.readers (piece_acts a.id.0 chunk.offset chunk.bytes) (λ h. h) c.take.ensures.rest
-    (onward s.connection to c.in-Ok-Some.ensures.streams c.in-Ok-Some.ensures.rest) (rw c.in-Ok-Some.field-0-is at c.in-Ok-Some.ensures.carries) (λ b shown. refl))
+    (called_woken {T = g.row.T.Denot} (call.Read a.id a.max_length a.is_ordered) (reply.Bytes chunk.offset chunk.bytes) s c.take.new.self to c.take.new.self.readers (piece_acts a.id.0 chunk.offset chunk.bytes)
+    (reads_in {T = g.row.T.Denot} a.id.0 a.max_length a.is_ordered s (record s { connection = to; readers = c.take.new.self.readers; driver = None }) (reply.Bytes chunk.offset chunk.bytes) reads (inl (r, onward s.connection to c.in-Ok-Some.ensures.streams c.in-Ok-Some.ensures.rest)))
+    c.take.ensures.rest (rw c.in-Ok-Some.field-0-is at c.in-Ok-Some.ensures.carries) (λ b shown. refl))
 
 pub returns-in-Ok-None-clause-calls : goal.returns-in-Ok-None-clause-calls
 returns-in-Ok-None-clause-calls g c =
@@ -124,8 +128,11 @@ returns-in-Ok-None-clause-calls g c =
     let to = c.read.new.self in
     let a = c.args in
     let take = c.take-in-Ok-None in
-    called_woken {T = g.row.T.Denot} (call.Read a.id a.max_length a.is_ordered) reply.Ended s take.new.self to take.new.self.readers (ReadEnd a.id.0 ∷ []) (λ h. h) take.ensures.rest
-    (onward s.connection to c.in-Ok-None.ensures.streams c.in-Ok-None.ensures.rest) (rw c.in-Ok-None.field-0-is at c.in-Ok-None.ensures.carries) (λ b shown. ended_read s a.id.0 a.reader c.requires.there c.requires.opened b shown)
+    let reads = read_still s a.id.0 a.reader c.requires.there c.requires.calm c.requires.opened in
+    let r = rw c.in-Ok-None.field-0-is at c.in-Ok-None.ensures.ok in
+    called_woken {T = g.row.T.Denot} (call.Read a.id a.max_length a.is_ordered) reply.Ended s take.new.self to take.new.self.readers (ReadEnd a.id.0 ∷ [])
+    (reads_in {T = g.row.T.Denot} a.id.0 a.max_length a.is_ordered s (record s { connection = to; readers = take.new.self.readers; driver = None }) reply.Ended reads (r, onward s.connection to c.in-Ok-None.ensures.streams c.in-Ok-None.ensures.rest))
+    take.ensures.rest (rw c.in-Ok-None.field-0-is at c.in-Ok-None.ensures.carries) (λ b shown. ended_read s a.id.0 a.reader c.requires.there c.requires.opened b shown)
 
 pub returns-in-Err-Readable-ClosedStream-clause-calls : goal.returns-in-Err-Readable-ClosedStream-clause-calls
 returns-in-Err-Readable-ClosedStream-clause-calls g c =
@@ -143,8 +150,9 @@ returns-in-Err-Readable-IllegalOrderedRead-clause-calls g c =
     let greeted = greeted_if_held s a.id.0 a.reader c.requires.state c.requires.there c.requires.calm in
     let r = fault_is a.max_length a.is_ordered a.id.0 s.connection to _ (Readable readable.IllegalOrderedRead) (c.in-Err-Readable-IllegalOrderedRead.field-0-is ∙ ap Readable c.in-Err-Readable-IllegalOrderedRead.field-0-0-is) greeted c.in-Err-Readable-IllegalOrderedRead.ensures.fault in
     let same = same_by_streams s.connection to (onward s.connection to c.in-Err-Readable-IllegalOrderedRead.ensures.streams c.in-Err-Readable-IllegalOrderedRead.ensures.rest) r.1 in
-    read_none {T = g.row.T.Denot} a.id a.max_length a.is_ordered c.read_illegal.result reply.IllegalOrderedRead (a.max_length == 0) s c.read_illegal.new.self c.read_illegal.ensures.value (connection_kept s c.read_illegal.new.self to c.read_illegal.new.self.readers c.read_illegal.ensures.rest ∙ same)
-    (λ b shown. refl)
+    let kept = connection_kept s c.read_illegal.new.self to c.read_illegal.new.self.readers c.read_illegal.ensures.rest ∙ same in
+    read_none {T = g.row.T.Denot} a.id a.max_length a.is_ordered c.read_illegal.result reply.IllegalOrderedRead (a.max_length == 0) s c.read_illegal.new.self c.read_illegal.ensures.value kept (λ b shown. refl)
+    (reads_illegal {T = g.row.T.Denot} a.id.0 a.max_length a.is_ordered s c.read_illegal.new.self c.read_illegal.result c.read_illegal.ensures.value (read_still s a.id.0 a.reader c.requires.there c.requires.calm c.requires.opened) kept)
 
 pub returns-in-Ok-Some-reset_in-clause-calls : goal.returns-in-Ok-Some-reset_in-clause-calls
 returns-in-Ok-Some-reset_in-clause-calls g c =
@@ -155,8 +163,12 @@ returns-in-Ok-Some-reset_in-clause-calls g c =
     let take = c.take-in-Ok-Some-reset_in in
     let found : _ ≡ fault.Reset code = rw c.in-Ok-Some-reset_in.field-0-is at c.in-Ok-Some-reset_in.ensures in
     let is : c.in-Err-Read.fault ≡ fault.Reset code = let tied = c.in-Err-Read.fault-is in cc in
-    called_woken {T = g.row.T.Denot} (call.Read a.id a.max_length a.is_ordered) (reply.Reset code) s take.new.self to take.new.self.readers (ReadReset a.id.0 code ∷ []) (λ h. h) take.ensures.rest
-    (onward s.connection to c.in-Err-Read.ensures.streams c.in-Err-Read.ensures.rest) (subst (λ (e : TakeFault). CarriesOn s.connection to (take_acts a.id.0 (Err e))) (c.in-Err-Read.field-0-is ∙ ap Read is) c.in-Err-Read.ensures.carries) (λ b shown. refl)
+    let reads = read_still s a.id.0 a.reader c.requires.there c.requires.calm c.requires.opened in
+    let greeted = greeted_if_held s a.id.0 a.reader c.requires.state c.requires.there c.requires.calm in
+    let r = fault_is a.max_length a.is_ordered a.id.0 s.connection to _ (Read (fault.Reset code)) (c.in-Err-Read.field-0-is ∙ ap Read is) greeted c.in-Err-Read.ensures.fault in
+    called_woken {T = g.row.T.Denot} (call.Read a.id a.max_length a.is_ordered) (reply.Reset code) s take.new.self to take.new.self.readers (ReadReset a.id.0 code ∷ [])
+    (reads_in {T = g.row.T.Denot} a.id.0 a.max_length a.is_ordered s (record s { connection = to; readers = take.new.self.readers; driver = None }) (reply.Reset code) reads (r, onward s.connection to c.in-Err-Read.ensures.streams c.in-Err-Read.ensures.rest))
+    take.ensures.rest (subst (λ (e : TakeFault). CarriesOn s.connection to (take_acts a.id.0 (Err e))) (c.in-Err-Read.field-0-is ∙ ap Read is) c.in-Err-Read.ensures.carries) (λ b shown. refl)
 
 pub returns-in-Ok-None-reset_in-clause-calls : goal.returns-in-Ok-None-reset_in-clause-calls
 returns-in-Ok-None-reset_in-clause-calls g c =
@@ -165,8 +177,13 @@ returns-in-Ok-None-reset_in-clause-calls g c =
     let a = c.args in
     let found : _ ≡ fault.Blocked = rw c.in-Ok-None-reset_in.field-0-is at c.in-Ok-None-reset_in.ensures in
     let is : c.in-Err-Read.fault ≡ fault.Blocked = let tied = c.in-Err-Read.fault-is in cc in
-    read_quiet {T = g.row.T.Denot} a.id a.max_length a.is_ordered c.read_blocked.result s c.read_blocked.new.self to s.error c.read_blocked.ensures.value (connection_kept s c.read_blocked.new.self to c.read_blocked.new.self.readers c.read_blocked.ensures.rest)
-    (onward s.connection to c.in-Err-Read.ensures.streams c.in-Err-Read.ensures.rest) (subst (λ (e : TakeFault). CarriesOn s.connection to (take_acts a.id.0 (Err e))) (c.in-Err-Read.field-0-is ∙ ap Read is) c.in-Err-Read.ensures.carries)
+    let reads = read_still s a.id.0 a.reader c.requires.there c.requires.calm c.requires.opened in
+    let greeted = greeted_if_held s a.id.0 a.reader c.requires.state c.requires.there c.requires.calm in
+    let r = fault_is a.max_length a.is_ordered a.id.0 s.connection to _ (Read fault.Blocked) (c.in-Err-Read.field-0-is ∙ ap Read is) greeted c.in-Err-Read.ensures.fault in
+    let kept = connection_kept s c.read_blocked.new.self to c.read_blocked.new.self.readers c.read_blocked.ensures.rest in
+    read_quiet {T = g.row.T.Denot} a.id a.max_length a.is_ordered c.read_blocked.result s c.read_blocked.new.self to s.error c.read_blocked.ensures.value kept
+    (subst (λ (e : TakeFault). CarriesOn s.connection to (take_acts a.id.0 (Err e))) (c.in-Err-Read.field-0-is ∙ ap Read is) c.in-Err-Read.ensures.carries)
+    (reads_blocked a.id.0 a.max_length a.is_ordered s c.read_blocked.new.self g.row.T.Denot to kept reads (r, onward s.connection to c.in-Err-Read.ensures.streams c.in-Err-Read.ensures.rest))
 
 pub returns-in-Err-clause-calls : goal.returns-in-Err-clause-calls
 returns-in-Err-clause-calls g c =

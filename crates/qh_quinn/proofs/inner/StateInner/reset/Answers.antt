@@ -1,9 +1,11 @@
 use Rattle.std.proofs.Common.{refl, sym, ◌∙◌, None}
 use Rattle.qh_book.specs.declared.call.Call.TheVariants as call
 use Rattle.qh_book.specs.declared.reply.Reply.TheVariants as reply
+use Rattle.qh_halves.specs.SendHalves.{IsResetWith}
 use Rattle.qh_quinn.proofs.Sends.{sends_at, was_reset}
 use Rattle.qh_quinn.proofs.Writes.{on_streams, refused_as, reset_refused}
-use Rattle.qh_quinn.proofs.CallParts.{same_on_streams, undone, woken_at}
+use Rattle.qh_quinn.proofs.CallParts.{undone, woken_at}
+use Rattle.qh_quinn.proofs.CallStreams.{send_changed}
 use Rattle.qh_quinn.proofs.inner.StateInner.reset.Goals as goal
 
 pub returns-in-Ok-clause-value : goal.returns-in-Ok-clause-value
@@ -27,11 +29,10 @@ returns-in-Ok-clause-calls g c =
     let s = c.args.self.now in
     let e = c.in-Ok.ensures in
     let to = c.reset.new.self in
-    let on = on_streams s.connection to (record s.connection.core.space.streams { send = to.core.space.streams.send }) e.ok.1 e.rest in
-    woken_at (call.Reset c.args.id c.args.code) reply.Done s c.wake.new.self to c.wake.ensures (λ b shown. e.carries) on.0
+    woken_at (call.Reset c.args.id c.args.code) reply.Done s c.wake.new.self to c.wake.ensures (λ b shown. e.carries) (send_changed s.connection to e.rest (IsResetWith c.args.code) c.args.id.0 0 e.ok.0 e.ok.1)
 
 pub returns-in-Err-clause-calls : goal.returns-in-Err-clause-calls
 returns-in-Err-clause-calls g c =
     let s = c.args.self.now in
     let same = c.in-Err.ensures.fault.1 in
-    undone (call.Reset c.args.id c.args.code) reply.ClosedStream s (record s { connection = c.reset.new.self }) same (λ b shown. refl) (same_on_streams s.connection c.reset.new.self same)
+    undone (call.Reset c.args.id c.args.code) reply.ClosedStream s (record s { connection = c.reset.new.self }) same (λ b shown. refl) same

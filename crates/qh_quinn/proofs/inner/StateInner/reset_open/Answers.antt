@@ -1,9 +1,11 @@
 use Rattle.std.proofs.Common.{[], ◌∷◌, refl, Some, None, false, true}
 use Rattle.qh_book.specs.declared.call.Call.TheVariants as call
 use Rattle.qh_book.specs.declared.reply.Reply.TheVariants as reply
+use Rattle.qh_halves.specs.RecvHalves.{TakesReset}
 use Rattle.qh_quinn.proofs.CallReads.{called_woken, reset_quiet}
 use Rattle.qh_quinn.proofs.CallStops.{reset_told}
-use Rattle.qh_quinn.proofs.ReadCalls.{greeted_if_held, never_closed_at, other_one}
+use Rattle.qh_quinn.proofs.CallStreams.{asked, read_still, recv_changed, takes_in, takes_none}
+use Rattle.qh_quinn.proofs.ReadCalls.{code_unknown, greeted_if_held, never_closed_at, other_one}
 use Rattle.qh_quinn.proofs.Recvs.{kept_woken, takes_at}
 use Rattle.qh_quinn.proofs.StopCalls.{untold_answers}
 use Rattle.qh_quinn.proofs.StopSteps.{tell_made}
@@ -50,9 +52,10 @@ returns-in-Ok-Some-clause-calls g c =
     let to = c.received_reset.new.self in
     let code = c.in-Ok-Some.code in
     let taken = rw c.in-Ok-Some.field-0-is at c.in-Ok-Some.ensures.ok in
-    let on = on_streams s.connection to (counted_closed (record s.connection.core.space.streams { recv = to.core.space.streams.recv }) a.id.0 (is_live s.connection.core.space.streams a.id.0)) taken.1 c.in-Ok-Some.ensures.rest in
-    called_woken {T = g.row.T.Denot} (call.ReceivedReset a.id) (reply.Code (Some code)) s c.wake.new.self to c.keep.new.self.readers (ReadReset a.id.0 code ∷ []) (λ h. h)
-    (kept_woken s c.keep.new.self c.wake.new.self to None c.keep.ensures.rest c.wake.ensures) on.0 (rw c.in-Ok-Some.field-0-is at c.in-Ok-Some.ensures.carries)
+    let asks = asked s a.id.0 a.reader c.requires.there (read_still s a.id.0 a.reader c.requires.there c.requires.calm c.requires.opened) (code_unknown s a.id.0 a.reader c.requires.state c.requires.there c.requires.calm c.requires.opened) in
+    called_woken {T = g.row.T.Denot} (call.ReceivedReset a.id) (reply.Code (Some code)) s c.wake.new.self to c.keep.new.self.readers (ReadReset a.id.0 code ∷ [])
+    (takes_in {T = g.row.T.Denot} a.id.0 s (record s { connection = to; readers = c.keep.new.self.readers; driver = None }) (reply.Code (Some code)) asks (recv_changed s.connection to c.in-Ok-Some.ensures.rest (TakesReset (Some code)) a.id.0 taken.0 taken.1))
+    (kept_woken s c.keep.new.self c.wake.new.self to None c.keep.ensures.rest c.wake.ensures) (rw c.in-Ok-Some.field-0-is at c.in-Ok-Some.ensures.carries)
     (λ b shown. reset_told g.row.T.Denot a.id code s a.reader c.requires.there c.requires.opened b shown)
 
 pub returns-in-Ok-None-clause-calls : goal.returns-in-Ok-None-clause-calls
@@ -61,8 +64,9 @@ returns-in-Ok-None-clause-calls g c =
     let a = c.args in
     let to = c.received_reset.new.self in
     let untold = rw c.in-Ok-None.field-0-is at c.in-Ok-None.ensures.ok in
-    let on = on_streams s.connection to (counted_closed (record s.connection.core.space.streams { recv = to.core.space.streams.recv }) a.id.0 (is_live s.connection.core.space.streams a.id.0)) untold.1 c.in-Ok-None.ensures.rest in
-    reset_quiet {T = g.row.T.Denot} a.id c.closed_or_waits.result s (record s { connection = to }) to s.error c.closed_or_waits.ensures refl on.0 (rw c.in-Ok-None.field-0-is at c.in-Ok-None.ensures.carries)
+    let asks = asked s a.id.0 a.reader c.requires.there (read_still s a.id.0 a.reader c.requires.there c.requires.calm c.requires.opened) (code_unknown s a.id.0 a.reader c.requires.state c.requires.there c.requires.calm c.requires.opened) in
+    reset_quiet {T = g.row.T.Denot} a.id c.closed_or_waits.result s (record s { connection = to }) to s.error c.closed_or_waits.ensures refl (rw c.in-Ok-None.field-0-is at c.in-Ok-None.ensures.carries)
+    (takes_none a.id.0 s (record s { connection = to }) g.row.T.Denot asks (recv_changed s.connection to c.in-Ok-None.ensures.rest (TakesReset None) a.id.0 untold.0 untold.1))
 
 pub returns-in-Err-clause-calls : goal.returns-in-Err-clause-calls
 returns-in-Err-clause-calls g c =

@@ -5,7 +5,7 @@ use Rattle.qh_quinn.proofs.DatagramCalls.{datagram_answers, sent_steps, waits_st
 use Rattle.qh_quinn.proofs.StatesKept.{calm_unlost, rest_self}
 use Rattle.qh_quinn.specs.Acting.{IsAnswered}
 use Rattle.qh_quinn.specs.declared.inner.StateInner.{StateInner}
-use Rattle.qh_quinn.proofs.CallDatagrams.{queued, unqueued}
+use Rattle.qh_quinn.proofs.CallDatagrams.{queued}
 use Rattle.qh_quinn.proofs.CallParts.{nothing_more, quiet, woken_at}
 use Rattle.qh_quinn.proofs.inner.StateInner.send_datagram.Goals as goal
 
@@ -42,4 +42,4 @@ returns-in-Err-Blocked-clause-calls g c =
     let e = c.in-Err-Blocked.ensures in
     let to = c.send_datagram.new.self in
     quiet (call.SendDatagram c.args.payload c.args.wait) reply.Pending s (record s { connection = to }) e.stands (λ b. refl) (λ sends. sends)
-    (unqueued s.connection to true (e.blocked c.in-Err-Blocked.field-0-0 c.in-Err-Blocked.field-0-is))
+    (e.blocked c.in-Err-Blocked.field-0-0 c.in-Err-Blocked.field-0-is)

@@ -1,7 +1,8 @@
 use Rattle.std.proofs.Common.{refl, sym}
 use Rattle.qh_book.specs.declared.call.Call.TheVariants as call
 use Rattle.qh_book.specs.declared.reply.Reply.TheVariants as reply
-use Rattle.qh_quinn.proofs.CallReads.{called_none}
+use Rattle.qh_quinn.proofs.CallParts.{undone}
+use Rattle.qh_quinn.proofs.CallStreams.{stops_nothing, unread_shut, unread_unheld}
 use Rattle.qh_quinn.proofs.ShutReads.{off, shut, unheld}
 use Rattle.qh_quinn.proofs.inner.StateInner.stop.Goals as goal
 
@@ -18,10 +19,12 @@ returns-then-not-reader-clause-value g c =
 
 pub returns-in_default-clause-calls : goal.returns-in_default-clause-calls
 returns-in_default-clause-calls g c =
+    let s = c.args.self.now in
     let a = c.args in
-    called_none {T = g.row.T.Denot} (call.Stop a.id a.code) reply.ClosedStream a.self.now a.self.now (λ h. h) refl (λ b shown. refl)
+    undone {T = g.row.T.Denot} (call.Stop a.id a.code) reply.ClosedStream s s refl (λ b shown. refl) (stops_nothing a.id.0 s s a.code (unread_unheld s a.id.0 (sym c.in_default.ensures)) refl)
 
 pub returns-then-not-reader-clause-calls : goal.returns-then-not-reader-clause-calls
 returns-then-not-reader-clause-calls g c =
+    let s = c.args.self.now in
     let a = c.args in
-    called_none {T = g.row.T.Denot} (call.Stop a.id a.code) reply.ClosedStream a.self.now a.self.now (λ h. h) refl (λ b shown. refl)
+    undone {T = g.row.T.Denot} (call.Stop a.id a.code) reply.ClosedStream s s refl (λ b shown. refl) (stops_nothing a.id.0 s s a.code (unread_shut s a.id.0 c.in-Some.reader (sym c.in-Some.ensures) (off c.in-Some.reader.is_open c.if-not-reader.true)) refl)

@@ -2,9 +2,11 @@ use Rattle.std.proofs.Common.{◌≡◌, ◌⊎◌, [], ◌∷◌, sym, ap, ◌�
 use Rattle.qh_book.specs.declared.call.Call.TheVariants as call
 use Rattle.qh_book.specs.declared.reply.Reply.TheVariants as reply
 use Rattle.qh_conn.specs.declared.connection.Connection.{Connection}
-use Rattle.qh_halves.specs.RecvHalves.{is_closed_at}
-use Rattle.qh_quinn.proofs.CallReads.{called_none, called_woken, carries_as, carries_both, connection_kept}
+use Rattle.qh_halves.specs.RecvHalves.{Stops, TakesReset, is_closed_at}
+use Rattle.qh_quinn.proofs.CallParts.{undone}
+use Rattle.qh_quinn.proofs.CallReads.{called_woken, carries_as, carries_both, connection_kept}
 use Rattle.qh_quinn.proofs.CallStops.{made_stop, stop_read, stop_wanting}
+use Rattle.qh_quinn.proofs.CallStreams.{read_still, recv_changed, stops_in, stops_nothing, unread_wanting}
 use Rattle.qh_quinn.proofs.LostReads.{lost_stop}
 use Rattle.qh_quinn.proofs.ReadCalls.{greeted_if_held, never_closed_at, other_one}
 use Rattle.qh_quinn.proofs.Recvs.{kept_woken, open_page, takes_at, takes_lost}
@@ -12,6 +14,7 @@ use Rattle.qh_quinn.proofs.StopCalls.{onward_both, ran, stop_untold}
 use Rattle.qh_quinn.proofs.StopSteps.{stop_made, untold_open}
 use Rattle.qh_quinn.proofs.Writes.{on_streams}
 use Rattle.qh_quinn.proofs.inner.StateInner.stop_open.Goals as goal
+use Rattle.qh_quinn.specs.Streaming.{StopsReading}
 use Rattle.qh_spec.specs.Transcript.{Stopped, ReadReset}
 use Rattle.qh_streams.specs.Streams.{counted_closed, is_live}
 
@@ -69,8 +72,10 @@ pub returns-then-is_emptied-clause-calls : goal.returns-then-is_emptied-clause-c
 returns-then-is_emptied-clause-calls g c =
     let s = c.args.self.now in
     let a = c.args in
-    called_none {T = g.row.T.Denot} (call.Stop a.id a.code) reply.Done s c.keep.new.self (λ h. h) (connection_kept s c.keep.new.self s.connection c.keep.new.self.readers c.keep.ensures.rest)
-    (λ b shown. stop_wanting g.row.T.Denot a.id a.code s a.reader c.requires.there c.requires.opened (sym c.is_emptied.ensures ∙ c.if-is_emptied.true) b shown)
+    let wanting = sym c.is_emptied.ensures ∙ c.if-is_emptied.true in
+    let same = connection_kept s c.keep.new.self s.connection c.keep.new.self.readers c.keep.ensures.rest in
+    undone {T = g.row.T.Denot} (call.Stop a.id a.code) reply.Done s c.keep.new.self same (λ b shown. stop_wanting g.row.T.Denot a.id a.code s a.reader c.requires.there c.requires.opened wanting b shown)
+    (stops_nothing a.id.0 s c.keep.new.self a.code (unread_wanting s a.id.0 wanting) same)
 
 pub returns-in-Ok-Some-clause-calls : goal.returns-in-Ok-Some-clause-calls
 returns-in-Ok-Some-clause-calls g c =
@@ -80,9 +85,10 @@ returns-in-Ok-Some-clause-calls g c =
     let calm = sym c.is_emptied.ensures ∙ c.if-is_emptied.false in
     let reset = c.in-Ok-Some.reset in
     let taken = rw c.in-Ok-Some.field-0-is at c.in-Ok-Some.ensures.ok in
-    let on = on_streams s.connection to (counted_closed (record s.connection.core.space.streams { recv = to.core.space.streams.recv }) a.id.0 (is_live s.connection.core.space.streams a.id.0)) taken.1 c.in-Ok-Some.ensures.rest in
-    called_woken {T = g.row.T.Denot} (call.Stop a.id a.code) reply.Done s c.wake.new.self to c.keep-in-Ok-Some.new.self.readers (ReadReset a.id.0 reset ∷ []) (λ h. h)
-    (kept_woken s c.keep-in-Ok-Some.new.self c.wake.new.self to None c.keep-in-Ok-Some.ensures.rest c.wake.ensures) on.0 (rw c.in-Ok-Some.field-0-is at c.in-Ok-Some.ensures.carries)
+    called_woken {T = g.row.T.Denot} (call.Stop a.id a.code) reply.Done s c.wake.new.self to c.keep-in-Ok-Some.new.self.readers (ReadReset a.id.0 reset ∷ [])
+    (stops_in a.id.0 s (record s { connection = to; readers = c.keep-in-Ok-Some.new.self.readers; driver = None }) a.code (read_still s a.id.0 a.reader c.requires.there calm c.requires.opened)
+    (StopsReading.was_reset reset (recv_changed s.connection to c.in-Ok-Some.ensures.rest (TakesReset (Some reset)) a.id.0 taken.0 taken.1)))
+    (kept_woken s c.keep-in-Ok-Some.new.self c.wake.new.self to None c.keep-in-Ok-Some.ensures.rest c.wake.ensures) (rw c.in-Ok-Some.field-0-is at c.in-Ok-Some.ensures.carries)
     (λ b shown. stop_read g.row.T.Denot a.id a.code s a.reader c.requires.there c.requires.opened calm taken.0.half (Some reset) taken.0.was taken.0.step.1 b shown)
 
 pub returns-in-Ok-None-clause-calls : goal.returns-in-Ok-None-clause-calls
@@ -98,9 +104,10 @@ returns-in-Ok-None-clause-calls g c =
     let never : ((is_some mid.handshake.peer ≡ false) ⊎ (is_closed_at mid.core.space.streams.recv a.id.0 ≡ true)) × (to ≡ mid) → ⊥ =
     λ refused. untold_open s.connection.core.space.streams.recv mid.core.space.streams.recv a.id.0 untold.0 (other_one _ (ap (λ (x : Connection _). is_some x.handshake.peer) first.0 ∙ greeted) refused.0) in
     let stopped = ran c.stop.result c.stop.ensures.ok c.stop.ensures.fault never in
-    let then_on = on_streams mid to (counted_closed (record mid.core.space.streams { recv = to.core.space.streams.recv }) a.id.0 (is_live mid.core.space.streams a.id.0)) stopped.1 c.stop.ensures.rest in
-    called_woken {T = g.row.T.Denot} (call.Stop a.id a.code) reply.Done s c.wake-in-Ok-None.new.self to c.keep-in-Ok-None.new.self.readers (Stopped a.id.0 a.code ∷ []) (λ h. h)
-    (kept_woken s c.keep-in-Ok-None.new.self c.wake-in-Ok-None.new.self to None c.keep-in-Ok-None.ensures.rest c.wake-in-Ok-None.ensures) (onward_both s.connection mid to first.0 then_on.0)
+    called_woken {T = g.row.T.Denot} (call.Stop a.id a.code) reply.Done s c.wake-in-Ok-None.new.self to c.keep-in-Ok-None.new.self.readers (Stopped a.id.0 a.code ∷ [])
+    (stops_in a.id.0 s (record s { connection = to; readers = c.keep-in-Ok-None.new.self.readers; driver = None }) a.code (read_still s a.id.0 a.reader c.requires.there calm c.requires.opened)
+    (StopsReading.stopped mid (recv_changed s.connection mid c.in-Ok-None.ensures.rest (TakesReset None) a.id.0 untold.0 untold.1) (recv_changed mid to c.stop.ensures.rest (Stops a.code) a.id.0 stopped.0 stopped.1)))
+    (kept_woken s c.keep-in-Ok-None.new.self c.wake-in-Ok-None.new.self to None c.keep-in-Ok-None.ensures.rest c.wake-in-Ok-None.ensures)
     (carries_both s.connection mid to [] (Stopped a.id.0 a.code ∷ []) (rw c.in-Ok-None.field-0-is at c.in-Ok-None.ensures.carries)
     (carries_as mid to _ (Stopped a.id.0 a.code ∷ []) (sym (made_stop a.id.0 a.code c.stop.result c.stop.ensures.fault never)) c.stop.ensures.carries))
     (λ b shown. stop_read g.row.T.Denot a.id a.code s a.reader c.requires.there c.requires.opened calm untold.0.half None untold.0.was untold.0.step.1 b shown)

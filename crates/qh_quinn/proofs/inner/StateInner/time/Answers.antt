@@ -9,22 +9,22 @@ returns-in_err-handle_timeout-clause-handled g c =
     let s = c.args.self.now in
     let new = c.handle_timeout.new.self in
     let e = c.in_err-handle_timeout.ensures in
-    handled_none g.S.Session.accepts g.S.Session.sealed c.from_residual.result s (record s { connection = new }) refl refl e.whole e.stands
+    (handled_none g.S.Session.accepts g.S.Session.sealed c.from_residual.result s (record s { connection = new }) refl refl e.whole e.stands
     (wanting_brought c.from_residual.result s.connection new c.from_residual.ensures.1 c.requires.shown e.wanting.0 (c.wants_bring.ensures.timed c.args.now.0 s.connection e.unread.0 new c.requires.whole e.whole e.unread.1 e.unread.2))
-    e.same.ended
+    e.same.ended).0
 
 pub returns-in_ok-handle_timeout-clause-handled : goal.returns-in_ok-handle_timeout-clause-handled
 returns-in_ok-handle_timeout-clause-handled g c =
     let s = c.args.self.now in
     let new = c.handle_timeout.new.self in
     let e = c.in_ok-handle_timeout.ensures in
-    handled_none g.S.Session.accepts g.S.Session.sealed (Ok tt) s (record s { connection = new }) refl refl e.whole e.stands
-    (record { items = []; brings = c.times_bring.ensures.timed c.args.now.0 s.connection new c.requires.whole e.ok }) e.same.ended
+    (handled_none g.S.Session.accepts g.S.Session.sealed (Ok tt) s (record s { connection = new }) refl refl e.whole e.stands
+    (record { items = []; brings = c.times_bring.ensures.timed c.args.now.0 s.connection new c.requires.whole e.ok }) e.same.ended).0
 
 pub returns-else-is_due-clause-handled : goal.returns-else-is_due-clause-handled
 returns-else-is_due-clause-handled g c =
     let s = c.args.self.now in
-    handled_none g.S.Session.accepts g.S.Session.sealed (Ok tt) s s refl refl c.requires.whole (λ accepts sealed hello t h. h) (record { items = []; brings = c.events_bring.ensures.none s.connection }) (λ shut. shut)
+    (handled_none g.S.Session.accepts g.S.Session.sealed (Ok tt) s s refl refl c.requires.whole (λ accepts sealed hello t h. h) (record { items = []; brings = c.events_bring.ensures.none s.connection }) (λ shut. shut)).0
 
 pub returns-in_ok-handle_timeout-clause-timed : goal.returns-in_ok-handle_timeout-clause-timed
 returns-in_ok-handle_timeout-clause-timed g c =

@@ -1,11 +1,14 @@
 use Rattle.std.proofs.Common.{refl, sym, ◌∙◌, None}
+use Rattle.std.specs.Prelude.{take}
 use Rattle.qh_book.specs.declared.call.Call.TheVariants as call
 use Rattle.qh_book.specs.declared.reply.Reply.TheVariants as reply
+use Rattle.qh_halves.specs.SendHalves.{Takes}
 use Rattle.qh_quinn.proofs.Moving.{calm_if_none}
 use Rattle.qh_quinn.proofs.Sends.{sends_at, written}
 use Rattle.qh_quinn.proofs.Writes.{on_streams, write_answers}
 use Rattle.qh_quinn.proofs.CallParts.{woken_at}
 use Rattle.qh_quinn.proofs.CallSends.{write_calls}
+use Rattle.qh_quinn.proofs.CallStreams.{send_changed}
 use Rattle.qh_quinn.proofs.inner.StateInner.write.Goals as goal
 
 pub returns-in-Ok-clause-value : goal.returns-in-Ok-clause-value
@@ -33,8 +36,9 @@ returns-in-Ok-clause-calls g c =
     let s = c.args.self.now in
     let e = c.in-Ok.ensures in
     let to = c.write.new.self in
-    let on = on_streams s.connection to (record s.connection.core.space.streams { send = to.core.space.streams.send }) e.ok.2 e.rest in
-    woken_at (call.Write c.args.id c.args.payload.now) (reply.Count c.in-Ok.count) s c.wake.new.self to c.wake.ensures (λ b shown. e.carries) on.0
+    let n = c.in-Ok.count in
+    woken_at (call.Write c.args.id c.args.payload.now) (reply.Count n) s c.wake.new.self to c.wake.ensures (λ b shown. e.carries)
+    (record { count = e.count; change = send_changed s.connection to e.rest (Takes (take n c.args.payload.now)) c.args.id.0 n e.ok.1 e.ok.2 })
 
 pub returns-in-Err-clause-calls : goal.returns-in-Err-clause-calls
 returns-in-Err-clause-calls g c =

@@ -1,5 +1,5 @@
 use Rattle.qh_quinn.proofs.ActedAt.{told_too}
-use Rattle.qh_quinn.specs.Acting.{IsMade, IsUnmade}
+use Rattle.qh_quinn.specs.Acting.{IsMade, IsUnmade, KeepsTurns}
 use Rattle.qh_quinn.specs.Told.{TellsOf}
 use Rattle.qh_quinn.proofs.state.StateAt.act.Goals as goal
 
@@ -7,7 +7,7 @@ pub returns-in-Some-clause-value : goal.returns-in-Some-clause-value
 returns-in-Some-clause-value g c =
     let s = c.args.self.now in
     let e = c.poll_act.ensures in
-    told_too (IsUnmade s c.poll_act.new.self) c.poll_act.result (λ r. IsMade c.args.call r s c.poll_act.new.self) (λ r. TellsOf g.S.Session.knows g.S.Session.name g.S.Session.told s.connection s.error c.args.call r) e.value e.tells
+    told_too (IsUnmade s c.poll_act.new.self) (KeepsTurns s c.poll_act.new.self) c.poll_act.result (λ r. IsMade c.args.call r s c.poll_act.new.self) (λ r. TellsOf g.S.Session.knows g.S.Session.name g.S.Session.told s.connection s.error c.args.call r) e.value e.rest e.tells
 
 pub returns-in-Some-clause-armed : goal.returns-in-Some-clause-armed
 returns-in-Some-clause-armed g c = rw c.in-Some.is (c.poll_act.ensures.armed)
@@ -19,4 +19,4 @@ pub returns-in-None-clause-value : goal.returns-in-None-clause-value
 returns-in-None-clause-value g c =
     let s = c.args.self.now in
     let e = c.act.ensures in
-    told_too (IsUnmade s c.act.new.self) c.act.result (λ r. IsMade c.args.call r s c.act.new.self) (λ r. TellsOf g.S.Session.knows g.S.Session.name g.S.Session.told s.connection s.error c.args.call r) e.value e.tells
+    told_too (IsUnmade s c.act.new.self) (KeepsTurns s c.act.new.self) c.act.result (λ r. IsMade c.args.call r s c.act.new.self) (λ r. TellsOf g.S.Session.knows g.S.Session.name g.S.Session.told s.connection s.error c.args.call r) e.value e.rest e.tells
