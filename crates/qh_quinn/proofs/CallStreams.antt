@@ -15,7 +15,7 @@ use Rattle.qh_halves.specs.RecvHalves.{IsRecvStep, TakesReset}
 use Rattle.qh_halves.specs.SendHalves.{IsStep}
 use Rattle.qh_quinn.specs.Acting.{lost_or_pending}
 use Rattle.qh_quinn.specs.Readers.{code_of, reader_in}
-use Rattle.qh_quinn.specs.Streaming.{AcceptsOne, IsRecvChange, IsSendChange, ReadsBy, ReadsIn, ReadsOne, StopsOne, StopsReading, TakesResetOf, asks_reset, is_reader_open, is_reader_untold, is_reading, told_code}
+use Rattle.qh_quinn.specs.Streaming.{AcceptsOne, GivesNone, IsRecvChange, IsSendChange, ReadsBy, ReadsIn, ReadsOne, StopsOne, StopsReading, TakesResetOf, asks_reset, is_reader_open, is_reader_untold, is_reading, told_code}
 use Rattle.qh_quinn.specs.declared.inner.StateInner.{StateInner}
 use Rattle.qh_quinn.specs.declared.readers.Reader.{Reader}
 use Rattle.qh_shown.specs.Connections.{is_wanting}
@@ -83,19 +83,32 @@ module _ {S : Type 0} (s : StateInner S) (id : ℕ) where
 
 -- ---- what a call on a half that is read does, and on one that isn't
 
+module _ {T : Type 0} where
+  -- a reply of no bytes gives none, and so does another one
+  pub gives_none : (r other : Reply T) (none : Bool) → r ≡ (if none then reply.Bytes 0 [] else other) → GivesNone other → GivesNone r
+  gives_none r other none is h = subst (λ (x : Reply T). GivesNone x) (sym is) (at none)
+    where
+      at : (x : Bool) → GivesNone {T = T} (if x then reply.Bytes 0 [] else other)
+      at true = refl
+      at false = h
+
+pub quiet_gives_none : (T : Type 0) (e : Option ConnectionError) → GivesNone {T = T} (lost_or_pending e)
+quiet_gives_none T None = tt
+quiet_gives_none T (Some e) = tt
+
 module _ {S T : Type 0} (id max_length : ℕ) (is_ordered : Bool) (old new : StateInner S) where
-  pub reads_nothing : (r : Reply T) → is_reading old id ≡ false → new.connection ≡ old.connection → ReadsOne id max_length is_ordered r old new
-  reads_nothing r off same = subst (λ (x : Bool). MatchBool x (ReadsIn id max_length is_ordered r old.connection new.connection) (new.connection ≡ old.connection)) (sym off) same
+  pub reads_nothing : (r : Reply T) → GivesNone r → is_reading old id ≡ false → new.connection ≡ old.connection → ReadsOne id max_length is_ordered r old new
+  reads_nothing r none off same = subst (λ (x : Bool). MatchBool x (ReadsIn id max_length is_ordered r old.connection new.connection) (GivesNone r × (new.connection ≡ old.connection))) (sym off) (none, same)
 
   pub reads_in : (r : Reply T) → is_reading old id ≡ true → ReadsIn id max_length is_ordered r old.connection new.connection → ReadsOne id max_length is_ordered r old new
-  reads_in r on reads = subst (λ (x : Bool). MatchBool x (ReadsIn id max_length is_ordered r old.connection new.connection) (new.connection ≡ old.connection)) (sym on) reads
+  reads_in r on reads = subst (λ (x : Bool). MatchBool x (ReadsIn id max_length is_ordered r old.connection new.connection) (GivesNone r × (new.connection ≡ old.connection))) (sym on) reads
 
   -- it is refused, unless it is of no bytes
   pub reads_illegal : (r : Reply T) → r ≡ (if max_length == 0 then reply.Bytes 0 [] else reply.IllegalOrderedRead) → is_reading old id ≡ true → new.connection ≡ old.connection → ReadsOne id max_length is_ordered r old new
   reads_illegal r is on same = reads_in r on (subst (λ (x : Reply T). ReadsIn id max_length is_ordered x old.connection new.connection) (sym is) (at (max_length == 0) refl))
     where
       at : (none : Bool) → (max_length == 0) ≡ none → ReadsIn {T = T} id max_length is_ordered (if none then reply.Bytes 0 [] else reply.IllegalOrderedRead) old.connection new.connection
-      at true e = inr (eqb-true max_length 0 e, same)
+      at true e = inr (eqb-true max_length 0 e, refl, same)
       at false e = same
 
 -- one that finds nothing waits, or the connection is lost

@@ -1,11 +1,13 @@
 -- What holds of a state behind a turn, however it ended.
-use Rattle.std.proofs.Common.{◌≡◌, ◌⊎◌, ◌≢◌, Bool, true, false, not, List, [], None, Some, Result, Ok, Err, is_some, refl, sym, ap, subst, inl, inr, ◌∙◌}
+use Rattle.std.proofs.Common.{◌≡◌, ◌⊎◌, ◌≢◌, Bool, true, false, ◌&&◌, ◌||◌, not, List, [], ◌++◌, map, Option, None, Some, Result, Ok, Err, is_some, if◌then◌else◌, refl, sym, ap, subst, inl, inr, ◌∙◌}
 use Rattle.std.specs.List.{list_any}
 use Rattle.std.proofs.lemmas.Bool.{false≢true}
+use Rattle.qh_base.specs.declared.connection_error.ConnectionError.{ConnectionError}
 use Rattle.qh_base.specs.declared.connection_error.ConnectionError.TheVariants as error
 use Rattle.qh_base.specs.declared.time.Moment.{Moment}
 use Rattle.qh_base.specs.declared.transport_error.TransportError.{TransportError}
 use Rattle.qh_book.specs.Interests.{is_same}
+use Rattle.qh_book.specs.Items.{bring_all}
 use Rattle.qh_conn.specs.Whole.{IsWhole, StandsStill}
 use Rattle.qh_conn.specs.declared.connection.Connection.{Connection}
 use Rattle.qh_core.specs.Event.{is_drained}
@@ -17,7 +19,8 @@ use Rattle.qh_core.specs.declared.state.State.TheVariants as core_state
 use Rattle.qh_quinn.proofs.Bringing.{Both}
 use Rattle.qh_quinn.proofs.Tellings.{Tells, told_stands, told_state}
 use Rattle.qh_quinn.proofs.TurnStates.{IsNews, IsToldOn, Leads, failed_leads, kept_leads, led_state, reason_leads, reason_lost}
-use Rattle.qh_quinn.specs.States.{IsState}
+use Rattle.qh_quinn.specs.Losses.{lost_items, new_loss}
+use Rattle.qh_quinn.specs.States.{IsState, Shows}
 use Rattle.qh_quinn.specs.Telling.{AreTold}
 use Rattle.qh_quinn.specs.Turning.{HasSameCalls, IsBrought, IsBroughtBy, IsEnded, IsErrorKept, IsHeeded, IsTakenUp}
 use Rattle.qh_quinn.specs.Waiting.{interests_in, is_among}
@@ -27,6 +30,7 @@ use Rattle.qh_runtime.specs.declared.runtime.IoFault.{IoFault}
 use Rattle.qh_runtime.specs.declared.runtime.IoFault.TheVariants as faults
 use Rattle.qh_shown.specs.Brings.{Brings, BringsSome, IsLogging}
 use Rattle.qh_shown.specs.Connections.{is_wanting}
+use Rattle.qh_shown.specs.Items.{item_of}
 use Rattle.qh_spec.specs.Codes as codes
 
 -- ---- how a turn ended
@@ -67,6 +71,27 @@ KeepsLoss has_failed was_emptied old new =
     (has_failed ≡ true → new.error ≡ old.connection.core.error)
     × (has_failed ≡ false → ((new.error ≡ old.connection.core.error) × ((old.error ≡ None) ⊎ ((was_emptied ≡ false) × (is_wanting old.connection ≡ true))))
     ⊎ ((new.error ≡ old.error) × (is_some old.error ≡ true) × ((was_emptied ≡ true) ⊎ (is_wanting old.connection ≡ false))))
+
+-- ---- which error is new
+
+failed_loss : (failed : Bool) (old new : Option ConnectionError) (was is : Bool) → failed ≡ true → (if failed || (not (is_some old) || (not was && is)) then new else None) ≡ new
+failed_loss true old new was is h = refl
+failed_loss false old new was is h = absurd (false≢true h)
+
+news_loss : (failed : Bool) (old new : Option ConnectionError) (was is : Bool) → (old ≡ None) ⊎ ((was ≡ false) × (is ≡ true)) → (if failed || (not (is_some old) || (not was && is)) then new else None) ≡ new
+news_loss true old new was is h = refl
+news_loss false None new was is h = refl
+news_loss false (Some e) new was is (inl none) = cc
+news_loss false (Some e) new false true (inr both) = refl
+news_loss false (Some e) new true is (inr both) = absurd (false≢true (sym both.0))
+news_loss false (Some e) new false false (inr both) = absurd (false≢true both.1)
+
+kept_loss : (failed : Bool) (old new : Option ConnectionError) (was is : Bool) → failed ≡ false → is_some old ≡ true → (was ≡ false → is ≡ false) → (if failed || (not (is_some old) || (not was && is)) then new else None) ≡ None
+kept_loss true old new was is off had still = absurd (false≢true (sym off))
+kept_loss false None new was is off had still = absurd (false≢true had)
+kept_loss false (Some e) new true is off had still = refl
+kept_loss false (Some e) new false false off had still = refl
+kept_loss false (Some e) new false true off had still = absurd (false≢true (sym (still refl)))
 
 module _ {S : Type 0} where
   brought_by : (r : Result (Unit {0}) IoFault) (old new : Connection S) → IsBroughtBy r old new → IsBrought old new
@@ -110,21 +135,24 @@ module _ {S : Type 0} where
   ended_shut first mid new state ended on is =
       ap is_open (told_state first.is_connected mid new.is_connected new.connection on.told).0 ∙ ended (shut_if (is_some first.error) (is_open first.connection.core.state) state.lost is)
 
-  taken : Tells S → (done : Result (Unit {0}) IoFault) (first new : StateInner S) (mid : Connection S) → IsState first → Leads first new → IsToldOn first mid new → is_some new.error ≡ not (is_open new.connection.core.state) → IsLogging mid
-      → (done ≡ Err faults.Failed → (e : TransportError) × (new.error ≡ Some (error.TransportError e)) × (e.code.0 ≡ codes.internal_error)) → IsTakenUp done first new
-  taken law done first new mid state leads on lost logging failed = record {
-    each = leads;
-    state = led_state law first new mid state leads on lost logging;
+  taken : Tells S → (done : Result (Unit {0}) IoFault) (loss : Option ConnectionError) (first new : StateInner S) (mid : Connection S) → IsState first → Leads loss first new → IsToldOn first mid new → is_some new.error ≡ not (is_open new.connection.core.state)
+      → IsLogging mid → (done ≡ Err faults.Failed → (e : TransportError) × (new.error ≡ Some (error.TransportError e)) × (e.code.0 ≡ codes.internal_error)) → new_loss (has_failed done) first new ≡ loss → IsTakenUp done first new
+  taken law done loss first new mid state leads on lost logging failed is = record {
+    items = leads.items;
+    logs = leads.logs;
+    each = λ b h. subst (λ (l : Option ConnectionError). Shows new (bring_all (map item_of leads.items ++ lost_items l) b)) (sym is) (leads.each b h);
+    state = led_state law loss first new mid state leads on lost logging;
     failed = failed;
   }
 
   -- ---- the socket failed
 
-  taken_failed : Tells S → (done : Result (Unit {0}) IoFault) (first new : StateInner S) (mid : Connection S) (e : TransportError) → IsState first → BringsSome first.connection mid → IsToldOn first mid new → is_open mid.core.state ≡ false
+  taken_failed : Tells S → (done : Result (Unit {0}) IoFault) (first new : StateInner S) (mid : Connection S) (e : TransportError) → IsState first → done ≡ Err faults.Failed → BringsSome first.connection mid → IsToldOn first mid new → is_open mid.core.state ≡ false
       → new.error ≡ Some (error.TransportError e) → e.code.0 ≡ codes.internal_error → IsTakenUp done first new
-  taken_failed law done first new mid e state s on shut kept code =
+  taken_failed law done first new mid e state was s on shut kept code =
       let off : is_open new.connection.core.state ≡ false = ap is_open (told_state first.is_connected mid new.is_connected new.connection on.told).0 ∙ shut in
-      taken law done first new mid state (failed_leads law first new mid e s on kept) on (lost_is (is_some new.error) (is_open new.connection.core.state) (ap is_some kept) off) (s.brings.logging state.logging) (λ is. (e, kept, code))
+      taken law done (Some (error.TransportError e)) first new mid state (failed_leads law first new mid e s on kept) on (lost_is (is_some new.error) (is_open new.connection.core.state) (ap is_some kept) off) (s.brings.logging state.logging) (λ is. (e, kept, code))
+      (failed_loss (has_failed done) first.error new.error (is_wanting first.connection) (is_wanting new.connection) (ap has_failed was) ∙ kept)
 
   -- ---- it didn't
 
@@ -144,12 +172,14 @@ module _ {S : Type 0} where
       → IsTakenUp done first new
   taken_on law done first told new mid was_emptied state calm brought ended on was error same (inl by) =
       let kept : new.error ≡ new.connection.core.error = by.0 ∙ sym (ap (λ (z : Connection S). z.core.error) same) in
-      taken law done first new mid state (reason_leads law first new mid state (news_of first told new was_emptied same error was by.1) brought on kept) on (reason_lost first new mid on kept) (brought_logging first mid state brought) (λ is. absurd (calm is))
+      taken law done new.error first new mid state (reason_leads law first new mid state (news_of first told new was_emptied same error was by.1) brought on kept) on (reason_lost first new mid on kept) (brought_logging first mid state brought) (λ is. absurd (calm is))
+      (news_loss (has_failed done) first.error new.error (is_wanting first.connection) (is_wanting new.connection) (news_of first told new was_emptied same error was by.1))
   taken_on law done first told new mid was_emptied state calm brought ended on was error same (inr by) =
       let kept : new.error ≡ first.error = by.0 ∙ error in
       let had : is_some first.error ≡ true = sym (ap is_some error) ∙ by.1 in
-      taken law done first new mid state (kept_leads law first new mid state (calm_still first told new was_emptied same was by.2) brought on kept) on
+      taken law done None first new mid state (kept_leads law first new mid state (calm_still first told new was_emptied same was by.2) brought on kept) on
       (lost_is (is_some new.error) (is_open new.connection.core.state) (ap is_some kept ∙ had) (ended_shut first mid new state ended on had)) (brought_logging first mid state brought) (λ is. absurd (calm is))
+      (kept_loss (has_failed done) first.error new.error (is_wanting first.connection) (is_wanting new.connection) (unfailed done calm) had (calm_still first told new was_emptied same was by.2))
 
   -- ---- a turn that ended so
 
@@ -240,7 +270,7 @@ module _ {S : Type 0} where
           let kept : new.error ≡ Some (error.TransportError e.0) =
           known.loss.0 (flag ∙ ap has_failed h.0) ∙ (told_state mid.is_connected mid.connection told.is_connected told.connection known.tells).1 ∙ e.1
           in
-          taken_failed law done first new mid.connection e.0 state h.1 on h.2 kept e.2
+          taken_failed law done first new mid.connection e.0 state h.0 h.1 on h.2 kept e.2
       at (inr h) =
           taken_on law done first told new mid.connection was_emptied state h.0 h.1 h.2 on was (ap (λ (z : StateInner S). z.error) known.rest ∙ ap (λ (z : StateInner S). z.error) w.same) (ap (λ (z : StateInner S). z.connection) known.kept)
           (known.loss.1 (flag ∙ unfailed done h.0))

@@ -3,6 +3,7 @@ use Rattle.std.proofs.Common.{◌≡◌, ℕ, ◌+◌, ◌<◌, ◌≤◌, Bool,
 use Rattle.std.proofs.lemmas.Bool.{false≢true}
 use Rattle.qh_book.specs.Book.{Book}
 use Rattle.qh_book.specs.Shown.{Note}
+use Rattle.qh_conn.specs.Items.{came}
 use Rattle.qh_conn.specs.Telling.{IsTold}
 use Rattle.qh_conn.specs.Whole.{StandsStill}
 use Rattle.qh_conn.specs.declared.connection.Connection.{Connection}
@@ -30,6 +31,10 @@ module _ {S : Type 0} where
   pub told_logging : Tells S → (was : Bool) (old : Connection S) (is : Bool) (new : Connection S) → AreTold was old is new → IsLogging old → IsLogging new
   told_logging law _ _ _ _ (AreTold.none was old) h = h
   told_logging law _ _ _ _ (AreTold.more was old mid_told mid new told before told_is stands) h = (law told mid new told_is).logging (told_logging law was old mid_told mid before h)
+
+  pub told_logs : Tells S → (was : Bool) (old : Connection S) (is : Bool) (new : Connection S) → AreTold was old is new → came new ≡ came old
+  told_logs law _ _ _ _ (AreTold.none was old) = refl
+  told_logs law _ _ _ _ (AreTold.more was old mid_told mid new told before told_is stands) = (law told mid new told_is).logs ∙ told_logs law was old mid_told mid before
 
   core_state : (old new : Inner S) (told : Option CoreEvent) → IsPolledEvent old new told → (new.state ≡ old.state) × (new.error ≡ old.error)
   core_state old new told (IsPolledEvent.stream e is rest) = (ap (λ (z : Inner S). z.state) rest, ap (λ (z : Inner S). z.error) rest)

@@ -1,5 +1,5 @@
 -- A whole turn of the driver, out of its parts.
-use Rattle.std.proofs.Common.{◌≡◌, ◌⊎◌, ◌≢◌, ◌≤◌, ℕ, Bool, true, false, not, List, [], ◌++◌, length, Option, None, Some, Result, Ok, Err, OnOk, is_some, append-nil, refl, sym, ap, subst, inl, inr, ◌∙◌, arith}
+use Rattle.std.proofs.Common.{◌≡◌, ◌⊎◌, ◌≢◌, ◌≤◌, ℕ, Bool, true, false, ◌&&◌, ◌||◌, not, List, [], ◌++◌, length, map, Option, None, Some, Result, Ok, Err, OnOk, is_some, if◌then◌else◌, append-nil, refl, sym, ap, subst, inl, inr, ◌∙◌, arith}
 use Rattle.std.proofs.lemmas.Bool.{false≢true}
 use Rattle.futures.specs.declared.task.Poll.{Poll}
 use Rattle.futures.specs.declared.task.Poll.TheVariants.{Pending, Ready}
@@ -13,6 +13,7 @@ use Rattle.qh_book.specs.Interests.{settled}
 use Rattle.qh_book.specs.Items.{bring_all}
 use Rattle.qh_book.specs.Step.{Drives, driven}
 use Rattle.qh_book.specs.declared.item.Item.{Item}
+use Rattle.qh_conn.specs.Items.{came}
 use Rattle.qh_conn.specs.Whole.{Stands, StandsStill}
 use Rattle.qh_conn.specs.declared.connection.Connection.{Connection}
 use Rattle.qh_conn.specs.declared.event.ConnectionEvent.{ConnectionEvent}
@@ -25,6 +26,7 @@ use Rattle.qh_quinn.proofs.StatesKept.{kept, kept_state, rest_by, rest_self}
 use Rattle.qh_quinn.proofs.TakenUp.{drained_shut, if_failed, not_failed}
 use Rattle.qh_quinn.proofs.Tellings.{told_state}
 use Rattle.qh_quinn.specs.Acting.{IsChanged}
+use Rattle.qh_quinn.specs.Losses.{lost_items, new_loss}
 use Rattle.qh_quinn.specs.States.{IsState, Shows}
 use Rattle.qh_quinn.specs.Telling.{AreTold}
 use Rattle.qh_quinn.specs.Turning.{HasMadeNone, HasSentAll, IsAdvanced, IsErrorKept, IsHeeded, IsInOrder, IsTakenUp, IsTurned, IsTurnOf, acts_of_all, made_all, waiting_out, waits_in}
@@ -33,6 +35,8 @@ use Rattle.qh_runtime.specs.Socket.{has_failed, poll_failed}
 use Rattle.qh_runtime.specs.declared.runtime.IoFault.{IoFault}
 use Rattle.qh_runtime.specs.declared.runtime.IoFault.TheVariants as faults
 use Rattle.qh_runtime.specs.declared.runtime.OutMessage.{OutMessage}
+use Rattle.qh_shown.specs.Connections.{is_wanting}
+use Rattle.qh_shown.specs.Items.{item_of}
 use Rattle.qh_spec.specs.Codes as codes
 
 -- ---- how it ends
@@ -142,15 +146,26 @@ module _ {S : Type 0} where
   ending_shows sent done s a t w f h =
       kept w f (rest_by w f (record w { connection = w.connection; driver = f.driver }) h.left (rest_self w {connection = w.connection} {driver = f.driver})) (ap (λ (z : StateInner S). z.connection) h.left)
 
-  turned_each : (T : Type 0) (sent done : Result (Unit {0}) IoFault) (answer : Poll (Result (Unit {0}) IoFault)) (now : Moment) (s a t w f : StateInner S) → IsEnding sent done s a t w f → Ends answer done (is_drained w.connection.core.state)
-      → (b : Book) → Shows s b → IsTurnOf T now answer b f
+  ending_connection : (sent done : Result (Unit {0}) IoFault) (s a t w f : StateInner S) → IsEnding sent done s a t w f → f.connection ≡ t.connection
+  ending_connection sent done s a t w f h = ap (λ (z : StateInner S). z.connection) h.left ∙ ap (λ (z : StateInner S). z.connection) h.woken
+
+  -- what is new of the loss is what it was before calls were woken
+  loss_is : (sent done : Result (Unit {0}) IoFault) (answer : Poll (Result (Unit {0}) IoFault)) (s a t w f : StateInner S) → IsEnding sent done s a t w f → Ends answer done (is_drained w.connection.core.state)
+      → new_loss (poll_failed answer) s f ≡ new_loss (has_failed done) s t
+  loss_is sent done answer s a t w f h ends =
+      ap (λ (p : Bool). new_loss p s f) (failed_alike answer done (is_drained w.connection.core.state) ends)
+      ∙ ap (λ (c : Connection S). if has_failed done || (not (is_some s.error) || (not (is_wanting s.connection) && is_wanting c)) then f.error else None) (ending_connection sent done s a t w f h)
+      ∙ ap (λ (e : Option ConnectionError). if has_failed done || (not (is_some s.error) || (not (is_wanting s.connection) && is_wanting t.connection)) then e else None)
+      (ap (λ (z : StateInner S). z.error) h.left ∙ ap (λ (z : StateInner S). z.error) h.woken)
+
+  turned_each : (T : Type 0) (sent done : Result (Unit {0}) IoFault) (answer : Poll (Result (Unit {0}) IoFault)) (now : Moment) (s a t w f : StateInner S) (h : IsEnding sent done s a t w f) → Ends answer done (is_drained w.connection.core.state)
+      → (b : Book) → Shows s b → IsTurnOf T now answer (map item_of h.taken.items ++ lost_items (new_loss (poll_failed answer) s f)) b f
   turned_each T sent done answer now s a t w f h ends b shown =
-      let brought = h.taken.each b shown in
-      let items : List Item = brought.0 in
-      let here : Shows f (driven items b) = ending_shows sent done s a t w f h (driven items b) (h.wakes.each (bring_all items b) brought.1) in
+      let items : List Item = map item_of h.taken.items ++ lost_items (new_loss (poll_failed answer) s f) in
+      let led : Shows t (bring_all items b) = subst (λ (l : Option ConnectionError). Shows t (bring_all (map item_of h.taken.items ++ lost_items l) b)) (sym (loss_is sent done answer s a t w f h ends)) (h.taken.each b shown) in
+      let here : Shows f (driven items b) = ending_shows sent done s a t w f h (driven items b) (h.wakes.each (bring_all items b) led) in
       let state = ending_state sent done s a t w f h in
       record {
-        items = items;
         after = driven items b;
         steps = drives T answer b items f.error here.shows.error
             (λ is. lost_if f.error (is_open f.connection.core.state) state.lost (drained_shut f.connection.core.state (ap (λ (z : StateInner S). is_drained z.connection.core.state) h.left ∙ ends.over is)))
@@ -224,8 +239,15 @@ module _ {S : Type 0} where
       let failed : poll_failed answer ≡ has_failed done = failed_alike answer done (is_drained w.connection.core.state) ends in
       let drained : is_drained f.connection.core.state ≡ is_drained w.connection.core.state = ap (λ (z : StateInner S). is_drained z.connection.core.state) h.left in
       record {
+        items = h.taken.items;
+        logs = ap came (ending_connection sent done s a t w f h) ∙ h.taken.logs;
         each = turned_each T sent done answer now s a t w f h ends;
         state = ending_state sent done s a t w f h;
+        handles = (
+          ap (λ (z : StateInner S). z.handles) h.left ∙ ap (λ (z : StateInner S). z.handles) h.woken ∙ ap (λ (z : StateInner S). z.handles) h.rest ∙ ap (λ (z : StateInner S). z.handles) advanced.same,
+          ap (λ (z : StateInner S). z.readers) h.left ∙ ap (λ (z : StateInner S). z.readers) h.woken ∙ ap (λ (z : StateInner S). z.readers) h.rest ∙ ap (λ (z : StateInner S). z.readers) advanced.same,
+          ap (λ (z : StateInner S). z.stable_id) h.left ∙ ap (λ (z : StateInner S). z.stable_id) h.woken ∙ ap (λ (z : StateInner S). z.stable_id) h.rest ∙ ap (λ (z : StateInner S). z.stable_id) advanced.same,
+        );
         handed = advanced.handed;
         made = advanced.made;
         dropped = dropped_if (has_failed sent) a;
@@ -273,5 +295,6 @@ module _ {S : Type 0} where
         mid = a.connection;
         still = m.still;
         was_told = a.is_connected;
+        log = f.connection.control.log;
         told = subst (λ (z : StateInner S). AreTold a.is_connected a.connection z.is_connected z.connection) (sym h.left) (subst (λ (z : StateInner S). AreTold a.is_connected a.connection z.is_connected z.connection) (sym h.woken) k.1);
       }

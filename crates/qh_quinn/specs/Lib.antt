@@ -1,7 +1,10 @@
 pub mod Acting
 pub mod Calls
 pub mod First
+pub mod Kept
+pub mod Losses
 pub mod Readers
+pub mod Recording
 pub mod States
 pub mod Streaming
 pub mod Telling

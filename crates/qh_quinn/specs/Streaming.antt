@@ -1,5 +1,5 @@
 -- What the calls on streams do to the streams of a connection.
-use Rattle.std.specs.Prelude.{◌≡◌, ◌⊎◌, ℕ, ◌<◌, ℤ, Bool, true, false, ◌&&◌, not, List, length, min, take, Option, Some, None, Result, Ok, Err, IfSome, MatchBool, is_some}
+use Rattle.std.specs.Prelude.{◌≡◌, ◌⊎◌, ℕ, ◌<◌, ℤ, Bool, true, false, ◌&&◌, not, List, [], length, min, take, Option, Some, None, Result, Ok, Err, IfSome, MatchBool, is_some}
 use Rattle.qh_base.specs.declared.connection_error.ConnectionError.{ConnectionError}
 use Rattle.qh_book.specs.declared.reply.Reply.{Reply}
 use Rattle.qh_book.specs.declared.reply.Reply.TheVariants as reply
@@ -113,7 +113,7 @@ module _ {S : Type 0} where
 
   -- A read of a half that is read still. Where it finds nothing the call waits, or the connection is lost.
   abbrev pub ReadsIn : {T : Type 0} → (id max_length : ℕ) → (is_ordered : Bool) → Reply T → (old new : Connection S) → Type 0
-  ReadsIn id max_length is_ordered (reply.Bytes offset bytes) old new = ReadsBy id max_length is_ordered (Ok (Some (record { offset = offset; bytes = bytes }))) old new ⊎ ((max_length ≡ 0) × (new ≡ old))
+  ReadsIn id max_length is_ordered (reply.Bytes offset bytes) old new = ReadsBy id max_length is_ordered (Ok (Some (record { offset = offset; bytes = bytes }))) old new ⊎ ((max_length ≡ 0) × (bytes ≡ []) × (new ≡ old))
   ReadsIn id max_length is_ordered reply.Ended old new = ReadsBy id max_length is_ordered (Ok None) old new
   ReadsIn id max_length is_ordered (reply.Reset code) old new = ReadsBy id max_length is_ordered (Err (read_faults.Reset code)) old new
   ReadsIn id max_length is_ordered reply.Pending old new = ReadsBy id max_length is_ordered (Err read_faults.Blocked) old new
@@ -124,6 +124,11 @@ module _ {S : Type 0} where
   pub data StopsReading (id code : ℕ) (old new : Connection S) : Type 0 where
     stopped : (mid : Connection S) → IsRecvChange (TakesReset None) id old mid → IsRecvChange (Stops code) id mid new → StopsReading id code old new
     was_reset : (reset : ℕ) → IsRecvChange (TakesReset (Some reset)) id old new → StopsReading id code old new
+
+-- it gives no bytes
+abbrev pub GivesNone : {T : Type 0} → Reply T → Type 0
+GivesNone (reply.Bytes offset bytes) = bytes ≡ []
+GivesNone r = Unit {0}
 
 -- the code that a reader is told
 abbrev pub told_code : {T : Type 0} → Reply T → Option ℕ
@@ -153,7 +158,7 @@ module _ {S : Type 0} where
   asks_reset s id = is_reading s id && is_reader_untold (reader_in s.readers id)
 
   abbrev pub ReadsOne : {T : Type 0} → (id max_length : ℕ) → (is_ordered : Bool) → Reply T → (old new : StateInner S) → Type 0
-  ReadsOne id max_length is_ordered r old new = MatchBool (is_reading old id) (ReadsIn id max_length is_ordered r old.connection new.connection) (new.connection ≡ old.connection)
+  ReadsOne id max_length is_ordered r old new = MatchBool (is_reading old id) (ReadsIn id max_length is_ordered r old.connection new.connection) (GivesNone r × (new.connection ≡ old.connection))
 
   abbrev pub StopsOne : (id code : ℕ) → (old new : StateInner S) → Type 0
   StopsOne id code old new = MatchBool (is_reading old id) (StopsReading id code old.connection new.connection) (new.connection ≡ old.connection)

@@ -1,5 +1,5 @@
 -- What a turn of the driver does (quinn, `ConnectionDriver::poll`).
-use Rattle.std.specs.Prelude.{◌≡◌, ◌⊎◌, ◌≤◌, ◌<◌, ℕ, ◌^◌, ◌-◌, Bool, true, false, List, [], ◌∷◌, ◌++◌, length, Option, Some, None, is_some, Result, Ok, Err}
+use Rattle.std.specs.Prelude.{◌≡◌, ◌⊎◌, ◌≤◌, ◌<◌, ℕ, ◌^◌, ◌-◌, Bool, true, false, List, [], ◌∷◌, ◌++◌, length, map, Option, Some, None, is_some, Result, Ok, Err}
 use Rattle.futures.specs.declared.task.Poll.{Poll}
 use Rattle.futures.specs.declared.task.Poll.TheVariants.{Pending, Ready}
 use Rattle.qh_base.specs.declared.connection_error.ConnectionError.TheVariants as error
@@ -12,12 +12,15 @@ use Rattle.qh_book.specs.Shown.{Note}
 use Rattle.qh_book.specs.Step.{StepsWith}
 use Rattle.qh_book.specs.declared.call.Call.TheVariants as call
 use Rattle.qh_book.specs.declared.item.Item.{Item}
+use Rattle.qh_conn.specs.Items.{came}
 use Rattle.qh_conn.specs.Incoming.{IsEventHandled, acts_of}
 use Rattle.qh_conn.specs.Outgoing.{IsSilent, IsStill, IsTransmitted}
 use Rattle.qh_conn.specs.Telling.{IsDueAt, IsFirstDue, IsTimedOut}
 use Rattle.qh_conn.specs.Whole.{CarriesOnBy, IsWhole}
 use Rattle.qh_conn.specs.declared.connection.Connection.{Connection}
 use Rattle.qh_conn.specs.declared.event.ConnectionEvent.{ConnectionEvent}
+use Rattle.qh_control.specs.Items.{logged}
+use Rattle.qh_control.specs.declared.items.ConnectionItem.{ConnectionItem}
 use Rattle.qh_core.specs.Event.{is_drained}
 use Rattle.qh_core.specs.Inner.{is_open}
 use Rattle.qh_core.specs.Made.{AcceptsTags, MakesTagsOf}
@@ -25,14 +28,16 @@ use Rattle.qh_core.specs.Receiving.{IsFaulted}
 use Rattle.qh_handles.specs.Turns.{count_of, turn_reply}
 use Rattle.qh_handshake.specs.Incoming.{SessionView}
 use Rattle.qh_packet.specs.Session.{MakesTags, NamesTags}
+use Rattle.qh_quinn.specs.Losses.{lost_items, new_loss}
 use Rattle.qh_quinn.specs.States.{IsState, Shows}
 use Rattle.qh_quinn.specs.Telling.{AreTold}
 use Rattle.qh_quinn.specs.declared.inner.StateInner.{StateInner}
-use Rattle.qh_runtime.specs.Socket.{poll_failed}
+use Rattle.qh_runtime.specs.Socket.{has_failed, poll_failed}
 use Rattle.qh_runtime.specs.declared.runtime.IoFault.{IoFault}
 use Rattle.qh_runtime.specs.declared.runtime.OutMessage.{OutMessage}
 use Rattle.qh_shown.specs.Brings.{BringsSome, EndsWanting}
 use Rattle.qh_shown.specs.Connections.{ShowsConnection, is_wanting}
+use Rattle.qh_shown.specs.Items.{item_of}
 use Rattle.qh_spec.specs.Codes as codes
 use Rattle.qh_spec.specs.Fault.{CountsFaults}
 use Rattle.qh_spec.specs.Transcript.{Act, HandedOut}
@@ -187,7 +192,9 @@ module _ {S : Type 0} where
   -- What a turn brought is known to the handles: items lead from each book that showed the state at its begin to one that shows it now. If the turn answers
   -- that the socket failed, that is the kept error.
   pub record IsTakenUp (done : Result (Unit {0}) IoFault) (first new : StateInner S) : Type 0 where
-    pub each : (b : Book) → Shows first b → (items : List Item) × Shows new (bring_all items b)
+    pub items : List ConnectionItem
+    pub logs : came new.connection ≡ logged (came first.connection) items
+    pub each : (b : Book) → Shows first b → Shows new (bring_all (map item_of items ++ lost_items (new_loss (has_failed done) first new)) b)
     pub state : IsState new
     pub failed : done ≡ Err IoFault.Failed → (e : TransportError) × (new.error ≡ Some (error.TransportError e)) × (e.code.0 ≡ codes.internal_error)
 
@@ -198,7 +205,7 @@ module _ {S : Type 0} where
     pub silent : IsSilent before
     pub still : IsStill before s.connection
 
-  -- nothing is left to be sent for now, and no datagram waits for the socket
+  -- Nothing is left to be sent for now, and no datagram waits for the socket. What the connection's log held may have been taken since.
   pub record HasSentAll (s : StateInner S) : Type 0 where
     pub none_waits : s.outgoing ≡ None
     pub before : Connection S
@@ -206,7 +213,8 @@ module _ {S : Type 0} where
     pub mid : Connection S
     pub still : IsStill before mid
     pub was_told : Bool
-    pub told : AreTold was_told mid s.is_connected s.connection
+    pub log : Option (List ConnectionItem)
+    pub told : AreTold was_told mid s.is_connected (record s.connection { control = record s.connection.control { log = log } })
 
 -- ---- how often what stands outside failed
 
@@ -232,9 +240,8 @@ module _ {P : Type 0} (faults : P → ℕ) where
 -- ---- turns
 
 module _ {S : Type 0} (T : Type 0) where
-  -- the book is stepped by the turn, with the items that it brought
-  pub record IsTurnOf (now : Moment) (answer : Poll (Result (Unit {0}) IoFault)) (b : Book) (new : StateInner S) : Type 0 where
-    pub items : List Item
+  -- the book is stepped by the turn, with these items that it brought
+  pub record IsTurnOf (now : Moment) (answer : Poll (Result (Unit {0}) IoFault)) (items : List Item) (b : Book) (new : StateInner S) : Type 0 where
     pub after : Book
     pub steps : StepsWith {T = T} b (call.Drive now) (turn_reply answer) items after
     pub shows : Shows new after
@@ -244,8 +251,13 @@ module _ {S : Type 0} (T : Type 0) where
   -- none while the driver was held, and these messages were handed to the socket, behind one that waited for it, but for one that it failed at; then the
   -- application was told.
   pub record IsTurned (v : SessionView S) (old : StateInner S) (now : Moment) (is_held : Bool) (out : List OutMessage) (answer : Poll (Result (Unit {0}) IoFault)) (new : StateInner S) : Type 0 where
-    pub each : (b : Book) → Shows old b → IsTurnOf T now answer b new
+    -- what it brought, in its order; behind it, if the kept error is new, that the connection is lost by it
+    pub items : List ConnectionItem
+    pub logs : came new.connection ≡ logged (came old.connection) items
+    pub each : (b : Book) → Shows old b → IsTurnOf T now answer (map item_of items ++ lost_items (new_loss (poll_failed answer) old new)) b new
     pub state : IsState new
+    -- the handles are as they were
+    pub handles : (new.handles ≡ old.handles) × (new.readers ≡ old.readers) × (new.stable_id ≡ old.stable_id)
     pub handed : List ConnectionEvent
     pub made : List OutMessage
     pub dropped : List OutMessage

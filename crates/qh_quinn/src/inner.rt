@@ -13,6 +13,7 @@ mod datagrams;
 mod driving;
 mod opening;
 mod reading;
+mod recording;
 mod settling;
 mod telling;
 mod turning;
@@ -30,7 +31,7 @@ use std::collections::VecDeque;
 /// A connection with its handles, the calls that wait on it, and what waits for its driver (quinn, `State`).
 #[derive(Drop)]
 pub struct StateInner<S> {
-    alloc: Global,
+    pub(crate) alloc: Global,
     pub(crate) connection: Connection<S>,
     stable_id: u64,
     /// Whether the handles may know that the handshake is complete.

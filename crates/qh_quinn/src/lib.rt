@@ -2,11 +2,13 @@
 //! book that can be read (`qh_book`).
 #![tactic(auto)]
 
+mod history;
 mod inner;
 mod readers;
 mod state;
 mod waiting;
 
+pub use history::Kept;
 pub use inner::StateInner;
 pub use qh_book::{Call, Entry, Getter, Interest, Item, Reply, Setting};
 pub use qh_handles::{At, Told};

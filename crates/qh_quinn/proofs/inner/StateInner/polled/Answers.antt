@@ -44,14 +44,6 @@ pub returns-in-Pending-clause-heard : goal.returns-in-Pending-clause-heard
 returns-in-Pending-clause-heard g c = λ is i of.
     subst (λ (j : Interest). IsHeard j c.args.cx.now c.register.new.cx c.register.new.waiting.items) (same_Some c.in-Some.interest i (c.in-Some.ensures ∙ of)) c.register.ensures.heard
 
-pub returns-in-Pending-clause-fits : goal.returns-in-Pending-clause-fits
-returns-in-Pending-clause-fits g c =
-    let s = c.args.self.now in
-    let mid = c.answered-2.new.self in
-    let e = c.in_ok-reply.ensures in
-    let value = answered_from s (record s { waiting = c.reserve.new.self }) mid c.args.call (Ok reply.Pending) (roomy s (record s { waiting = c.reserve.new.self }) refl c.reserve.ensures.items) (rw c.in-Pending.is at e.value) in
-    fits c.replies_fit.ensures c.args.call (Ok reply.Pending) s mid c.requires.no_turn c.requires.state (rw c.in-Pending.is at e.fits) value
-
 pub returns-in_default-clause-others : goal.returns-in_default-clause-others
 returns-in_default-clause-others g c =
     never_armed c.answered.result _ (plain_ready c.pending_registers.ensures.registers c.args.call c.answered.result c.args.self.now c.answered.new.self (sym c.in_default.ensures) c.requires.state c.answered.ensures.value)
@@ -64,6 +56,16 @@ returns-in-Pending-clause-others g c = λ is i of.
     let items : mid.items ≡ c.args.self.now.waiting.items = rw kept c.reserve.ensures.items in
     subst (λ (j : Interest). KeepsOthers j c.args.cx.now.turn.task c.args.self.now.waiting.items c.register.new.waiting.items) (same_Some c.in-Some.interest i (c.in-Some.ensures ∙ of))
     (subst (λ (ws : List Waiting). KeepsOthers c.in-Some.interest c.args.cx.now.turn.task ws c.register.new.waiting.items) items c.register.ensures.others)
+
+pub returns-in-Pending-clause-fits : goal.returns-in-Pending-clause-fits
+returns-in-Pending-clause-fits g c =
+    let s = c.args.self.now in
+    let room = record s { waiting = c.reserve.new.self } in
+    let mid = c.answered-2.new.self in
+    let e = c.in_ok-reply.ensures in
+    let r = c.in_ok-reply.reply in
+    rw c.in-Pending.is at
+    (fits c.replies_fit.ensures c.args.call (Ok r) s mid c.requires.no_turn c.requires.state e.fits (answered_from s room mid c.args.call (Ok r) (roomy s room refl c.reserve.ensures.items) e.value))
 
 pub returns : goal.returns
 returns g c =

@@ -3,7 +3,7 @@ use Rattle.qh_book.specs.declared.call.Call.TheVariants as call
 use Rattle.qh_book.specs.declared.reply.Reply.TheVariants as reply
 use Rattle.qh_quinn.proofs.CallParts.{undone}
 use Rattle.qh_quinn.proofs.CallReads.{ended_shut, read_none}
-use Rattle.qh_quinn.proofs.CallStreams.{reads_nothing, unread_shut, unread_unheld}
+use Rattle.qh_quinn.proofs.CallStreams.{gives_none, reads_nothing, unread_shut, unread_unheld}
 use Rattle.qh_quinn.proofs.ShutReads.{off, read_shut, unheld}
 use Rattle.qh_quinn.proofs.inner.StateInner.read.Goals as goal
 
@@ -24,7 +24,7 @@ returns-in_default-clause-calls g c =
     let s = c.args.self.now in
     let a = c.args in
     undone {T = g.row.T.Denot} (call.Read a.id a.max_length a.is_ordered) reply.ClosedStream s s refl (λ b shown. refl)
-    (reads_nothing {T = g.row.T.Denot} a.id.0 a.max_length a.is_ordered s s reply.ClosedStream (unread_unheld s a.id.0 (sym c.in_default.ensures)) refl)
+    (reads_nothing {T = g.row.T.Denot} a.id.0 a.max_length a.is_ordered s s reply.ClosedStream tt (unread_unheld s a.id.0 (sym c.in_default.ensures)) refl)
 
 pub returns-then-not-reader-clause-calls : goal.returns-then-not-reader-clause-calls
 returns-then-not-reader-clause-calls g c =
@@ -33,4 +33,4 @@ returns-then-not-reader-clause-calls g c =
     let shut = off c.in-Some.reader.is_open c.if-not-reader.true in
     read_none {T = g.row.T.Denot} a.id a.max_length a.is_ordered c.read_shut.result reply.Ended (a.max_length == 0) s s c.read_shut.ensures refl
     (λ b shown. ended_shut s a.id.0 c.in-Some.reader (sym c.in-Some.ensures) shut b shown)
-    (reads_nothing {T = g.row.T.Denot} a.id.0 a.max_length a.is_ordered s s c.read_shut.result (unread_shut s a.id.0 c.in-Some.reader (sym c.in-Some.ensures) shut) refl)
+    (reads_nothing {T = g.row.T.Denot} a.id.0 a.max_length a.is_ordered s s c.read_shut.result (gives_none {T = g.row.T.Denot} c.read_shut.result reply.Ended (a.max_length == 0) c.read_shut.ensures tt) (unread_shut s a.id.0 c.in-Some.reader (sym c.in-Some.ensures) shut) refl)

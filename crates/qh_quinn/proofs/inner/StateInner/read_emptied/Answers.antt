@@ -8,7 +8,7 @@ use Rattle.qh_book.specs.Receiving.{in_mode}
 use Rattle.qh_book.specs.Step.{Allows}
 use Rattle.qh_quinn.proofs.CallParts.{undone}
 use Rattle.qh_quinn.proofs.CallReads.{carries_same, connection_kept, read_none, read_quiet}
-use Rattle.qh_quinn.proofs.CallStreams.{reads_nothing, unread_wanting}
+use Rattle.qh_quinn.proofs.CallStreams.{gives_none, quiet_gives_none, reads_nothing, unread_wanting}
 use Rattle.qh_quinn.proofs.LostReads.{dry, kept_then, lost_illegal, lost_nothing, lost_read}
 use Rattle.qh_quinn.proofs.ReadCalls.{above}
 use Rattle.qh_quinn.proofs.ReadSteps.{begun}
@@ -64,7 +64,7 @@ returns-then-max_length-eq0-clause-calls g c =
     let to = c.keep.new.self in
     let same = connection_kept s to s.connection to.readers c.keep.ensures.rest in
     read_none {T = g.row.T.Denot} a.id a.max_length a.is_ordered c.no_bytes.result reply.IllegalOrderedRead true s to c.no_bytes.ensures same (λ b shown. refl)
-    (reads_nothing {T = g.row.T.Denot} a.id.0 a.max_length a.is_ordered s to c.no_bytes.result (unread_wanting s a.id.0 c.requires.emptied) same)
+    (reads_nothing {T = g.row.T.Denot} a.id.0 a.max_length a.is_ordered s to c.no_bytes.result (gives_none {T = g.row.T.Denot} c.no_bytes.result reply.IllegalOrderedRead true c.no_bytes.ensures tt) (unread_wanting s a.id.0 c.requires.emptied) same)
 
 pub returns-then-is_out_of_order-clause-calls : goal.returns-then-is_out_of_order-clause-calls
 returns-then-is_out_of_order-clause-calls g c =
@@ -73,7 +73,7 @@ returns-then-is_out_of_order-clause-calls g c =
     let to = c.keep-then-is_out_of_order.new.self in
     let same = connection_kept s to s.connection to.readers c.keep-then-is_out_of_order.ensures.rest in
     undone {T = g.row.T.Denot} (call.Read a.id a.max_length a.is_ordered) reply.IllegalOrderedRead s to same (λ b shown. refl)
-    (reads_nothing {T = g.row.T.Denot} a.id.0 a.max_length a.is_ordered s to reply.IllegalOrderedRead (unread_wanting s a.id.0 c.requires.emptied) same)
+    (reads_nothing {T = g.row.T.Denot} a.id.0 a.max_length a.is_ordered s to reply.IllegalOrderedRead tt (unread_wanting s a.id.0 c.requires.emptied) same)
 
 pub returns-clause-calls : goal.returns-clause-calls
 returns-clause-calls g c =
@@ -82,4 +82,4 @@ returns-clause-calls g c =
     let to = c.keep-2.new.self in
     let same = connection_kept s to s.connection to.readers c.keep-2.ensures.rest in
     read_quiet {T = g.row.T.Denot} a.id a.max_length a.is_ordered c.closed_or_waits.result s to s.connection to.error c.closed_or_waits.ensures same (carries_same s.connection s.connection refl)
-    (λ e. reads_nothing {T = g.row.T.Denot} a.id.0 a.max_length a.is_ordered s to (lost_or_pending e) (unread_wanting s a.id.0 c.requires.emptied) same)
+    (λ e. reads_nothing {T = g.row.T.Denot} a.id.0 a.max_length a.is_ordered s to (lost_or_pending e) (quiet_gives_none g.row.T.Denot e) (unread_wanting s a.id.0 c.requires.emptied) same)

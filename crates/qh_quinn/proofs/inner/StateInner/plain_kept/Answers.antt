@@ -1,0 +1,15 @@
+use Rattle.qh_quinn.proofs.KeptCalls.{made_kept, unmade_kept}
+use Rattle.qh_quinn.proofs.inner.StateInner.plain_kept.Goals as goal
+
+pub returns-in_err-reply-clause-kept : goal.returns-in_err-reply-clause-kept
+returns-in_err-reply-clause-kept g c =
+    let e = c.in_err-reply.ensures in
+    unmade_kept c.args.self.now c.plain.new.self c.args.history.now c.room.new.history c.requires.state c.requires.kept e.acted e.calls c.room.ensures.same c.room.ensures.kept
+
+pub returns-clause-kept : goal.returns-clause-kept
+returns-clause-kept g c =
+    let r = c.in_ok-reply.reply in
+    let e = c.in_ok-reply.ensures in
+    let room = c.in_ok-room.ensures in
+    made_kept c.args.call c.in_ok-room.room.call r c.args.self.now c.plain.new.self c.args.history.now c.room.new.history c.push.new.self c.requires.no_turn c.requires.kept e.acted e.calls e.fits room.call.0 room.same (λ made. (room.enough r c.plain.new.self made).1)
+    c.push.ensures.entry c.push.ensures.len c.push.ensures.capacity
