@@ -18,7 +18,7 @@ ghost use Rattle.qh_halves.specs.SendHalves.{send_at, write_limit, write_fault_a
 ghost use Rattle.qh_spec.specs.StreamId.{stream_id};
 ghost use Rattle.qh_spec.specs.Transcript.{Act, written, finished, read};
 ghost use Rattle.qh_streams.specs.Streams.{IsOpened, counts_of, counted_closed, is_live, is_two_way, with_accepted, with_counts};
-ghost use Rattle.qh_half.specs.Recv.{ReadsAtMost};
+ghost use Rattle.qh_half.specs.Recv.{AreWaiting, ReadsAtMost};
 
 use crate::Connection;
 use crate::laws::still;
@@ -318,6 +318,8 @@ impl<S> Connection<S> {
     pub fn longest(&self, id: StreamId, max_length: usize, ordered: bool) -> usize
         ensures few { result ≤ max_length }
         ensures enough { IfSome (recv_at self.now.core.space.streams.recv id.0) (λ r. ReadsAtMost r ordered max_length result) }
+        ensures waits { IfSome (recv_at self.now.core.space.streams.recv id.0) (λ r. AreWaiting r ordered result) }
+        ensures none { recv_at self.now.core.space.streams.recv id.0 ≡ None → result ≡ 0 }
     {
         self.core.longest(id, max_length, ordered)
     }

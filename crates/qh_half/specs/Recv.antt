@@ -217,6 +217,10 @@ pub record IsRead (old new : PlainRecv) (max_length : ℕ) (c : Chunk) : Type 0 
 abbrev pub ReadsAtMost : PlainRecv → (ordered : Bool) → (max_length n : ℕ) → Type 0
 ReadsAtMost r ordered max_length n = (new : PlainRecv) → (c : Chunk) → IsRead (with_order r ordered) new max_length c → length c.bytes ≤ n
 
+-- so many bytes wait from the next one on, if the next read in this order is one in order
+abbrev pub AreWaiting : PlainRecv → (ordered : Bool) → (n : ℕ) → Type 0
+AreWaiting r ordered n = (ordered && not r.is_unordered) ≡ true → (k : ℕ) → k < n → is_some (to_give r.assembler (read_to r.assembler + k)) ≡ true
+
 -- no byte that a read may give waits
 abbrev pub WaitsForMore : PlainRecv → Type 0
 WaitsForMore r = MatchBool r.is_unordered (HasNothing r.assembler) ((to_give r.assembler (read_to r.assembler) ≡ None) × (was_given r.assembler (read_to r.assembler) ≡ false))

@@ -1,6 +1,6 @@
 ghost use Rattle.std.specs.Prelude.{◌≡◌, ◌⊎◌, ℕ, Bool, ◌+◌, ◌-◌, ◌<◌, ◌≤◌, ◌^◌, ◌==◌, min, length, Option, Some, None, true, false, Err, OnOk, OnErr, IfOk, IfErr, IsOk, IfSome, MatchOption, if◌then◌else◌};
 ghost use Rattle.qh_buffers.specs.Assembler.{end_of, HasNothing, IsInserted, read_to, was_given};
-ghost use Rattle.qh_half.specs.Recv.{new_recv, ingest_fault, contradicts, readable_fault, with_order, with_size, keeps_bytes, IsFaultOf, IsRead, IsReadAnswer, WantsMemory, WaitsForMore, IsStopped, with_reset_given, limit_of, final_size, reset_code, bytes_read, IsIngested, IsResetBy, is_closed, is_at_end, is_done, is_limit_due, counted, owes_limit, owes_stop, is_stop_due, is_frame_due, wants_more, IsBlocked, ReadsAtMost, awaits_reset, acked_stop, lost_stop, new_stop};
+ghost use Rattle.qh_half.specs.Recv.{new_recv, ingest_fault, contradicts, readable_fault, with_order, with_size, keeps_bytes, IsFaultOf, IsRead, IsReadAnswer, WantsMemory, WaitsForMore, IsStopped, with_reset_given, limit_of, final_size, reset_code, bytes_read, IsIngested, IsResetBy, is_closed, is_at_end, is_done, is_limit_due, counted, owes_limit, owes_stop, is_stop_due, is_frame_due, wants_more, IsBlocked, AreWaiting, ReadsAtMost, awaits_reset, acked_stop, lost_stop, new_stop};
 ghost use Rattle.std.specs.Option.{option_map};
 ghost use Rattle.qh_buffers.specs.SendBuffer.{lost_mark};
 ghost use Rattle.qh_buffers.specs.declared.send_buffer.Mark.TheVariants.{Sent, Queued, Acked};
@@ -525,6 +525,7 @@ impl Recv {
     pub fn longest(&self, max_length: usize, ordered: bool) -> usize
         ensures few { result ≤ max_length }
         ensures enough { ReadsAtMost self.now ordered max_length result }
+        ensures waits { AreWaiting self.now ordered result }
     {
         self.assembler
             .longest(max_length, ordered && !self.is_unordered)

@@ -7,7 +7,7 @@ ghost use Rattle.std.specs.List.Sorted.{IsStrictlySortedBy};
 ghost use Rattle.qh_buffers.specs.declared.send_buffer.Mark.TheVariants.{Sent, Acked};
 ghost use Rattle.qh_half.specs.declared.fault.ReadFault.TheVariants.{Memory as Lacking};
 ghost use Rattle.qh_halves.specs.Limit.{is_due, acked_at, lost_at, owes_value};
-ghost use Rattle.qh_half.specs.Recv.{PlainRecv, ReadsAtMost, new_recv, ingest_fault, is_frame_due, IsFaultOf};
+ghost use Rattle.qh_half.specs.Recv.{PlainRecv, AreWaiting, ReadsAtMost, new_recv, ingest_fault, is_frame_due, IsFaultOf};
 ghost use Rattle.qh_halves.specs.RecvHalves.{IsReadBlockedAt, half_awaits_reset, recv_at, recv_half_in, data_limit, IsRecvHalf, IsRecvStep, IsRecvAbsent, ingest_fault_at, IsPieceTaken, IsResetTaken, readable_fault_at, is_closed_at, Reads, Begins, WaitsForMoreAt, WaitsForMoreInOrderAt, IsBegunRead, is_wanting, Stops, TakesReset, NoneIsDue, GivesControl, IsLimitAcked, IsLimitLost, IsStopAcked, IsStopLost, half_owes_limit, half_owes_stop, half_is_wanted, due_entry, is_credit_due, AreRecvAdded, PlainRecvHalves, IsSettled, IsHalfWritten, IsNoneDue};
 ghost use Rattle.qh_halves.specs.Counts.{is_in_range};
 ghost use Rattle.qh_halves.specs.Pending.{has_room};
@@ -259,6 +259,8 @@ impl RecvHalves {
     pub fn longest(&self, id: u64, max_length: usize, ordered: bool) -> usize
         ensures few { result ≤ max_length }
         ensures enough { IfSome (recv_at self.now id) (λ r. ReadsAtMost r ordered max_length result) }
+        ensures waits { IfSome (recv_at self.now id) (λ r. AreWaiting r ordered result) }
+        ensures none { recv_at self.now id ≡ None → result ≡ 0 }
     {
         match self.halves.get(&id) {
             Some(half) => half.longest(max_length, ordered),

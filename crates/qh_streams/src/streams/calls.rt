@@ -7,7 +7,7 @@ ghost use Rattle.qh_half.specs.Send.{credit, is_blocked_fault, chunks_after, who
 ghost use Rattle.qh_halves.specs.SendHalves.{send_at, write_limit, write_fault_at, finish_fault_at, is_reset_refused_at, half_priority, IsStep, IsAbsent, Takes, Finishes, IsResetWith, HasPriority};
 ghost use Rattle.qh_halves.specs.RecvHalves.{IsRecvStep, Reads, Begins, WaitsForMoreAt, WaitsForMoreInOrderAt, IsBegunRead, is_wanting, Stops, TakesReset, readable_fault_at, is_closed_at, is_credit_due, recv_at, IsReadBlockedAt, half_awaits_reset};
 ghost use Rattle.qh_streams.specs.Streams.{counted_closed, is_live, with_blocked, IsWriteRefusal, KeepsOut};
-ghost use Rattle.qh_half.specs.Recv.{ReadsAtMost};
+ghost use Rattle.qh_half.specs.Recv.{AreWaiting, ReadsAtMost};
 
 use crate::{ClosedStream, FinishFault, ReadFault, ReadableFault, Streams, WriteFault, Written};
 use bytes::Bytes;
@@ -211,6 +211,8 @@ impl Streams {
     pub fn longest(&self, id: StreamId, max_length: usize, ordered: bool) -> usize
         ensures few { result ≤ max_length }
         ensures enough { IfSome (recv_at self.now.recv id.0) (λ r. ReadsAtMost r ordered max_length result) }
+        ensures waits { IfSome (recv_at self.now.recv id.0) (λ r. AreWaiting r ordered result) }
+        ensures none { recv_at self.now.recv id.0 ≡ None → result ≡ 0 }
     {
         self.recv.longest(id.0, max_length, ordered)
     }

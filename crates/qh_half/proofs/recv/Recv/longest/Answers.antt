@@ -1,4 +1,4 @@
-use Rattle.std.proofs.Common.{refl}
+use Rattle.std.proofs.Common.{◌≡◌, ◌&&◌, not, refl, ◌∙◌}
 use Rattle.qh_half.specs.Recv.{PlainRecv}
 use Rattle.qh_half.proofs.RecvReads.{reads_at_most}
 use Rattle.qh_half.proofs.recv.Recv.longest.Goals as goal
@@ -12,3 +12,12 @@ returns-clause-enough c =
       | then-ordered w ↦ rw (w.longest-is, w.if-ordered.true) refl
       | else-ordered w ↦ rw (w.longest-is, w.if-ordered.false) refl
     ]) c.longest.ensures.in_order c.longest.ensures.least)
+
+pub returns-clause-waits : goal.returns-clause-waits
+returns-clause-waits c =
+    let s = c.self.inside in
+    let e : c.if-ordered.longest ≡ (c.args.ordered && not s.is_unordered) = elim c.if-ordered.branch [
+      | then-ordered w ↦ rw (w.longest-is, w.if-ordered.true) refl
+      | else-ordered w ↦ rw (w.longest-is, w.if-ordered.false) refl
+    ] in
+    rw (← c.self.view_is) (λ is. c.longest.ensures.waits (e ∙ is))
