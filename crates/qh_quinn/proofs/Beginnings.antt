@@ -20,7 +20,7 @@ use Rattle.qh_quinn.specs.Losses.{lost_items}
 use Rattle.qh_quinn.specs.Recording.{IsRecorded, IsUnused, items_kept}
 use Rattle.qh_quinn.specs.States.{IsState, Shows}
 use Rattle.qh_quinn.specs.declared.inner.StateInner.{StateInner}
-use Rattle.qh_shown.specs.Connections.{ShowsConnection}
+use Rattle.qh_shown.specs.Connections.{ShowsConnection, opening_book}
 use Rattle.qh_shown.specs.Items.{item_of}
 
 abbrev emptied : Option (List ConnectionItem) → Option (List ConnectionItem)
@@ -105,10 +105,18 @@ module _ {S : Type 0} where
       subst (λ (c : Connection S). IsRecorded (record s { connection = c }) history) (sym is)
       (subst (λ (es : List (PlainEntry T)). IsRecorded (record s { connection = log_taken s.connection }) es) (sym entry)
       (record {
-        first = u.first;
-        is_first = u.is_first;
-        last = driven (map item_of u.items ++ lost_items s.error) u.first;
-        replays = (driven (map item_of u.items ++ lost_items s.error) u.first, refl, refl);
-        shows = taken_shown s (driven (map item_of u.items ++ lost_items s.error) u.first) u.shows;
+        first = opening_book s.connection s.stable_id;
+        is_first = record {
+          side = s.connection.core.side;
+          addresses = s.connection.core.addresses;
+          stable_id = s.stable_id;
+          send_window = s.connection.config.limits.send_window;
+          datagram_receive = s.connection.config.datagram_receive;
+          datagram_send = s.connection.config.datagram_send;
+          is = refl;
+        };
+        last = driven (map item_of u.items ++ lost_items s.error) (opening_book s.connection s.stable_id);
+        replays = (driven (map item_of u.items ++ lost_items s.error) (opening_book s.connection s.stable_id), refl, refl);
+        shows = taken_shown s (driven (map item_of u.items ++ lost_items s.error) (opening_book s.connection s.stable_id)) u.shows;
         taken = none_came s.connection u.items (subst (λ (c : Connection S). IsWhole c) is whole) u.logged;
       }))

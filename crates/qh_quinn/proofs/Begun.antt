@@ -1,10 +1,13 @@
 -- The first state of a connection, and what the endpoint is told of one.
-use Rattle.std.proofs.Common.{◌≡◌, ℕ, Bool, true, false, not, List, [], Option, None, is_some, refl, sym, ap, subst, ◌∙◌}
+use Rattle.std.proofs.Common.{◌≡◌, ℕ, Bool, true, false, not, ◌&&◌, List, [], ◌++◌, map, Option, Some, None, is_some, refl, sym, ap, subst, ◌∙◌}
 use Rattle.std.specs.List.{list_any}
 use Rattle.qh_base.specs.declared.connection_error.ConnectionError.{ConnectionError}
 use Rattle.qh_book.specs.Book.{Book}
-use Rattle.qh_book.specs.Interests.{is_same}
+use Rattle.qh_book.specs.Interests.{is_same, settled, waits}
+use Rattle.qh_book.specs.Items.{bring_all, is_memory, with_loss}
 use Rattle.qh_book.specs.Shown.{Note, no_note}
+use Rattle.qh_book.specs.Step.{driven}
+use Rattle.qh_book.specs.declared.interest.Interest.{Interest}
 use Rattle.qh_conn.specs.Telling.{IsEndpointTold}
 use Rattle.qh_conn.specs.Whole.{IsWhole}
 use Rattle.qh_conn.specs.declared.connection.Connection.{Connection}
@@ -15,18 +18,20 @@ use Rattle.qh_core.specs.declared.event.EndpointEvent.{EndpointEvent as CoreEndp
 use Rattle.qh_core.specs.declared.inner.Inner.{Inner}
 use Rattle.qh_core.specs.declared.state.State.{State as CoreState}
 use Rattle.qh_quinn.proofs.StatesKept.{connection_beside, state_by}
-use Rattle.qh_quinn.proofs.TakingUp.{lives_on}
-use Rattle.qh_quinn.proofs.Tellings.{Tells, told_logging, told_shows, told_state}
+use Rattle.qh_quinn.proofs.TakingUp.{bring_behind, lives_on}
+use Rattle.qh_quinn.proofs.Tellings.{Tells, told_logging, told_logs, told_named, told_shows, told_state}
 use Rattle.qh_quinn.specs.Acting.{IsChanged}
+use Rattle.qh_quinn.specs.Losses.{lost_items}
 use Rattle.qh_quinn.specs.Readers.{HoldsReader, reader_in}
+use Rattle.qh_quinn.specs.Recording.{IsUnused}
 use Rattle.qh_quinn.specs.States.{IsState, Shows, ShowsWith}
 use Rattle.qh_quinn.specs.Telling.{AreTold}
 use Rattle.qh_quinn.specs.Waiting.{interests_in, is_among}
 use Rattle.qh_quinn.specs.declared.inner.StateInner.{StateInner}
 use Rattle.qh_quinn.specs.declared.readers.Reader.{Reader}
 use Rattle.qh_shown.specs.Brings.{Brings, IsLogging}
-use Rattle.qh_shown.specs.Connections.{IsBegun, ShowsConnection, is_wanting, opening_book}
-use Rattle.qh_shown.specs.Items.{brought}
+use Rattle.qh_shown.specs.Connections.{IsBegun, IsBegunLogged, ShowsConnection, is_wanting, is_wanting_in, opening_book}
+use Rattle.qh_shown.specs.Items.{brought, item_of}
 
 lost_by_core : (error : Option ConnectionError) (up : Bool) → (up ≡ true → error ≡ None) → (up ≡ false → is_some error ≡ true) → is_some error ≡ not up
 lost_by_core error true lives lost = ap is_some (lives refl)
@@ -34,6 +39,9 @@ lost_by_core error false lives lost = lost refl
 
 unheld : (w : Bool) (reader : Option Reader) (held : Bool) (note : Note) (page : _) → reader ≡ None → held ≡ false → HoldsReader w reader held note page
 unheld w reader held note page none off = rw (none, off) tt
+
+lost_as : (e : ConnectionError) (b : Book) → is_memory e ≡ false → with_loss e b ≡ record b { error = Some e }
+lost_as e b calm = rw calm refl
 
 module _ {S : Type 0} where
   -- a state around a connection, of which nothing was done yet
@@ -74,6 +82,45 @@ module _ {S : Type 0} where
 
   pub first_is : Tells S → (c : Connection S) (stable_id : ℕ) (s : StateInner S) (h : IsBegun c) → IsAround c stable_id s → Shows s (record (brought h.items (opening_book c stable_id)) { error = c.core.error })
   first_is law c stable_id s h around = record { notes = λ k. no_note; shows = first_shows law c stable_id s h around }
+
+  -- ---- one whose log was on from the first may keep its history
+
+  -- no call waits, so none is woken
+  settled_shows : (notes : ℕ → Note) (s : StateInner S) (b : Book) → ((i : Interest) → b.interests i ≡ false) → ShowsWith notes s b → ShowsWith notes s (settled b)
+  settled_shows notes s b none h = record {
+    connection = connection_beside s.is_connected s.connection notes b h.connection;
+    readers = h.readers;
+    untouched = record { unheld = h.untouched.unheld; page = h.untouched.page };
+    stable_id = h.stable_id;
+    error = h.error;
+    handles = h.handles;
+    interests = λ i. ap (λ (z : Bool). z && waits b i) (none i) ∙ sym (none i) ∙ h.interests i;
+  }
+
+  lost_shows : (notes : ℕ → Note) (s : StateInner S) (error : Option ConnectionError) (b : Book) → is_wanting_in error ≡ false → b.error ≡ None → ((i : Interest) → b.interests i ≡ false) → ShowsWith notes s (record b { error = error })
+      → ShowsWith notes s (settled (bring_all (lost_items error) b))
+  lost_shows notes s None b calm kept none h = settled_shows notes s b none (subst (λ (z : Option ConnectionError). ShowsWith notes s (record b { error = z })) (sym kept) h)
+  lost_shows notes s (Some e) b calm kept none h = subst (λ (z : Book). ShowsWith notes s (settled z)) (sym (lost_as e b calm)) (settled_shows notes s (record b { error = Some e }) none h)
+
+  opened_same : (c to : Connection S) (stable_id id : ℕ) → (to.config ≡ c.config) × (to.core.side ≡ c.core.side) × (to.core.addresses ≡ c.core.addresses) → id ≡ stable_id → opening_book c stable_id ≡ opening_book to id
+  opened_same c to stable_id id named same = rw (named.0, named.1, named.2, same) refl
+
+  pub first_unused : Tells S → (c : Connection S) (stable_id : ℕ) (s : StateInner S) → IsBegunLogged c → is_wanting c ≡ false → IsAround c stable_id s → IsUnused s
+  first_unused law c stable_id s h calm around =
+      let items = h.begun.items in
+      let opened = opening_book c stable_id in
+      let u = h.begun.uncalled stable_id in
+      let led = lost_shows (λ k. no_note) s c.core.error (brought items opened) calm u.error u.interests (first_shows law c stable_id s h.begun around) in
+      let all = subst (λ (z : Book). ShowsWith (λ k. no_note) s (settled z)) (sym (bring_behind (map item_of items) (lost_items c.core.error) opened)) led in
+      record {
+        items = items;
+        logged = told_logs law false c s.is_connected s.connection around.told ∙ h.logged;
+        shows = record {
+          notes = λ k. no_note;
+          shows = subst (λ (z : Option ConnectionError). ShowsWith (λ k. no_note) s (driven (map item_of items ++ lost_items z) (opening_book s.connection s.stable_id))) (sym around.error)
+              (subst (λ (z : Book). ShowsWith (λ k. no_note) s (driven (map item_of items ++ lost_items c.core.error) z)) (opened_same c s.connection stable_id s.stable_id (told_named false c s.is_connected s.connection around.told) around.stable_id_is) all);
+        };
+      }
 
   -- an event was kept for the driver
   pub pushed : (old new : StateInner S) → new ≡ record old { events = new.events; driver = new.driver } → IsState old → IsState new

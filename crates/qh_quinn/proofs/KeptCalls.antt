@@ -12,25 +12,30 @@ use Rattle.qh_quinn.proofs.Recordings.{call_recorded, unmade_recorded}
 use Rattle.qh_quinn.specs.Acting.{IsActed, IsMade, Stays}
 use Rattle.qh_quinn.specs.Calls.{IsCallOf}
 use Rattle.qh_quinn.specs.Kept.{HasHistory}
-use Rattle.qh_quinn.specs.Recording.{IsEntryOf, IsLonger}
+use Rattle.qh_quinn.specs.Recording.{IsEntryWith, IsLonger, again}
 use Rattle.qh_quinn.specs.States.{IsState, Shows}
 use Rattle.qh_quinn.specs.declared.history.History.{History}
 use Rattle.qh_quinn.specs.declared.inner.StateInner.{StateInner}
 
 module _ {D : Type 0} where
   -- its entry comes last
-  longer : (c kept : Call) (r : Reply (Told D)) (before mid after : List (PlainEntry (Told D))) → kept ≡ c → mid ≡ before → (e : PlainEntry (Told D)) × IsEntryOf kept r e × (after ≡ mid ++ e ∷ []) → IsLonger c r before after
-  longer c kept r before mid after is same h = (h.0, subst (λ (x : Call). IsEntryOf x r h.0) is h.1, h.2 ∙ ap (λ (es : List (PlainEntry (Told D))). es ++ h.0 ∷ []) same)
+  pub longer : (Tells : Reply (Told D) → Type 0) (c kept : Call) (r : Reply (Told D)) (told : Option (Told D)) (before mid after : List (PlainEntry (Told D))) → kept ≡ c → mid ≡ before → Tells (again r told)
+      → (e : PlainEntry (Told D)) × IsEntryWith kept r told e × (after ≡ mid ++ e ∷ []) → IsLonger Tells c r before after
+  longer Tells c kept r told before mid after is same tells h = (
+    h.0,
+    record { told = told; is = subst (λ (x : Call). IsEntryWith x r told h.0) is h.1; tells = subst (λ (x : Reply (Told D)). Tells x) (sym h.1.reply) tells },
+    h.2 ∙ ap (λ (es : List (PlainEntry (Told D))). es ++ h.0 ∷ []) same,
+  )
 
 module _ {S D : Type 0} where
   -- there was room for it, and for the ends of the handles that there are then
-  pub made_kept : (c kept : Call) (r : Reply (Told D)) (old new : StateInner S) (before mid after : History (Told D)) → (IsDrive c → ⊥) → HasHistory old (Some before) → IsActed c r old new → IsCallOf c r old new → MayReply c r → kept ≡ c
+  pub made_kept : (c kept : Call) (r : Reply (Told D)) (told : Option (Told D)) (old new : StateInner S) (before mid after : History (Told D)) → (IsDrive c → ⊥) → HasHistory old (Some before) → IsActed c r old new → IsCallOf c r old new → MayReply c r → kept ≡ c
       → mid.entries.items ≡ before.entries.items → (IsMade c r old new → vec_len mid.entries + (1 + new.handles) ≤ vec_capacity mid.entries)
-      → (e : PlainEntry (Told D)) × IsEntryOf kept r e × (after.entries.items ≡ mid.entries.items ++ e ∷ []) → vec_len after.entries ≡ vec_len mid.entries + 1 → vec_capacity after.entries ≡ vec_capacity mid.entries
+      → (e : PlainEntry (Told D)) × IsEntryWith kept r told e × (after.entries.items ≡ mid.entries.items ++ e ∷ []) → vec_len after.entries ≡ vec_len mid.entries + 1 → vec_capacity after.entries ≡ vec_capacity mid.entries
       → HasHistory new (Some after)
-  made_kept c kept r old new before mid after isnt has acted calls fits is same enough entry len capacity =
+  made_kept c kept r told old new before mid after isnt has acted calls fits is same enough entry len capacity =
       let made : IsMade c r old new = record { acted = acted; calls = calls; fits = fits } in
-      (call_recorded c r old new before.entries.items after.entries.items isnt has.0 made (longer c kept r before.entries.items mid.entries.items after.entries.items is same entry), omega (arith, enough made, len, capacity))
+      (call_recorded (λ _. Unit {0}) c r old new before.entries.items after.entries.items isnt has.0 made (longer (λ _. Unit {0}) c kept r told before.entries.items mid.entries.items after.entries.items is same tt entry), omega (arith, enough made, len, capacity))
 
   -- none was made
   pub unmade_kept : (old new : StateInner S) (before after : History (Told D)) → IsState old → HasHistory old (Some before) → Stays old new → new.connection ≡ old.connection → after.entries.items ≡ before.entries.items

@@ -2,7 +2,8 @@
 use Rattle.std.proofs.Common.{◌≡◌, ◌⊎◌, ℕ, zero, suc, ◌+◌, ◌-◌, ◌≤◌, ◌<◌, Bool, true, false, List, [], ◌∷◌, ◌++◌, length, Option, None, Some, is_some, Result, Ok, Err, refl, sym, ap, subst, ◌∙◌, inl, inr, arith}
 use Rattle.std.proofs.lemmas.Bool.{false≢true}
 use Rattle.std.proofs.lemmas.Option.{same_Some}
-use Rattle.std.specs.Prelude.{IfOk, vec_capacity}
+use Rattle.std.specs.Prelude.{IfOk, IfSome, vec_capacity}
+use Rattle.qh_base.specs.declared.connection_error.ConnectionError.{ConnectionError}
 use Rattle.qh_base.specs.declared.memory.Memory.{Memory}
 use Rattle.qh_book.specs.Book.{Book}
 use Rattle.qh_book.specs.History.{IsStep, PlainEntry, Replays}
@@ -18,6 +19,7 @@ use Rattle.qh_book.specs.declared.item.Item.{Item}
 use Rattle.qh_book.specs.declared.reply.Reply.{Reply}
 use Rattle.qh_book.specs.declared.reply.Reply.TheVariants as reply
 use Rattle.qh_conn.specs.Items.{came}
+use Rattle.qh_conn.specs.declared.connection.Connection.{Connection}
 use Rattle.qh_handles.specs.Told.{IsDrive, MayReply, is_of_getter, is_there}
 use Rattle.qh_handles.specs.declared.told.Told.{Told}
 use Rattle.qh_handles.specs.declared.told.Told.TheVariants as told
@@ -25,8 +27,9 @@ use Rattle.qh_quinn.proofs.CallLogs.{called, came_by}
 use Rattle.qh_quinn.proofs.HandleCounts.{EndsIn, ended_step, stepped}
 use Rattle.qh_quinn.specs.Acting.{IsMade, IsUnmade}
 use Rattle.qh_quinn.specs.Readers.{HoldsReader, reader_in}
-use Rattle.qh_quinn.specs.Recording.{EndsOne, HasTold, IsAgain, IsEntryOf, IsLonger, IsRecorded, payload_of}
+use Rattle.qh_quinn.specs.Recording.{EndsOne, HasTold, IsEntryWith, IsLonger, IsRecorded, again, payload_of}
 use Rattle.qh_quinn.specs.States.{IsState, Shows}
+use Rattle.qh_quinn.specs.Told.{IsValue, TellsOf}
 use Rattle.qh_quinn.specs.declared.history.Room.{Room}
 use Rattle.qh_quinn.specs.declared.inner.StateInner.{StateInner}
 use Rattle.qh_quinn.specs.declared.readers.Reader.{Reader}
@@ -90,22 +93,43 @@ module _ {D : Type 0} where
   other_told b m (call.Get g) value again may h = (other_value b g value again h.0, h.1)
   other_told b m c value again may h = absurd may
 
-  again_steps : (b after : Book) (c : Call) (r again : Reply (Told D)) → MayReply c r → IsAgain r again → Steps b c r after → Steps b c again after
-  again_steps b after c (reply.Told value) again may is h =
-      subst (λ (x : Reply (Told D)). Steps b c x after) (sym is.1) (record { made = h.made; allows = other_told b h.made c value is.0 may h.allows; is_after = h.is_after })
-  again_steps b after c r again may is h = subst (λ (x : Reply (Told D)). Steps b c x after) (sym is) h
+  again_steps : (b after : Book) (c : Call) (r : Reply (Told D)) (told : Option (Told D)) → MayReply c r → Steps b c r after → Steps b c (again r told) after
+  again_steps b after c (reply.Told value) (Some other) may h = record { made = h.made; allows = other_told b h.made c value other may h.allows; is_after = h.is_after }
+  again_steps b after c r told may h = h
 
   with_none : (b after : Book) (c : Call) (r : Reply (Told D)) (items : List Item) → (IsDrive c → ⊥) → items ≡ [] → Steps b c r after → StepsWith b c r items after
   with_none b after (call.Drive now) r items isnt none h = absurd (isnt tt)
   with_none b after c r items isnt none h = (none, h)
 
-  entry_steps : (b after : Book) (c : Call) (r : Reply (Told D)) (e : PlainEntry (Told D)) → (IsDrive c → ⊥) → MayReply c r → IsEntryOf c r e → Steps b c r after → IsStep b e after
-  entry_steps b after c r e isnt may is h =
-      subst (λ (x : Call). StepsWith b x e.reply e.items after) (sym is.call) (with_none b after c e.reply e.items isnt is.items (again_steps b after c r e.reply may is.reply h))
+  entry_steps : (b after : Book) (c : Call) (r : Reply (Told D)) (told : Option (Told D)) (e : PlainEntry (Told D)) → (IsDrive c → ⊥) → MayReply c r → IsEntryWith c r told e → Steps b c r after → IsStep b e after
+  entry_steps b after c r told e isnt may is h =
+      subst (λ (x : Call). StepsWith b x e.reply e.items after) (sym is.call)
+      (with_none b after c e.reply e.items isnt is.items (subst (λ (x : Reply (Told D)). Steps b c x after) (sym is.reply) (again_steps b after c r told may h)))
 
   pub behind : (history : List (PlainEntry (Told D))) (e : PlainEntry (Told D)) (b m after : Book) → Replays b history m → IsStep m e after → Replays b (history ++ e ∷ []) after
   behind [] e b m after is step = (after, subst (λ (x : Book). IsStep x e after) is step, refl)
   behind (x ∷ history) e b m after is step = (is.0, is.1, behind history e is.0 m after is.2 step)
+
+module _ {S D : Type 0} (knows : S → Bool) (name : S → List ℕ) (name_in : D → List ℕ) where
+  -- ---- what is told besides
+
+  told_data : (c : Connection S) (error : Option ConnectionError) (value : Told D) → is_of_getter getter.HandshakeData value ≡ true → IsValue knows name name_in c getter.HandshakeData value
+      → TellsOf knows name name_in c error call.HandshakeData (reply.Told value)
+  told_data c error (told.HandshakeData d) of is = is
+  told_data c error (told.Rtt span) of is = absurd (false≢true of)
+  told_data c error (told.MinRtt span) of is = absurd (false≢true of)
+  told_data c error (told.Stats stats) of is = absurd (false≢true of)
+  told_data c error (told.CongestionState state) of is = absurd (false≢true of)
+
+  pub data_again : (c : Connection S) (error : Option ConnectionError) (r : Reply (Told D)) (told : Option (Told D)) → IfSome told (λ value. (is_of_getter getter.HandshakeData value ≡ true) × IsValue knows name name_in c getter.HandshakeData value)
+      → TellsOf knows name name_in c error call.HandshakeData r → TellsOf knows name name_in c error call.HandshakeData (again r told)
+  data_again c error (reply.Told old) (Some value) is h = told_data c error value is.0 is.1
+  data_again c error r told is h = h
+
+  pub get_again : (c : Connection S) (error : Option ConnectionError) (g : Getter) (r : Reply (Told D)) (told : Option (Told D)) → IfSome told (λ value. (is_of_getter g value ≡ true) × IsValue knows name name_in c g value)
+      → TellsOf knows name name_in c error (call.Get g) r → TellsOf knows name name_in c error (call.Get g) (again r told)
+  get_again c error g (reply.Told old) (Some value) is h = is.1
+  get_again c error g r told is h = h
 
 -- ---- calls that end a handle that is there
 
@@ -133,15 +157,15 @@ module _ {S : Type 0} where
 
 module _ {S D : Type 0} where
   -- a call was made, and its entry stands behind the others
-  pub call_recorded : (c : Call) (r : Reply (Told D)) (old new : StateInner S) (before after : List (PlainEntry (Told D))) → (IsDrive c → ⊥) → IsRecorded old before → IsMade c r old new → IsLonger c r before after → IsRecorded new after
-  call_recorded c r old new before after isnt kept made longer =
+  pub call_recorded : (Tells : Reply (Told D) → Type 0) (c : Call) (r : Reply (Told D)) (old new : StateInner S) (before after : List (PlainEntry (Told D))) → (IsDrive c → ⊥) → IsRecorded old before → IsMade c r old new → IsLonger Tells c r before after → IsRecorded new after
+  call_recorded Tells c r old new before after isnt kept made longer =
       let step = made.acted.each kept.last kept.shows in
       subst (λ (es : List (PlainEntry (Told D))). IsRecorded new es) (sym longer.2)
       (record {
         first = kept.first;
         is_first = kept.is_first;
         last = step.after;
-        replays = behind before longer.0 kept.first kept.last step.after kept.replays (entry_steps kept.last step.after c r longer.0 isnt made.fits longer.1 step.steps);
+        replays = behind before longer.0 kept.first kept.last step.after kept.replays (entry_steps kept.last step.after c r longer.1.told longer.0 isnt made.fits longer.1.is step.steps);
         shows = step.shows;
         taken = came_by old.connection new.connection (called c r old new made.calls.called) ∙ kept.taken;
       })

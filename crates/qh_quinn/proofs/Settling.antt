@@ -182,6 +182,10 @@ pub among_kept : ((i j : Interest) → is_same i j ≡ true → i ≡ j) → (f 
 among_kept equal f [] i = refl
 among_kept equal f (w ∷ ws) i = kept_first equal f w ws i (f w.interest) refl (among_kept equal f ws i)
 
+filter_alike : (p q : Waiting → Bool) → ((w : Waiting) → p w ≡ q w) → (ws : List Waiting) → filter p ws ≡ filter q ws
+filter_alike p q same [] = refl
+filter_alike p q same (w ∷ ws) = rw (same w, filter_alike p q same ws) refl
+
 module _ {S : Type 0} where
   -- other calls wait, and nothing else is said
   others_wait : (old new : StateInner S) → new ≡ record old { waiting = new.waiting } → (b : Book) (f : Interest → Bool) → ((i : Interest) → f i ≡ is_among i new.waiting.items) → Shows old b → Shows new (record b { interests = f })
@@ -224,3 +228,11 @@ module _ {S : Type 0} where
       others_wait old new is b (λ i. b.interests i && waits b i)
       (λ i. ap (λ (x : Bool). x && waits b i) (h.shows.interests i) ∙ (ap (λ (x : Bool). is_among i old.waiting.items && x) (sym (waits_beside b (λ i. is_among i mid.waiting.items) i)) ∙ sym (kept c here i))) h in
       record { each = shows; state = state_beside old new state is (settled state.book) (shows state.book state.shown) }
+
+  -- the calls that wait still are those of any book that shows the state
+  pub woken_by_replies : (old mid : StateInner S) (was kept : List Waiting) → mid ≡ record old { waiting = mid.waiting } → was ≡ old.waiting.items → ((b : Book) → Shows mid b → kept ≡ filter (λ (w : Waiting). waits b w.interest) was)
+      → (b : Book) → Shows old b → kept ≡ filter (λ (w : Waiting). waits b w.interest) old.waiting.items
+  woken_by_replies old mid was kept aside same each b h =
+      let f : Interest → Bool = λ i. is_among i mid.waiting.items in
+      each (record b { interests = f }) (others_wait old mid aside b f (λ i. refl) h) ∙ filter_alike (λ w. waits (record b { interests = f }) w.interest) (λ w. waits b w.interest) (λ w. waits_beside b f w.interest) was
+      ∙ ap (λ (ws : List Waiting). filter (λ (w : Waiting). waits b w.interest) ws) same

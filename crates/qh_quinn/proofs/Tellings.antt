@@ -11,9 +11,12 @@ use Rattle.qh_conn.specs.declared.event.Event.{Event}
 use Rattle.qh_conn.specs.declared.event.Event.TheVariants as event
 use Rattle.qh_core.specs.Event.{IsPolledEvent}
 use Rattle.qh_core.specs.declared.event.Event.{Event as CoreEvent}
+use Rattle.qh_core.specs.declared.event.Event.TheVariants as core_event
 use Rattle.qh_core.specs.declared.inner.Inner.{Inner}
 use Rattle.qh_halves.specs.SendHalves.{write_limit}
 use Rattle.qh_quinn.specs.Telling.{AreTold}
+use Rattle.qh_quinn.specs.Waiting.{nudged_if}
+use Rattle.qh_quinn.specs.declared.waiting.Waiting.{Waiting}
 use Rattle.qh_shown.specs.Brings.{IsLogging, TellsOf, is_told}
 use Rattle.qh_shown.specs.Connections.{ShowsConnection}
 use Rattle.qh_streams.specs.Streams.{IsPolled, PlainStreams, still_blocked}
@@ -55,6 +58,30 @@ module _ {S : Type 0} where
       let one = one_state mid new told told_is in
       let all = told_state was old mid_told mid before in
       (one.0 ∙ all.0, one.1 ∙ all.1)
+
+  core_named : (old new : Inner S) (told : Option CoreEvent) → IsPolledEvent old new told → (new.side ≡ old.side) × (new.addresses ≡ old.addresses)
+  core_named old new told (IsPolledEvent.stream e is rest) = (ap (λ (z : Inner S). z.side) rest, ap (λ (z : Inner S). z.addresses) rest)
+  core_named old new told (IsPolledEvent.lost mid error is has untold rest) = (ap (λ (z : Inner S). z.side) rest, ap (λ (z : Inner S). z.addresses) rest)
+  core_named old new told (IsPolledEvent.none is quiet rest) = (ap (λ (z : Inner S). z.side) rest, ap (λ (z : Inner S). z.addresses) rest)
+
+  rest_named : (old new to : Connection S) → to.config ≡ old.config → to.core ≡ old.core → new ≡ to → (new.config ≡ old.config) × (new.core.side ≡ old.core.side) × (new.core.addresses ≡ old.core.addresses)
+  rest_named old new to config core is =
+      (ap (λ (z : Connection S). z.config) is ∙ config, ap (λ (z : Connection S). z.core.side) is ∙ ap (λ (z : Inner S). z.side) core, ap (λ (z : Connection S). z.core.addresses) is ∙ ap (λ (z : Inner S). z.addresses) core)
+
+  one_named : (old new : Connection S) (told : Option Event) → IsTold old new told → (new.config ≡ old.config) × (new.core.side ≡ old.core.side) × (new.core.addresses ≡ old.core.addresses)
+  one_named old new told (IsTold.handshake_data due rest) = rest_named old new _ refl refl rest
+  one_named old new told (IsTold.connected quiet due rest) = rest_named old new _ refl refl rest
+  one_named old new told (IsTold.received quiet silent due rest) = rest_named old new _ refl refl rest
+  one_named old new told (IsTold.unblocked quiet silent still due rest) = rest_named old new _ refl refl rest
+  one_named old new told (IsTold.of_core told_core quiet silent still calm is rest) = let core = core_named old.core new.core told_core is in (ap (λ (z : Connection S). z.config) rest, core.0, core.1)
+
+  -- what its opening book has is the same
+  pub told_named : (was : Bool) (old : Connection S) (is : Bool) (new : Connection S) → AreTold was old is new → (new.config ≡ old.config) × (new.core.side ≡ old.core.side) × (new.core.addresses ≡ old.core.addresses)
+  told_named _ _ _ _ (AreTold.none was old) = (refl, refl, refl)
+  told_named _ _ _ _ (AreTold.more was old mid_told mid new told before told_is stands) =
+      let one = one_named mid new told told_is in
+      let all = told_named was old mid_told mid before in
+      (one.0 ∙ all.0, one.1 ∙ all.1, one.2 ∙ all.2)
 
   pub told_stands : (was : Bool) (old : Connection S) (is : Bool) (new : Connection S) → AreTold was old is new → StandsStill old new
   told_stands _ _ _ _ (AreTold.none was old) = λ accepts sealed hello t h. h
@@ -123,6 +150,36 @@ module _ {S : Type 0} where
   told_due old new told (IsTold.unblocked quiet silent still due rest) none = absurd (false≢true (sym none))
   told_due old new told (IsTold.of_core (Some e) quiet silent still calm is rest) none = absurd (false≢true (sym none))
   told_due old new told (IsTold.of_core None quiet silent still calm is rest) none = ap (λ (z : Connection S). z.is_connected_due) rest ∙ silent
+
+-- ---- who is woken by it
+
+-- those that wait for what the handshake tells, by the event that it is there
+abbrev pub woken_by : Option Event → List Waiting → List Waiting
+woken_by (Some event.HandshakeDataReady) ws = nudged_if true ws
+woken_by other ws = ws
+
+pub unwoken : (e : Event) → (e ≡ event.HandshakeDataReady → ⊥) → (ws : List Waiting) → woken_by (Some e) ws ≡ ws
+unwoken event.HandshakeDataReady isnt ws = absurd (isnt refl)
+unwoken other isnt ws = refl
+
+module _ {S : Type 0} where
+  -- the same are to be woken before and behind it
+  pub told_woken : (old new : Connection S) (told : Option Event) (ws : List Waiting) → IsTold old new told → nudged_if new.is_data_due (woken_by told ws) ≡ nudged_if old.is_data_due ws
+  told_woken old new told ws (IsTold.handshake_data due rest) = ap (λ (z : Connection S). nudged_if z.is_data_due (nudged_if true ws)) rest ∙ sym (ap (λ (d : Bool). nudged_if d ws) due)
+  told_woken old new told ws (IsTold.connected quiet due rest) = ap (λ (z : Connection S). nudged_if z.is_data_due ws) rest
+  told_woken old new told ws (IsTold.received quiet silent due rest) = ap (λ (z : Connection S). nudged_if z.is_data_due ws) rest
+  told_woken old new told ws (IsTold.unblocked quiet silent still due rest) = ap (λ (z : Connection S). nudged_if z.is_data_due ws) rest
+  told_woken old new told ws (IsTold.of_core (Some (core_event.ConnectionLost e)) quiet silent still calm is rest) = ap (λ (z : Connection S). nudged_if z.is_data_due ws) rest
+  told_woken old new told ws (IsTold.of_core (Some (core_event.Stream e)) quiet silent still calm is rest) = ap (λ (z : Connection S). nudged_if z.is_data_due ws) rest
+  told_woken old new told ws (IsTold.of_core None quiet silent still calm is rest) = ap (λ (z : Connection S). nudged_if z.is_data_due ws) rest
+
+  -- once nothing is left to be told, they were
+  pub data_told : (old new : Connection S) (told : Option Event) → IsTold old new told → is_some told ≡ false → old.is_data_due ≡ false
+  data_told old new told (IsTold.handshake_data due rest) none = absurd (false≢true (sym none))
+  data_told old new told (IsTold.connected quiet due rest) none = quiet
+  data_told old new told (IsTold.received quiet silent due rest) none = quiet
+  data_told old new told (IsTold.unblocked quiet silent still due rest) none = quiet
+  data_told old new told (IsTold.of_core e quiet silent still calm is rest) none = quiet
 
 -- no other event tells that it is
 pub untold : (e : Event) → (e ≡ event.Connected → ⊥) → (was : Bool) → is_told was (Some e) ≡ was

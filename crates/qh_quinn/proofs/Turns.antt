@@ -1,6 +1,7 @@
 -- A whole turn of the driver, out of its parts.
 use Rattle.std.proofs.Common.{◌≡◌, ◌⊎◌, ◌≢◌, ◌≤◌, ℕ, Bool, true, false, ◌&&◌, ◌||◌, not, List, [], ◌++◌, length, map, Option, None, Some, Result, Ok, Err, OnOk, is_some, if◌then◌else◌, append-nil, refl, sym, ap, subst, inl, inr, ◌∙◌, arith}
 use Rattle.std.proofs.lemmas.Bool.{false≢true}
+use Rattle.std.specs.List.{filter}
 use Rattle.futures.specs.declared.task.Poll.{Poll}
 use Rattle.futures.specs.declared.task.Poll.TheVariants.{Pending, Ready}
 use Rattle.qh_base.specs.declared.connection_error.ConnectionError.{ConnectionError}
@@ -9,7 +10,7 @@ use Rattle.qh_base.specs.declared.path.Transmit.{Transmit}
 use Rattle.qh_base.specs.declared.time.Moment.{Moment}
 use Rattle.qh_base.specs.declared.transport_error.TransportError.{TransportError}
 use Rattle.qh_book.specs.Book.{Book}
-use Rattle.qh_book.specs.Interests.{settled}
+use Rattle.qh_book.specs.Interests.{settled, waits}
 use Rattle.qh_book.specs.Items.{bring_all}
 use Rattle.qh_book.specs.Step.{Drives, driven}
 use Rattle.qh_book.specs.declared.item.Item.{Item}
@@ -30,7 +31,9 @@ use Rattle.qh_quinn.specs.Losses.{lost_items, new_loss}
 use Rattle.qh_quinn.specs.States.{IsState, Shows}
 use Rattle.qh_quinn.specs.Telling.{AreTold}
 use Rattle.qh_quinn.specs.Turning.{HasMadeNone, HasSentAll, IsAdvanced, IsErrorKept, IsHeeded, IsInOrder, IsTakenUp, IsTurned, IsTurnOf, acts_of_all, made_all, waiting_out, waits_in}
+use Rattle.qh_quinn.specs.Waiting.{AreWoken, nudged_if}
 use Rattle.qh_quinn.specs.declared.inner.StateInner.{StateInner}
+use Rattle.qh_quinn.specs.declared.waiting.Waiting.{Waiting}
 use Rattle.qh_runtime.specs.Socket.{has_failed, poll_failed}
 use Rattle.qh_runtime.specs.declared.runtime.IoFault.{IoFault}
 use Rattle.qh_runtime.specs.declared.runtime.IoFault.TheVariants as faults
@@ -224,6 +227,14 @@ module _ {S : Type 0} where
       let k : IsHeeded now failed was c w = subst (λ (z : StateInner S). IsHeeded now failed was c z) (sym woken) (record { lost = h.lost; fails = h.fails; other = h.other; tells = h.tells }) in
       subst (λ (z : StateInner S). IsHeeded now failed was c z) (sym left) (record { lost = k.lost; fails = k.fails; other = k.other; tells = k.tells })
 
+  -- who is woken
+  pub woken_on : (a t w f : StateInner S) (state : IsState t) → t.waiting.items ≡ nudged_if a.connection.is_data_due a.waiting.items
+      → ((b : Book) → Shows t b → w.waiting.items ≡ filter (λ (x : Waiting). waits b x.interest) t.waiting.items) → f ≡ record w { driver = f.driver } → AreWoken a.connection.is_data_due a.waiting.items f.waiting.items
+  woken_on a t w f state nudged kept left = (
+    λ i. waits state.book i,
+    ap (λ (z : StateInner S). z.waiting.items) left ∙ kept state.book state.shown ∙ ap (λ (ws : List Waiting). filter (λ (x : Waiting). waits state.book x.interest) ws) nudged,
+  )
+
   kept_still : (s t w f : StateInner S) → w ≡ record t { waiting = w.waiting } → f ≡ record w { driver = f.driver } → IsErrorKept s t → IsErrorKept s f
   kept_still s t w f woken left h =
       let k : IsErrorKept s w = subst (λ (z : StateInner S). IsErrorKept s z) (sym woken) (record { stays = h.stays; lost = h.lost }) in
@@ -232,8 +243,9 @@ module _ {S : Type 0} where
   pub turned : (T : Type 0) (v : SessionView S) (sent done : Result (Unit {0}) IoFault) (answer : Poll (Result (Unit {0}) IoFault)) (now : Moment) (is_held : Bool) (out : List OutMessage) (s a t w f : StateInner S)
       (advanced : IsAdvanced v.accepts v.sealed sent (record s { last_turn = now }) a out) → length out ≤ 20 → (is_held ≡ true → (advanced.made ≡ []) × (out ≡ []))
       → ((sent ≡ Err faults.Memory → ⊥) → IsInOrder v now advanced.handed advanced.made s.connection a.connection) → IsEnding sent done s a t w f → Ends answer done (is_drained w.connection.core.state)
-      → IsHeeded now (has_failed done) a.is_connected a.connection t → (has_failed done ≡ false → s.error ≡ a.error → IsErrorKept s t) → IsTurned T v s now is_held out answer f
-  turned T v sent done answer now is_held out s a t w f advanced few held ordered h ends heeded kept_error =
+      → IsHeeded now (has_failed done) a.is_connected a.connection t → (has_failed done ≡ false → s.error ≡ a.error → IsErrorKept s t) → AreWoken a.connection.is_data_due a.waiting.items f.waiting.items
+      → IsTurned T v s now is_held out answer f
+  turned T v sent done answer now is_held out s a t w f advanced few held ordered h ends heeded kept_error woken =
       let events : f.events.items ≡ a.events.items = ap (λ (z : StateInner S). z.events.items) h.left ∙ ap (λ (z : StateInner S). z.events.items) h.woken ∙ ap (λ (z : StateInner S). z.events.items) h.rest in
       let same : f.connection ≡ t.connection = ap (λ (z : StateInner S). z.connection) h.left ∙ ap (λ (z : StateInner S). z.connection) h.woken in
       let failed : poll_failed answer ≡ has_failed done = failed_alike answer done (is_drained w.connection.core.state) ends in
@@ -259,6 +271,7 @@ module _ {S : Type 0} where
           ordered (λ is. isnt (wanting_on sent done answer s a t w f h ends is)),
           subst (λ (x : Bool). IsHeeded now x s.is_connected a.connection f) (sym failed)
               (subst (λ (was : Bool). IsHeeded now (has_failed done) was a.connection f) (ap (λ (z : StateInner S). z.is_connected) advanced.same) (heeded_still now (has_failed done) a.is_connected a.connection t w f h.woken h.left heeded)),
+          subst (λ (ws : List Waiting). AreWoken a.connection.is_data_due ws f.waiting.items) (ap (λ (z : StateInner S). z.waiting.items) advanced.same) woken,
         );
         error = λ is. kept_still s t w f h.woken h.left (kept_error (sym failed ∙ is) (sym (ap (λ (z : StateInner S). z.error) advanced.same)));
         order = advanced.order ∙ ap (λ (l : List OutMessage). out ++ l) (left_waiting sent done s a t w f h (has_failed sent) refl);

@@ -1,5 +1,5 @@
 -- Waiting calls in a list.
-use Rattle.std.proofs.Common.{◌≡◌, ◌≢◌, ℕ, zero, suc, ◌==◌, ◌&&◌, ◌||◌, Bool, true, false, List, [], ◌∷◌, ◌++◌, length, take, drop, slice_index_or, slice_set, Option, None, Some, refl, sym, ap, subst, ◌∙◌, ⊎_elim, arith}
+use Rattle.std.proofs.Common.{◌≡◌, ◌≢◌, ◌≤◌, ◌<◌, ℕ, zero, suc, ◌==◌, ◌&&◌, ◌||◌, Bool, true, false, List, [], ◌∷◌, ◌++◌, length, take, drop, slice_index_or, slice_set, Option, None, Some, if◌then◌else◌, refl, sym, ap, subst, ◌∙◌, ⊎_elim, arith}
 use Rattle.std.proofs.lemmas.Bool.{cases_eq}
 use Rattle.std.proofs.lemmas.Bool.Decides.{Decides-eqb}
 use Rattle.std.proofs.lemmas.Option.{slice_get_within}
@@ -7,7 +7,8 @@ use Rattle.std.specs.Prelude.{IsSomeAnd, slice_get}
 use Rattle.futures.specs.declared.task.waker.Waker.{Waker}
 use Rattle.qh_book.specs.Interests.{is_same}
 use Rattle.qh_book.specs.declared.interest.Interest.{Interest}
-use Rattle.qh_quinn.specs.Waiting.{KeepsOthers, interests_in, is_among}
+use Rattle.qh_book.specs.declared.interest.Interest.TheVariants as interest
+use Rattle.qh_quinn.specs.Waiting.{KeepsOthers, interests_in, is_among, nudged_at, nudged_if, nudged_one}
 use Rattle.qh_quinn.specs.declared.waiting.Waiting.{Waiting}
 
 -- another waker at a place
@@ -26,6 +27,66 @@ others_set (v ∷ ws) zero zero w isnt = absurd (isnt refl)
 others_set (v ∷ ws) zero (suc k) w isnt = refl
 others_set (v ∷ ws) (suc at) zero w isnt = refl
 others_set (v ∷ ws) (suc at) (suc k) w isnt = others_set ws at k w (λ is. isnt (ap suc is))
+
+-- ---- who is woken
+
+-- the first ones were
+abbrev pub nudged_front : (n : ℕ) → List Waiting → List Waiting
+nudged_front zero ws = ws
+nudged_front (suc n) [] = []
+nudged_front (suc n) (w ∷ ws) = nudged_one w ∷ nudged_front n ws
+
+pub nudged_more : (n : ℕ) (ws : List Waiting) → nudged_at n (nudged_front n ws) ≡ nudged_front (suc n) ws
+nudged_more zero [] = refl
+nudged_more zero (w ∷ ws) = refl
+nudged_more (suc n) [] = refl
+nudged_more (suc n) (w ∷ ws) = ap (λ (vs : List Waiting). nudged_one w ∷ vs) (nudged_more n ws)
+
+pub nudged_past : (n : ℕ) (ws : List Waiting) → length ws ≤ n → nudged_front n ws ≡ nudged_if true ws
+nudged_past zero [] le = refl
+nudged_past zero (w ∷ ws) le = absurd (omega (arith, le))
+nudged_past (suc n) [] le = refl
+nudged_past (suc n) (w ∷ ws) le = ap (λ (vs : List Waiting). nudged_one w ∷ vs) (nudged_past n ws (omega (arith, le)))
+
+pub nudged_long : (ws : List Waiting) → length (nudged_if true ws) ≡ length ws
+nudged_long [] = refl
+nudged_long (w ∷ ws) = ap suc (nudged_long ws)
+
+-- the one at a place is such a task, or isn't
+pub nudged_set : (ws : List Waiting) (at : ℕ) (other another : Waiting) → at < length ws → (slice_index_or ws at another).interest ≡ interest.HandshakeData
+    → slice_set ws at (record (slice_index_or ws at other) { waker = None }) ≡ nudged_at at ws
+nudged_set [] zero other another le is = refl
+nudged_set [] (suc at) other another le is = refl
+nudged_set (w ∷ ws) zero other another le is = rw (ap (λ (i : Interest). is_same i interest.HandshakeData) is) refl
+nudged_set (w ∷ ws) (suc at) other another le is = ap (λ (vs : List Waiting). w ∷ vs) (nudged_set ws at other another (omega (arith, le)) is)
+
+not_data : (i : Interest) → i ≢ interest.HandshakeData → is_same i interest.HandshakeData ≡ false
+not_data interest.Connecting isnt = refl
+not_data interest.HandshakeData isnt = absurd (isnt refl)
+not_data (interest.Open dir) isnt = refl
+not_data (interest.Accept dir) isnt = refl
+not_data (interest.Read id is_ordered) isnt = refl
+not_data (interest.Write id) isnt = refl
+not_data (interest.Stopped id) isnt = refl
+not_data (interest.ReceivedReset id) isnt = refl
+not_data interest.ReadDatagram isnt = refl
+not_data (interest.SendDatagram size) isnt = refl
+not_data interest.Closed isnt = refl
+
+pub kept_at : (ws : List Waiting) (at : ℕ) (other : Waiting) → (slice_index_or ws at other).interest ≢ interest.HandshakeData → ws ≡ nudged_at at ws
+kept_at [] at other isnt = refl
+kept_at (w ∷ ws) zero other isnt = rw (not_data w.interest isnt) refl
+kept_at (w ∷ ws) (suc at) other isnt = ap (λ (vs : List Waiting). w ∷ vs) (kept_at ws at other isnt)
+
+-- the calls that wait are the same
+pub nudged_calls : (due : Bool) (ws : List Waiting) → interests_in (nudged_if due ws) ≡ interests_in ws
+nudged_calls false ws = refl
+nudged_calls true [] = refl
+nudged_calls true (w ∷ ws) = rw (same (is_same w.interest interest.HandshakeData), nudged_calls true ws) refl
+  where
+    same : (is : Bool) → (if is then record w { waker = None } else w).interest ≡ w.interest
+    same true = refl
+    same false = refl
 
 -- the whole of a list was written back
 pub written_back : {X : Type 0} (xs ys : List X) → length xs ≡ length ys → take (length ys) (xs ++ drop (length xs) ys) ≡ xs

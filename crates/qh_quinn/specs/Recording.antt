@@ -1,5 +1,5 @@
 -- The history of a state that keeps it: each call and each turn with its reply, and what the turns brought.
-use Rattle.std.specs.Prelude.{◌≡◌, ◌<◌, ◌++◌, ◌∷◌, ℕ, true, List, [], map, Option, Some, None, is_some, if◌then◌else◌}
+use Rattle.std.specs.Prelude.{◌≡◌, ◌<◌, ◌++◌, ◌∷◌, ℕ, Bool, true, List, [], map, Option, Some, None, is_some, if◌then◌else◌}
 use Rattle.qh_base.specs.declared.connection_error.ConnectionError.{ConnectionError}
 use Rattle.qh_base.specs.declared.path.FourTuple.{FourTuple}
 use Rattle.qh_book.specs.Book.{Book, first_book}
@@ -14,10 +14,14 @@ use Rattle.qh_conn.specs.Items.{came}
 use Rattle.qh_control.specs.Items.{items_of}
 use Rattle.qh_control.specs.declared.items.ConnectionItem.{ConnectionItem}
 use Rattle.qh_control.specs.declared.items.LogEntry.{LogEntry}
+use Rattle.qh_handles.specs.declared.told.Told.{Told}
+use Rattle.qh_quinn.specs.Acting.{IsTelling}
 use Rattle.qh_quinn.specs.Losses.{lost_items}
 use Rattle.qh_quinn.specs.Readers.{reader_in}
 use Rattle.qh_quinn.specs.States.{Shows}
+use Rattle.qh_quinn.specs.Told.{TellsOf}
 use Rattle.qh_quinn.specs.declared.inner.StateInner.{StateInner}
+use Rattle.qh_shown.specs.Connections.{opening_book}
 use Rattle.qh_shown.specs.Items.{item_of}
 use Rattle.qh_spec.specs.declared.sides.Side.{Side}
 
@@ -34,10 +38,10 @@ payload_of (reply.Bytes offset bytes) = bytes
 payload_of (reply.Datagram bytes) = bytes
 payload_of r = []
 
--- The same reply again; of one that tells a value that the book doesn't have, another such value.
-abbrev pub IsAgain : {T : Type 0} → Reply T → Reply T → Type 0
-IsAgain {T = T} (reply.Told value) again = (other : T) × (again ≡ reply.Told other)
-IsAgain r again = again ≡ r
+-- The same reply again; of one that tells a value that the book doesn't have, with the value that was told besides.
+abbrev pub again : {T : Type 0} → Reply T → (told : Option T) → Reply T
+again (reply.Told value) (Some other) = reply.Told other
+again r told = r
 
 -- there is a value to be told
 abbrev pub HasTold : {T : Type 0} → Reply T → Option T → Type 0
@@ -66,11 +70,19 @@ pub record IsFirstBook (b : Book) : Type 0 where
   pub is : b ≡ first_book side addresses stable_id send_window datagram_receive datagram_send
 
 module _ {T : Type 0} where
+  -- the entry of a call that replied so, with the value that was told besides
+  pub record IsEntryWith (c : Call) (r : Reply T) (told : Option T) (e : PlainEntry T) : Type 0 where
+    pub call : e.call ≡ c
+    pub reply : e.reply ≡ again r told
+    pub items : e.items ≡ []
+
+-- `Tells` is what the replies are that may have been told.
+module _ {T : Type 0} (Tells : Reply T → Type 0) where
   -- what a call adds to a history, if it is kept
   pub record IsEntryOf (c : Call) (r : Reply T) (e : PlainEntry T) : Type 0 where
-    pub call : e.call ≡ c
-    pub reply : IsAgain r e.reply
-    pub items : e.items ≡ []
+    pub told : Option T
+    pub is : IsEntryWith c r told e
+    pub tells : Tells e.reply
 
   abbrev pub IsLonger : Call → Reply T → (old new : List (PlainEntry T)) → Type 0
   IsLonger c r old new = (e : PlainEntry T) × IsEntryOf c r e × (new ≡ old ++ e ∷ [])
@@ -78,6 +90,11 @@ module _ {T : Type 0} where
   abbrev pub Records : Call → Reply T → (old new : Option (List (PlainEntry T))) → Type 0
   Records c r None new = new ≡ None
   Records c r (Some history) new = (e : PlainEntry T) × IsEntryOf c r e × (new ≡ Some (history ++ e ∷ []))
+
+module _ {S D : Type 0} (knows : S → Bool) (name : S → List ℕ) (name_in : D → List ℕ) where
+  -- the connection of this state tells that
+  abbrev pub TellsAt : StateInner S → Call → Reply (Told D) → Type 0
+  TellsAt s c r = IsTelling c → TellsOf knows name name_in s.connection s.error c r
 
 module _ {S T : Type 0} where
   -- The history is legal, its last book shows the state, and each item that the connection logged is in it.
@@ -90,14 +107,12 @@ module _ {S T : Type 0} where
     pub taken : came inner.connection ≡ Some []
 
 module _ {S : Type 0} where
-  -- No call was made yet, and no turn: one that brings what the connection's log holds, and why it is lost, leads from a first book to one that shows
+  -- No call was made yet, and no turn: one that brings what the connection's log holds, and why it is lost, leads from the opening book to one that shows
   -- the state.
   pub record IsUnused (s : StateInner S) : Type 0 where
     pub items : List ConnectionItem
     pub logged : came s.connection ≡ Some items
-    pub first : Book
-    pub is_first : IsFirstBook first
-    pub shows : Shows s (driven (map item_of items ++ lost_items s.error) first)
+    pub shows : Shows s (driven (map item_of items ++ lost_items s.error) (opening_book s.connection s.stable_id))
 
   -- the call ends a handle that is there
   abbrev pub EndsOne : StateInner S → Call → Type 0

@@ -31,6 +31,7 @@ use Rattle.qh_packet.specs.Session.{MakesTags, NamesTags}
 use Rattle.qh_quinn.specs.Losses.{lost_items, new_loss}
 use Rattle.qh_quinn.specs.States.{IsState, Shows}
 use Rattle.qh_quinn.specs.Telling.{AreTold}
+use Rattle.qh_quinn.specs.Waiting.{AreWoken}
 use Rattle.qh_quinn.specs.declared.inner.StateInner.{StateInner}
 use Rattle.qh_runtime.specs.Socket.{has_failed, poll_failed}
 use Rattle.qh_runtime.specs.declared.runtime.IoFault.{IoFault}
@@ -264,7 +265,7 @@ module _ {S : Type 0} (T : Type 0) where
     pub events : old.events.items ≡ handed ++ new.events.items
     pub all : (answer ≡ Ready (Err IoFault.Memory) → ⊥) → new.events.items ≡ []
     pub carries : AreLawful v.accepts v.sealed → CarriesOnBy v.accepts v.sealed old.connection new.connection (acts_of_all handed ++ made_all made)
-    pub in_order : (answer ≡ Ready (Err IoFault.Memory) → ⊥) → (sent : Connection S) × IsInOrder v now handed made old.connection sent × IsHeeded now (poll_failed answer) old.is_connected sent new
+    pub in_order : (answer ≡ Ready (Err IoFault.Memory) → ⊥) → (sent : Connection S) × IsInOrder v now handed made old.connection sent × IsHeeded now (poll_failed answer) old.is_connected sent new × AreWoken sent.is_data_due old.waiting.items new.waiting.items
     pub error : poll_failed answer ≡ false → IsErrorKept old new
     pub order : waits_in old ++ made ≡ out ++ (dropped ++ waits_in new)
     pub none_dropped : (answer ≡ Pending) ⊎ (answer ≡ Ready (Err IoFault.Memory)) → dropped ≡ []

@@ -1,9 +1,9 @@
-ghost use Rattle.std.specs.Prelude.{◌≡◌, ◌+◌, ◌≤◌, ◌<◌, ◌++◌, ◌∷◌, [], length, Option, None, Some, true, is_some, IfOk, IsOk, MatchOption, vec_len, vec_capacity};
+ghost use Rattle.std.specs.Prelude.{◌≡◌, ◌+◌, ◌≤◌, ◌<◌, ◌++◌, ◌∷◌, [], length, Option, None, Some, true, is_some, IfOk, IfSome, IsOk, MatchOption, vec_len, vec_capacity};
 ghost use Rattle.qh_base.specs.declared.connection_error.ConnectionError.{ConnectionError as AnError};
 ghost use Rattle.qh_book.specs.History.{PlainEntry};
 ghost use Rattle.qh_book.specs.declared.call.Call.TheVariants as calls;
 ghost use Rattle.qh_book.specs.declared.reply.Reply.TheVariants as replies;
-ghost use Rattle.qh_quinn.specs.Recording.{HasTold, IsAgain, IsBare, IsEntryOf, items_kept, payload_of, with_payload};
+ghost use Rattle.qh_quinn.specs.Recording.{HasTold, IsBare, IsEntryWith, again, items_kept, payload_of, with_payload};
 
 use bytes::Bytes;
 use qh_base::{ConnectionError, Memory, Moment};
@@ -14,7 +14,7 @@ use std::marker::Model;
 
 /// An entry of a history: a call with its reply, and of a driver's turn what it brought (own). What it has was taken from the allocator before the call.
 #[derive(Drop)]
-pub struct Kept<T> {
+pub struct HistoryEntry<T> {
     call: Call,
     /// If it has bytes, they stand beside it.
     reply: Reply<T>,
@@ -23,7 +23,7 @@ pub struct Kept<T> {
     lost: Option<ConnectionError>,
 }
 
-impl<T> Model for Kept<T> {
+impl<T> Model for HistoryEntry<T> {
     ghost use Rattle.qh_book.specs.History.{PlainEntry};
     ghost use Rattle.qh_quinn.specs.Recording.{items_kept, with_payload};
 
@@ -32,7 +32,7 @@ impl<T> Model for Kept<T> {
     ghost view = { λ k. record { call = k.call; reply = with_payload k.payload.items k.reply; items = items_kept k.brought.items k.lost } };
 }
 
-impl<T> Kept<T> {
+impl<T> HistoryEntry<T> {
     /// What was called.
     pub fn call(&self) -> &Call
         ensures { result.now ≡ self.now.call }
@@ -65,7 +65,7 @@ pub struct Room {
 /// The entries of a state's calls and turns, in the order in which they were made.
 #[derive(Drop)]
 pub struct History<T> {
-    pub entries: Vec<Kept<T>>,
+    pub entries: Vec<HistoryEntry<T>>,
 }
 
 impl<T: Drop> History<T> {
@@ -100,13 +100,13 @@ impl<T: Drop> History<T> {
         requires empty { room.payload.items ≡ [] }
         requires payload { length (payload_of reply.now) ≤ vec_capacity room.payload }
         requires told { HasTold reply.now told }
-        ensures entry { (e : PlainEntry T) × IsEntryOf room.call reply.now e × (self.new.entries.items ≡ self.old.entries.items ++ e ∷ []) }
+        ensures entry { (e : PlainEntry T) × IsEntryWith room.call reply.now told e × (self.new.entries.items ≡ self.old.entries.items ++ e ∷ []) }
         ensures len { vec_len self.new.entries ≡ vec_len self.old.entries + 1 }
         ensures capacity { vec_capacity self.new.entries ≡ vec_capacity self.old.entries }
     {
         let mut payload = room.payload;
         let _ = payload.extend_from_slice(payload_of(reply));
-        self.entries.push_reserved(Kept {
+        self.entries.push_reserved(HistoryEntry {
             call: room.call,
             reply: bare(reply, told),
             payload,
@@ -130,7 +130,7 @@ impl<T: Drop> History<T> {
         ensures len { vec_len self.new.entries ≡ vec_len self.old.entries + 1 }
         ensures capacity { vec_capacity self.new.entries ≡ vec_capacity self.old.entries }
     {
-        self.entries.push_reserved(Kept {
+        self.entries.push_reserved(HistoryEntry {
             call: Call::Drive { now },
             reply,
             payload: Vec::new(alloc),
@@ -153,7 +153,7 @@ fn payload_of<T>(reply: &Reply<T>) -> &[u8]
 // A reply again, without its bytes; in place of a value that the book doesn't have stands the other one.
 fn bare<T: Drop>(reply: &Reply<T>, told: Option<T>) -> Reply<T>
     requires { HasTold reply.now told }
-    ensures { IsAgain reply.now (with_payload (payload_of reply.now) result) }
+    ensures { with_payload (payload_of reply.now) result ≡ again reply.now told }
 {
     match reply {
         Reply::Pending => Reply::Pending,
@@ -190,7 +190,7 @@ fn bare<T: Drop>(reply: &Reply<T>, told: Option<T>) -> Reply<T>
 // There is a value.
 fn told_again<T: Drop>(told: Option<T>) -> Reply<T>
     requires { is_some told ≡ true }
-    ensures { (value : T) × (result ≡ replies.Told value) }
+    ensures { IfSome told (λ value. result ≡ replies.Told value) }
 {
     match told {
         Some(value) => Reply::Told(value),

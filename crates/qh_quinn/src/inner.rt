@@ -1,11 +1,12 @@
-ghost use Rattle.std.specs.Prelude.{◌≡◌, ◌++◌, ◌∷◌, [], None, OnErr, OnOk};
+ghost use Rattle.std.specs.Prelude.{◌≡◌, ◌++◌, ◌∷◌, [], false, None, OnErr, OnOk};
 ghost use Rattle.qh_conn.specs.Telling.{IsEndpointTold};
 ghost use Rattle.qh_conn.specs.Whole.{IsWhole};
 ghost use Rattle.qh_quinn.specs.Acting.{IsChanged};
 ghost use Rattle.qh_quinn.specs.First.{IsFirstState};
+ghost use Rattle.qh_quinn.specs.Recording.{IsUnused};
 ghost use Rattle.qh_quinn.specs.States.{IsState};
 ghost use Rattle.qh_shown.specs.Brings.{IsLogging};
-ghost use Rattle.qh_shown.specs.Connections.{IsBegun, is_wanting};
+ghost use Rattle.qh_shown.specs.Connections.{IsBegun, IsBegunLogged, is_wanting};
 
 mod acting;
 mod closing;
@@ -63,7 +64,8 @@ impl<S> StateInner<S> {
         requires whole { IsWhole connection }
         requires begun { IsBegun connection }
         requires logging { IsLogging connection }
-        ensures { IsFirstState connection stable_id now result }
+        ensures first { IsFirstState connection stable_id now result }
+        ensures unused { IsBegunLogged connection → is_wanting connection ≡ false → IsUnused result }
     {
         qh_shown::times_bring::<S>();
         connection.core.is_owed();

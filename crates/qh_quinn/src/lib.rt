@@ -8,7 +8,7 @@ mod readers;
 mod state;
 mod waiting;
 
-pub use history::Kept;
+pub use history::HistoryEntry;
 pub use inner::StateInner;
 pub use qh_book::{Call, Entry, Getter, Interest, Item, Reply, Setting};
 pub use qh_handles::{At, Told};

@@ -9,13 +9,13 @@ ghost use Rattle.qh_handles.specs.Told.{IsDrive, IsPolled};
 ghost use Rattle.qh_quinn.specs.Acting.{IsKept, IsMade, IsTelling, IsUnmade, KeepsTurns};
 ghost use Rattle.qh_quinn.specs.First.{IsFirstState};
 ghost use Rattle.qh_quinn.specs.Kept.{BeginsHistory, IsFreeAt, IsLogTaken};
-ghost use Rattle.qh_quinn.specs.Recording.{IsRecorded, IsUnused, Records};
+ghost use Rattle.qh_quinn.specs.Recording.{IsRecorded, IsUnused, Records, TellsAt};
 ghost use Rattle.qh_quinn.specs.Told.{TellsOf};
 ghost use Rattle.qh_quinn.specs.Waiting.{IsHeard, KeepsOthers};
 ghost use Rattle.qh_shown.specs.Brings.{IsLogging};
-ghost use Rattle.qh_shown.specs.Connections.{IsBegun};
+ghost use Rattle.qh_shown.specs.Connections.{IsBegun, IsBegunLogged, is_wanting};
 
-use crate::history::{History, Kept};
+use crate::history::{History, HistoryEntry};
 use crate::inner::StateInner;
 use futures::task::{Context, Poll};
 use qh_base::{Memory, Moment};
@@ -58,7 +58,7 @@ where
     S::HandshakeData: Drop,
 {
     /// A state of a connection that nobody else has, with the one handle that it counts, and its driver. The connection has begun, and may have had its first
-    /// datagram; no call of an application was made on it.
+    /// datagram; no call of an application was made on it. If its log was on from the first, the state may keep its history (`record`).
     pub fn new<X: AsyncUdpSocket>(
         alloc: Global,
         connection: Connection<S>,
@@ -71,6 +71,7 @@ where
         ensures ok { IsOk result }
         ensures first { IfOk result (λ r. IsFirstState connection stable_id now r.0.inner) }
         ensures unkept { IfOk result (λ r. r.0.history ≡ None) }
+        ensures unused { IsBegunLogged connection → is_wanting connection ≡ false → IfOk result (λ r. IsUnused r.0.inner) }
         ensures handle { IfOk result (λ r. r.1.is_given ≡ false) }
         ensures driver { IfOk result (λ r. (r.2.part.poller ≡ None) × (r.2.part.made ≡ 0) × (r.2.part.is_held ≡ false) × (r.2.part.keeps_going ≡ false)) }
     {
@@ -87,8 +88,8 @@ where
 
     /// Keeps the history from now on (own): each call and each turn with its reply, and what each turn brought. No call and no turn was made yet, and the
     /// connection's log was on since it was made. The first entry is a turn that brings what the connection holds by now. Each later call and turn takes the
-    /// memory of its entry first, and isn't made if there is none, but for the end of a handle, whose room is taken when the handle is made. Getters that tell
-    /// a value which the book doesn't have are asked twice, and either answer may stand in the entry. For want of memory nothing changes.
+    /// memory of its entry first, and isn't made if there is none, but for the end of a handle, whose room is taken when the handle is made. Of a getter that
+    /// tells a value which the book doesn't have, the entry has the value that the connection told then. For want of memory nothing changes.
     pub fn record(&mut self) -> Result<(), Memory>
         requires unkept { self.old.history ≡ None }
         requires unused { IsUnused self.old.inner }
@@ -102,7 +103,7 @@ where
     }
 
     /// The history, if it is kept.
-    pub fn history(&self) -> Option<&[Kept<Told<S::HandshakeData>>]>
+    pub fn history(&self) -> Option<&[HistoryEntry<Told<S::HandshakeData>>]>
         ensures kept { MatchOption result (self.now.history ≡ None) (λ es. self.now.history ≡ Some es.now) }
         ensures legal { IfSome self.now.history (λ es. IsRecorded self.now.inner es) }
     {
@@ -140,7 +141,7 @@ where
     pub fn act(&mut self, call: Call) -> Result<Reply<Told<S::HandshakeData>>, Memory>
         requires unpolled { IsPolled call → ⊥ }
         requires no_turn { IsDrive call → ⊥ }
-        ensures value { MatchResult result (λ r. IsMade call r self.old.inner self.new.inner × Records call r self.old.history self.new.history) (λ _. IsUnmade self.old.inner self.new.inner × (self.new.history ≡ self.old.history)) }
+        ensures value { MatchResult result (λ r. IsMade call r self.old.inner self.new.inner × Records (TellsAt S.knows S.name S.told self.old.inner call) call r self.old.history self.new.history) (λ _. IsUnmade self.old.inner self.new.inner × (self.new.history ≡ self.old.history)) }
         ensures ready { IfOk result (λ r. r ≡ reply.Pending → ⊥) }
         ensures free { IsFreeAt self.old call → IsOk result }
         ensures rest { KeepsTurns self.old.inner self.new.inner }
@@ -159,7 +160,7 @@ where
         cx: &mut Context<'_>,
     ) -> Result<Reply<Told<S::HandshakeData>>, Memory>
         requires { IsDrive call → ⊥ }
-        ensures value { MatchResult result (λ r. IsMade call r self.old.inner self.new.inner × Records call r self.old.history self.new.history) (λ _. IsUnmade self.old.inner self.new.inner × (self.new.history ≡ self.old.history)) }
+        ensures value { MatchResult result (λ r. IsMade call r self.old.inner self.new.inner × Records (TellsAt S.knows S.name S.told self.old.inner call) call r self.old.history self.new.history) (λ _. IsUnmade self.old.inner self.new.inner × (self.new.history ≡ self.old.history)) }
         ensures free { IsFreeAt self.old call → IsOk result }
         ensures rest { KeepsTurns self.old.inner self.new.inner }
         ensures tells { IsTelling call → IfOk result (λ r. TellsOf S.knows S.name S.told self.old.inner.connection self.old.inner.error call r) }
@@ -184,14 +185,14 @@ where
     ghost use Rattle.std.specs.Prelude.{List};
     ghost use Rattle.qh_quinn.specs.Acting.{IsMade, IsTelling, IsUnmade, KeepsTurns};
     ghost use Rattle.qh_quinn.specs.Kept.{IsFreeAt, TurnsKept};
-    ghost use Rattle.qh_quinn.specs.Recording.{Records};
+    ghost use Rattle.qh_quinn.specs.Recording.{Records, TellsAt};
     ghost use Rattle.qh_quinn.specs.Told.{TellsOf};
     ghost use Rattle.qh_quinn.specs.Turning.{HasSentAll, IsTurned};
     ghost use Rattle.qh_quinn.specs.Waiting.{HearsDriver};
     ghost use Rattle.futures.specs.declared.task.Poll.TheVariants as polls;
     ghost use Rattle.qh_handles.specs.declared.told.Told.{Told as AToldValue};
 
-    ghost acts = { λ s c r t. IsMade c r s.inner t.inner × Records c r s.history t.history × KeepsTurns s.inner t.inner × (IsTelling c → TellsOf S.knows S.name S.told s.inner.connection s.inner.error c r) };
+    ghost acts = { λ s c r t. IsMade c r s.inner t.inner × Records (TellsAt S.knows S.name S.told s.inner c) c r s.history t.history × KeepsTurns s.inner t.inner × (IsTelling c → TellsOf S.knows S.name S.told s.inner.connection s.inner.error c r) };
 
     ghost stays = { λ s t. IsUnmade s.inner t.inner × (t.history ≡ s.history) × KeepsTurns s.inner t.inner };
 

@@ -2,7 +2,7 @@ ghost use Rattle.std.specs.Prelude.{◌≡◌, ◌≢◌, ◌⊎◌, ℕ, ◌<�
 ghost use Rattle.futures.specs.Task.{IsArmed, Keeps, Wakes};
 ghost use Rattle.qh_book.specs.Interests.{interest_of, is_same, is_same_dir};
 ghost use Rattle.qh_book.specs.declared.interest.Interest.{Interest as AnInterest};
-ghost use Rattle.qh_quinn.specs.Waiting.{IsHeard, KeepsOthers, interests_in, is_among};
+ghost use Rattle.qh_quinn.specs.Waiting.{IsHeard, KeepsOthers, interests_in, is_among, nudged_at, nudged_if};
 
 use futures::task::{Context, Poll, Source, Waker};
 use qh_base::Dir;
@@ -73,13 +73,13 @@ pub fn register(
 
 /// The tasks are woken that wait for what the handshake tells. As far as the book goes they wait still.
 pub fn nudge_handshake(waiting: &mut Vec<Waiting>)
-    ensures { interests_in waiting.new.items ≡ interests_in waiting.old.items }
+    ensures { waiting.new.items ≡ nudged_if true waiting.old.items }
 {
     nudge_all(waiting.as_mut_slice());
 }
 
 fn nudge_all(waiting: &mut [Waiting])
-    ensures { interests_in waiting.new ≡ interests_in waiting.old }
+    ensures { waiting.new ≡ nudged_if true waiting.old }
 {
     for at in 0..waiting.len() {
         nudge(waiting, at);
@@ -89,8 +89,7 @@ fn nudge_all(waiting: &mut [Waiting])
 // The task at a place is woken, if it waits for what the handshake tells.
 fn nudge(waiting: &mut [Waiting], at: usize)
     requires { at < length waiting.old }
-    ensures same { interests_in waiting.new ≡ interests_in waiting.old }
-    ensures long { length waiting.new ≡ length waiting.old }
+    ensures { waiting.new ≡ nudged_at at waiting.old }
 {
     if let Interest::HandshakeData = waiting[at].interest {
         waiting[at].waker = None;

@@ -1,15 +1,18 @@
 -- A connection that is new, and what it went on by before it was taken up.
-use Rattle.std.proofs.Common.{◌≡◌, ℕ, true, false, List, [], ◌++◌, None, refl, sym, ap, subst, ◌∙◌}
+use Rattle.std.proofs.Common.{◌≡◌, ℕ, true, false, List, [], ◌++◌, Option, Some, None, refl, sym, ap, subst, ◌∙◌}
 use Rattle.qh_base.specs.declared.path.FourTuple.{FourTuple}
 use Rattle.qh_base.specs.declared.time.Moment.{Moment}
 use Rattle.qh_book.specs.Book.{Book, first_book}
 use Rattle.qh_book.specs.Shown.{AreFirst, DatagramBounds, ShowsDatagrams, ShowsStreams, no_note}
 use Rattle.qh_conn.specs.Greeting.{no_early, or_set}
+use Rattle.qh_conn.specs.Items.{first_limits, log_started}
 use Rattle.qh_conn.specs.Parameters.{IsFirstCore, core_config, first_control}
 use Rattle.qh_conn.specs.declared.config.ConnConfig.{ConnConfig}
 use Rattle.qh_conn.specs.declared.connection.Connection.{Connection}
 use Rattle.qh_conn.specs.declared.connection.EarlyLimits.{EarlyLimits}
+use Rattle.qh_control.specs.Items.{logged}
 use Rattle.qh_control.specs.declared.control.ControlState.{ControlState}
+use Rattle.qh_control.specs.declared.items.ConnectionItem.{ConnectionItem}
 use Rattle.qh_core.specs.declared.config.ConnConfig.{ConnConfig as CoreConfig}
 use Rattle.qh_core.specs.declared.inner.Inner.{Inner}
 use Rattle.qh_datagrams.specs.Datagrams.{PlainDatagrams}
@@ -17,9 +20,10 @@ use Rattle.qh_handshake.specs.declared.handshake.Handshake.{Handshake}
 use Rattle.qh_shown.proofs.Books.{brought_both}
 use Rattle.qh_shown.proofs.CoreSteps.{quiet_self, step_self}
 use Rattle.qh_shown.proofs.Keeping.{uncalled_on}
+use Rattle.qh_shown.proofs.Logs.{started_came, started_same, started_shows}
 use Rattle.qh_shown.proofs.Steps.{by_parts, quiet_brings}
 use Rattle.qh_shown.specs.Brings.{Brings, BringsSome}
-use Rattle.qh_shown.specs.Connections.{IsBegun, ShowsConnection, bounds_of, is_wanting_in, opening_book}
+use Rattle.qh_shown.specs.Connections.{IsBegun, IsBegunLogged, ShowsConnection, bounds_of, is_wanting_in, opening_book}
 use Rattle.qh_shown.specs.Items.{brought}
 use Rattle.qh_shown.specs.Kept.{IsUncalled}
 use Rattle.qh_shown.specs.Laws.{BookLaws}
@@ -75,6 +79,12 @@ module _ {S : Type 0} (laws : BookLaws) where
         uncalled = λ stable_id. record { readers = λ k. refl; handles = refl; interests = λ i. refl; stable_id = refl; error = refl; untouched = record { unheld = λ k waits. refl; page = λ k waits. tt } };
       }
 
+  opening_same : (old new : Connection S) (stable_id : ℕ) → new.config ≡ old.config → new.core.side ≡ old.core.side → new.core.addresses ≡ old.core.addresses → opening_book old stable_id ≡ opening_book new stable_id
+  opening_same old new stable_id config side addresses =
+      ap (λ (z : Side). first_book z old.core.addresses stable_id old.config.limits.send_window old.config.datagram_receive old.config.datagram_send) (sym side)
+      ∙ ap (λ (z : FourTuple). first_book new.core.side z stable_id old.config.limits.send_window old.config.datagram_receive old.config.datagram_send) (sym addresses)
+      ∙ ap (λ (z : ConnConfig). first_book new.core.side new.core.addresses stable_id z.limits.send_window z.datagram_receive z.datagram_send) (sym config)
+
   pub begun_on : (old new : Connection S) → IsBegun old → BringsSome old new → new.config ≡ old.config → new.core.side ≡ old.core.side → new.core.addresses ≡ old.core.addresses → IsBegun new
   begun_on old new begun some config side addresses = record {
     items = begun.items ++ some.items;
@@ -90,10 +100,31 @@ module _ {S : Type 0} (laws : BookLaws) where
   }
     where
       opening : (stable_id : ℕ) → opening_book old stable_id ≡ opening_book new stable_id
-      opening stable_id =
-          ap (λ (z : Side). first_book z old.core.addresses stable_id old.config.limits.send_window old.config.datagram_receive old.config.datagram_send) (sym side)
-          ∙ ap (λ (z : FourTuple). first_book new.core.side z stable_id old.config.limits.send_window old.config.datagram_receive old.config.datagram_send) (sym addresses)
-          ∙ ap (λ (z : ConnConfig). first_book new.core.side new.core.addresses stable_id z.limits.send_window z.datagram_receive z.datagram_send) (sym config)
+      opening stable_id = opening_same old new stable_id config side addresses
+
+  -- ---- with its log
+
+  pub new_logged : (config : ConnConfig) (side : Side) (session : S) (local_id remote_id : List ℕ) (addresses : FourTuple) (now : Moment) (c : Connection S) → IsFirstCore config side session local_id remote_id addresses now c.core
+      → c.config ≡ config → c.is_connected_due ≡ false → c.early ≡ no_early → c.handshake.peer ≡ None → c.control ≡ first_control config local_id remote_id addresses.remote c.control.queue.room → IsBegunLogged (log_started c)
+  unfolding new_begun
+  new_logged config side session local_id remote_id addresses now c first config_is due early unread control =
+      let h = new_begun config side session local_id remote_id addresses now c first config_is due early control in
+      let same = started_same c in
+      record {
+        begun = record {
+          items = [];
+          shows = λ stable_id. subst (λ (z : Book). ShowsConnection false (log_started c) (λ k. no_note) z) (opening_same c (log_started c) stable_id refl same.0 same.1) (started_shows false c (λ k. no_note) (opening_book c stable_id) (h.shows stable_id));
+          uncalled = λ stable_id. subst (λ (z : Book). IsUncalled stable_id z) (opening_same c (log_started c) stable_id refl same.0 same.1) (h.uncalled stable_id);
+        };
+        logged = started_came c.handshake.peer c.core (first_limits c.core.space.streams.peer) unread first.space.log;
+      }
+
+  pub logged_on : (old new : Connection S) → IsBegunLogged old → BringsSome old new → new.config ≡ old.config → new.core.side ≡ old.core.side → new.core.addresses ≡ old.core.addresses → IsBegunLogged new
+  unfolding begun_on
+  logged_on old new h some config side addresses = record {
+    begun = begun_on old new h.begun some config side addresses;
+    logged = some.brings.logs ∙ ap (λ (z : Option (List ConnectionItem)). logged z some.items) h.logged;
+  }
 
   pub handshake_brings : (c : Connection S) (handshake : Handshake) → handshake.peer ≡ c.handshake.peer → Brings [] c (record c { handshake = handshake })
   handshake_brings c handshake peer = let to : Connection S = record c { handshake = handshake } in quiet_brings laws c to (by_parts c to (step_self c.core) refl refl peer refl refl) (quiet_self c.core) refl

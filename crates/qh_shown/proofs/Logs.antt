@@ -8,7 +8,7 @@ use Rattle.qh_conn.proofs.LogKept.{Log, logged_on}
 use Rattle.qh_conn.specs.Greeting.{or_set}
 use Rattle.qh_conn.specs.Items.{items_taken, log_started, loss, loss_noted, streams_taken}
 use Rattle.qh_conn.specs.declared.connection.Connection.{Connection}
-use Rattle.qh_control.specs.Items.{streamed}
+use Rattle.qh_control.specs.Items.{logged, streamed}
 use Rattle.qh_control.specs.declared.items.ConnectionItem.{ConnectionItem}
 use Rattle.qh_core.specs.Event.{is_drained}
 use Rattle.qh_core.specs.Inner.{is_open, with_space}
@@ -70,6 +70,15 @@ module _ {S : Type 0} where
 
   pub started_shows : (was_told : Bool) (c : Connection S) (notes : ℕ → Note) (b : Book) → ShowsConnection was_told c notes b → ShowsConnection was_told (log_started c) notes b
   started_shows was_told c notes b shown = log_shows was_told c _ _ c.is_lost_logged notes b (started_core (is_some c.handshake.peer) c.core) (λ unread off. started_off c.handshake.peer c.core unread off) shown
+
+  -- an end that wasn't greeted has an empty log then
+  pub started_came : (peer : Option TransportParameters) (core : Inner S) (limits : List ConnectionItem) → peer ≡ None → core.space.log ≡ None
+      → logged (Some (if is_some peer then limits else [])) (streamed (if is_some peer then with_space core (record core.space { log = Some [] }) else core).space.log) ≡ Some []
+  started_came None core limits unread off = ap (λ (z : Option (List Item)). logged (Some []) (streamed z)) off
+  started_came (Some p) core limits unread off = absurd (none-some p (sym unread))
+
+  pub started_same : (c : Connection S) → (log_started c).core.side ≡ c.core.side × (log_started c).core.addresses ≡ c.core.addresses
+  started_same c = let t = started_core (is_some c.handshake.peer) c.core in (t.side, t.addresses)
 
   -- ---- the log of the streams stays on
 

@@ -7,6 +7,7 @@ use Rattle.qh_book.specs.Items.{is_memory}
 use Rattle.qh_book.specs.Pages.{RecvPage, is_given, is_open, unread_at}
 use Rattle.qh_book.specs.Shown.{AreFirst, DatagramBounds, IsShut, Note, ShowsDatagrams, ShowsStreams, no_note}
 use Rattle.qh_conn.specs.Greeting.{or_set}
+use Rattle.qh_conn.specs.Items.{came}
 use Rattle.qh_conn.specs.declared.connection.Connection.{Connection}
 use Rattle.qh_control.specs.declared.control.ControlState.{ControlState}
 use Rattle.qh_control.specs.declared.items.ConnectionItem.{ConnectionItem}
@@ -98,3 +99,8 @@ module _ {S : Type 0} where
     pub items : List ConnectionItem
     pub shows : (stable_id : ℕ) → ShowsConnection false c (λ k. no_note) (brought items (opening_book c stable_id))
     pub uncalled : (stable_id : ℕ) → IsUncalled stable_id (brought items (opening_book c stable_id))
+
+  -- its log was on from the first, and nothing was taken out of it
+  pub record IsBegunLogged (c : Connection S) : Type 0 where
+    pub begun : IsBegun c
+    pub logged : came c ≡ Some begun.items

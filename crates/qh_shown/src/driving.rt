@@ -30,16 +30,20 @@ ghost use Rattle.qh_handshake.specs.Incoming.{SessionView};
 ghost use Rattle.qh_handshake.specs.declared.handshake.Handshake.{Handshake as AHandshake};
 ghost use Rattle.qh_packet.specs.Session.{SealsTag};
 ghost use Rattle.qh_shown.specs.Brings.{Brings, BringsSome, EndsWanting, IsLogging, TellsOf};
-ghost use Rattle.qh_shown.specs.Connections.{IsBegun, ShowsConnection};
+ghost use Rattle.qh_shown.specs.Connections.{IsBegun, IsBegunLogged, ShowsConnection};
 ghost use Rattle.qh_spec.specs.declared.sides.Side.{Side as ASide};
 
 use crate::known::books_show;
 
-/// A connection that is new has begun (`new`), and one has that went on from it by events and settings of its handshake (`brings`, `handshake`).
+/// A connection that is new has begun (`new`), and one has that went on from it by events and settings of its handshake (`brings`, `handshake`). If its log was
+/// started then (`started`), the log has what it went on by (`logged`).
 pub fn begun_shown<S>()
     ensures new { (config : AConfig) (side : ASide) (session : S) (local_id remote_id : List ℕ) (addresses : APath) (now : AMoment) (c : AConnection S) → IsFirstCore config side session local_id remote_id addresses now c.core
         → c.config ≡ config → c.is_connected ≡ false → c.is_connected_due ≡ false → c.early ≡ no_early → c.handshake.peer ≡ None → c.control ≡ first_control config local_id remote_id addresses.remote c.control.queue.room → IsBegun c }
     ensures brings { (old new : AConnection S) → IsBegun old → BringsSome old new → new.config ≡ old.config → new.core.side ≡ old.core.side → new.core.addresses ≡ old.core.addresses → IsBegun new }
+    ensures started { (config : AConfig) (side : ASide) (session : S) (local_id remote_id : List ℕ) (addresses : APath) (now : AMoment) (c : AConnection S) → IsFirstCore config side session local_id remote_id addresses now c.core
+        → c.config ≡ config → c.is_connected ≡ false → c.is_connected_due ≡ false → c.early ≡ no_early → c.handshake.peer ≡ None → c.control ≡ first_control config local_id remote_id addresses.remote c.control.queue.room → IsBegunLogged (log_started c) }
+    ensures logged { (old new : AConnection S) → IsBegunLogged old → BringsSome old new → new.config ≡ old.config → new.core.side ≡ old.core.side → new.core.addresses ≡ old.core.addresses → IsBegunLogged new }
     ensures handshake { (c : AConnection S) (handshake : AHandshake) → handshake.peer ≡ c.handshake.peer → Brings [] c (record c { handshake = handshake }) }
 {
     books_show();

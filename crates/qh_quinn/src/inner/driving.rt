@@ -13,7 +13,7 @@ ghost use Rattle.qh_quinn.specs.States.{IsState};
 ghost use Rattle.qh_quinn.specs.declared.inner.StateInner.{StateInner as AState};
 ghost use Rattle.qh_quinn.specs.Turning.{HasMadeNone, HasSameCalls, HasSentAll, IsAdvanced, IsBroughtBy, IsCounted, IsEnded, IsErrorKept, IsHeeded, IsInOrder, IsShown, IsTakenUp, IsTurned};
 ghost use Rattle.qh_quinn.specs.Telling.{AreTold};
-ghost use Rattle.qh_quinn.specs.Waiting.{HearsDriver};
+ghost use Rattle.qh_quinn.specs.Waiting.{HearsDriver, nudged_if};
 ghost use Rattle.qh_runtime.specs.Socket.{IsNeither, has_failed};
 ghost use Rattle.qh_runtime.specs.declared.runtime.IoFault.TheVariants as faults;
 ghost use Rattle.qh_runtime.specs.declared.runtime.OutMessage.{OutMessage as AnOutMessage};
@@ -127,6 +127,7 @@ impl<S: Session> StateInner<S> {
         ensures heeded { IsHeeded now (has_failed result) self.old.is_connected self.old.connection self.new }
         ensures error { has_failed result ≡ false → (first : AState S) → first.error ≡ self.old.error → was_emptied ≡ is_wanting first.connection → IsErrorKept first self.new }
         ensures stands { StandsStill self.old.connection self.new.connection }
+        ensures woken { self.new.waiting.items ≡ nudged_if self.old.connection.is_data_due self.old.waiting.items }
         ensures rest { self.new ≡ record self.old { connection = self.new.connection; is_connected = self.new.is_connected; error = self.new.error; waiting = self.new.waiting; outgoing = self.new.outgoing } }
     {
         qh_shown::times_bring::<S>();
@@ -158,6 +159,7 @@ impl<S: Session> StateInner<S> {
         ensures faulted { sent ≡ Err faults.Failed → is_drained self.old.connection.core.state ≡ false → (e : ATransportError) × IsFaulted now e self.old.connection.core self.new.connection.core × (e.code.0 ≡ codes.internal_error) }
         ensures brings { sent ≡ Err faults.Failed → is_drained self.old.connection.core.state ≡ false → Brings [] self.old.connection self.new.connection }
         ensures stands { StandsStill self.old.connection self.new.connection }
+        ensures same { (self.new.waiting ≡ self.old.waiting) × (self.new.connection.is_data_due ≡ self.old.connection.is_data_due) }
         ensures whole { IsWhole self.new.connection }
     {
         qh_shown::closes_shown::<S>();

@@ -16,9 +16,9 @@ ghost use Rattle.qh_handles.specs.declared.told.Told.{Told as AToldValue};
 ghost use Rattle.qh_quinn.specs.Acting.{IsMade, IsTelling, IsUnmade, KeepsTurns};
 ghost use Rattle.qh_quinn.specs.Kept.{HasHistory, IsLogTaken, IsTurnKeptIn};
 ghost use Rattle.qh_quinn.specs.Losses.{is_newly_lost, lost_items, new_loss};
-ghost use Rattle.qh_quinn.specs.Recording.{EndsOne, HasTold, IsLonger, IsUnused, items_kept, payload_of};
+ghost use Rattle.qh_quinn.specs.Recording.{EndsOne, HasTold, IsLonger, IsUnused, TellsAt, again, items_kept, payload_of};
 ghost use Rattle.qh_quinn.specs.States.{IsState};
-ghost use Rattle.qh_quinn.specs.Told.{TellsOf};
+ghost use Rattle.qh_quinn.specs.Told.{IsValue, TellsOf};
 ghost use Rattle.qh_quinn.specs.Turning.{HasSentAll};
 ghost use Rattle.qh_quinn.specs.Waiting.{HearsDriver, IsHeard, KeepsOthers};
 ghost use Rattle.qh_quinn.specs.declared.inner.StateInner.{StateInner as AState};
@@ -59,7 +59,7 @@ where
         requires kept { HasHistory self.old (Some history.old) }
         requires unpolled { IsPolled call → ⊥ }
         requires no_turn { IsDrive call → ⊥ }
-        ensures value { MatchResult result (λ r. IsMade call r self.old self.new × IsLonger call r history.old.entries.items history.new.entries.items) (λ _. IsUnmade self.old self.new × (history.new.entries.items ≡ history.old.entries.items)) }
+        ensures value { MatchResult result (λ r. IsMade call r self.old self.new × IsLonger (TellsAt S.knows S.name S.told self.old call) call r history.old.entries.items history.new.entries.items) (λ _. IsUnmade self.old self.new × (history.new.entries.items ≡ history.old.entries.items)) }
         ensures state { IsState self.new }
         ensures kept { HasHistory self.new (Some history.new) }
         ensures ready { IfOk result (λ r. r ≡ replies.Pending → ⊥) }
@@ -84,7 +84,7 @@ where
         requires state { IsState self.old }
         requires kept { HasHistory self.old (Some history.old) }
         requires no_turn { IsDrive call → ⊥ }
-        ensures value { MatchResult result (λ r. IsMade call r self.old self.new × IsLonger call r history.old.entries.items history.new.entries.items) (λ _. IsUnmade self.old self.new × (history.new.entries.items ≡ history.old.entries.items)) }
+        ensures value { MatchResult result (λ r. IsMade call r self.old self.new × IsLonger (TellsAt S.knows S.name S.told self.old call) call r history.old.entries.items history.new.entries.items) (λ _. IsUnmade self.old self.new × (history.new.entries.items ≡ history.old.entries.items)) }
         ensures state { IsState self.new }
         ensures kept { HasHistory self.new (Some history.new) }
         ensures free { EndsOne self.old call → IsOk result }
@@ -206,7 +206,8 @@ where
 
     // A value that the call is told and that the book doesn't have, if it is told one.
     pub(crate) fn told(&self, call: &Call) -> Option<Told<S::HandshakeData>>
-        ensures { (r : AReply (AToldValue S.HandshakeData)) → MayReply call.now r → HasTold r result }
+        ensures has { (r : AReply (AToldValue S.HandshakeData)) → MayReply call.now r → HasTold r result }
+        ensures again { (r : AReply (AToldValue S.HandshakeData)) → TellsAt S.knows S.name S.told self.now call.now r → TellsAt S.knows S.name S.told self.now call.now (again r result) }
     {
         match call {
             Call::HandshakeData => self.told_by(Getter::HandshakeData),
@@ -216,7 +217,8 @@ where
     }
 
     fn told_by(&self, getter: Getter) -> Option<Told<S::HandshakeData>>
-        ensures { (value : AToldValue S.HandshakeData) → is_of_getter getter value ≡ true → is_some result ≡ true }
+        ensures some { (value : AToldValue S.HandshakeData) → is_of_getter getter value ≡ true → is_some result ≡ true }
+        ensures is { IfSome result (λ value. (is_of_getter getter value ≡ true) × IsValue S.knows S.name S.told self.now.connection getter value) }
     {
         let connection = &self.connection;
         Some(match getter {

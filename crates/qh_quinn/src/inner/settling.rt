@@ -1,11 +1,10 @@
-ghost use Rattle.std.specs.Prelude.{◌≡◌, ◌&&◌, None};
+ghost use Rattle.std.specs.Prelude.{◌≡◌, None};
+ghost use Rattle.std.specs.List.{filter};
 ghost use Rattle.qh_book.specs.Book.{Book};
 ghost use Rattle.qh_book.specs.Interests.{is_within, settled, waits, waits_open};
-ghost use Rattle.qh_book.specs.declared.interest.Interest.{Interest as AnInterest};
 ghost use Rattle.qh_book.specs.declared.interest.Interest.TheVariants as interests;
 ghost use Rattle.qh_quinn.specs.Acting.{IsChanged};
 ghost use Rattle.qh_quinn.specs.States.{IsState, Shows};
-ghost use Rattle.qh_quinn.specs.Waiting.{is_among};
 
 use super::StateInner;
 use crate::waiting::Waiting;
@@ -150,8 +149,10 @@ impl<S> StateInner<S> {
     pub(crate) fn wake_answered(&mut self)
         requires { IsState self.old }
         ensures settled { IsChanged settled self.old self.new }
+        ensures woken { (b : Book) → Shows self.old b → self.new.waiting.items ≡ filter (λ w. waits b w.interest) self.old.waiting.items }
         ensures rest { self.new ≡ record self.old { waiting = self.new.waiting } }
     {
+        interests_are_a_set();
         let none = Vec::new(self.alloc);
         let mut waiting = mem::replace(&mut self.waiting, none);
         self.keep_waiting(&mut waiting);
@@ -161,9 +162,8 @@ impl<S> StateInner<S> {
     // Those of the calls stay that wait still. The others are woken as they are dropped.
     fn keep_waiting(&self, waiting: &mut Vec<Waiting>)
         requires { IsState self.now }
-        ensures { (b : Book) → Shows self.now b → (i : AnInterest) → is_among i waiting.new.items ≡ (is_among i waiting.old.items && waits b i) }
+        ensures { (b : Book) → Shows self.now b → waiting.new.items ≡ filter (λ w. waits b w.interest) waiting.old.items }
     {
-        interests_are_a_set();
         waiting.retain(|w| self.waits(w.interest));
     }
 }

@@ -1,4 +1,7 @@
+use Rattle.std.proofs.Common.{ap, ◌∙◌, Bool}
 use Rattle.qh_quinn.proofs.TakenUp.{error_kept, failed_out, heeded_on, stands_on, taken_up}
+use Rattle.qh_quinn.specs.Waiting.{nudged_if}
+use Rattle.qh_quinn.specs.declared.inner.StateInner.{StateInner}
 use Rattle.qh_quinn.proofs.inner.StateInner.take_up.Goals as goal
 
 pub returns-clause-taken : goal.returns-clause-taken
@@ -44,3 +47,9 @@ returns-clause-error g c =
 
 pub returns-clause-stands : goal.returns-clause-stands
 returns-clause-stands g c = stands_on c.args.self.now c.heed-done.new.self c.forward_app_events.new.self c.keep_loss.new.self c.heed-done.ensures.stands c.forward_app_events.ensures.told c.keep_loss.ensures.rest
+
+pub returns-clause-woken : goal.returns-clause-woken
+returns-clause-woken g c =
+    let h = c.heed-done.new.self in
+    let same = c.heed-done.ensures.same in
+    ap (λ (z : StateInner _). z.waiting.items) c.keep_loss.ensures.rest ∙ c.forward_app_events.ensures.woken ∙ ap (λ (d : Bool). nudged_if d h.waiting.items) same.1 ∙ ap (λ (v : _). nudged_if c.args.self.now.connection.is_data_due v.items) same.0

@@ -5,7 +5,7 @@ use Rattle.qh_handles.specs.Turns.{IsFull}
 use Rattle.qh_handles.specs.declared.told.Told.{Told as AToldValue}
 use Rattle.qh_handshake.specs.Incoming.{SessionView}
 use Rattle.qh_quinn.proofs.Heard.{hears_still}
-use Rattle.qh_quinn.proofs.Turns.{ends_fault, ends_rest, goes_on_sent, sends_all, turned}
+use Rattle.qh_quinn.proofs.Turns.{ends_fault, ends_rest, goes_on_sent, sends_all, turned, woken_on}
 use Rattle.qh_quinn.proofs.inner.StateInner.turn.Goals as goal
 
 pub wake_answered-requires : goal.wake_answered-requires
@@ -32,7 +32,8 @@ returns-in-Err-clause-turned g c =
             left = refl;
           })
           (ends_fault c.in-Err.fault (Err c.in-Err.fault) (is_drained w.connection.core.state) refl)
-          h.heeded (λ calm same. h.error calm c.args.self.now same c.is_emptied-was_emptied.ensures),
+          h.heeded (λ calm same. h.error calm c.args.self.now same c.is_emptied-was_emptied.ensures)
+          (woken_on c.advance-sent.new.self c.take_up-done.new.self w w (h.taken c.args.self.now c.requires a.1.same a.1.brings a.1.ended c.is_emptied-was_emptied.ensures).state h.woken c.wake_answered.ensures.woken refl),
       a.2,
       λ ready is. cc,
     )
@@ -57,7 +58,8 @@ returns-in-Ok-clause-turned g c =
             left = r.same;
           })
           (ends_rest c.rest.result (Ok tt) (is_drained w.connection.core.state) refl (λ e. (r.drained e).0) (λ e. (r.waits e).0))
-          h.heeded (λ calm same. h.error calm c.args.self.now same c.is_emptied-was_emptied.ensures),
+          h.heeded (λ calm same. h.error calm c.args.self.now same c.is_emptied-was_emptied.ensures)
+          (woken_on c.advance-sent.new.self c.take_up-done.new.self w c.rest.new.self (h.taken c.args.self.now c.requires a.1.same a.1.brings a.1.ended c.is_emptied-was_emptied.ensures).state h.woken c.wake_answered.ensures.woken r.same),
       a.2,
       λ ready is.
           goes_on_sent c.advance-sent.result (Ok tt) c.rest.result c.args.self.now c.advance-sent.new.self c.take_up-done.new.self w c.rest.new.self (IsFull c.advance-sent.new.part.keeps_going a.0)
