@@ -1,0 +1,5 @@
+pub mod Found
+pub mod Moving
+pub mod Payload
+pub mod Pieces
+pub mod Skipping

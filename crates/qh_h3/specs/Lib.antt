@@ -1,0 +1,9 @@
+pub mod Buffers
+pub mod Connections
+pub mod Counts
+pub mod Faults
+pub mod Finding
+pub mod Framed
+pub mod Frames
+pub mod Polled
+pub mod Streams
