@@ -1,9 +1,14 @@
 pub mod Buffers
 pub mod Connections
 pub mod Counts
+pub mod Errors
 pub mod Faults
 pub mod Finding
+pub mod Flag
 pub mod Framed
 pub mod Frames
+pub mod Front
+pub mod Known
 pub mod Polled
+pub mod Seats
 pub mod Streams

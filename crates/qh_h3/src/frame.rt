@@ -18,6 +18,7 @@ use std::marker::Model;
 mod buffer;
 mod error;
 mod find;
+mod front;
 mod poll;
 
 pub use error::FrameStreamError;
@@ -101,6 +102,33 @@ impl<R: RecvStream> FrameStream<R> {
             at,
             alloc,
             false,
+            &mut budget,
+            cx,
+        )
+    }
+
+    /// The next frame, as `poll_next` gives it, for the reader of a body, which passes over DATA frames without a byte. So a DATA frame that it gives has a
+    /// byte, and the end of the body is none of them (RFC 9114, section 4.1).
+    pub fn poll_body(
+        &mut self,
+        at: &mut R::At,
+        alloc: Global,
+        cx: &mut Context<'_>,
+    ) -> Poll<Result<Option<Frame>, FrameStreamError>>
+        requires { self.old.held.left ≡ 0 }
+        ensures next { (spared : ℕ) × IsNext true result 65536 spared (R.received self.old.stream at.old) (R.received self.new.stream at.new) (R.counts self.old.stream at.old) (R.counts self.new.stream at.new) self.old.held self.new.held }
+        ensures sent { R.sent self.new.stream at.new ≡ R.sent self.old.stream at.old }
+        ensures id { R.id self.new.stream ≡ R.id self.old.stream }
+        ensures armed { OnPending result (IsArmed cx.new) }
+        ensures kept { Keeps cx.old cx.new }
+    {
+        let mut budget = PIECES;
+        poll_frame(
+            &mut self.stream,
+            &mut self.buffer,
+            at,
+            alloc,
+            true,
             &mut budget,
             cx,
         )

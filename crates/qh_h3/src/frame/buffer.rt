@@ -4,6 +4,7 @@ ghost use Rattle.qh_h3.specs.declared.frame.error.FrameStreamError.TheVariants.{
 
 use crate::FrameStreamError;
 use crate::frame::find::{find, payload_left};
+use crate::frame::front::Front;
 use bytes::Bytes;
 use qh_h3wire::Frame;
 use std::alloc::{AllocError, Global};
@@ -12,8 +13,8 @@ use std::mem;
 // What was taken of a stream and not handed out.
 #[derive(Drop)]
 pub(crate) struct Buffer {
-    pub(crate) front: Bytes,
-    // A piece that came behind it. They are joined when a frame is looked for, so that no piece is lost for want of memory.
+    pub(crate) front: Front,
+    // A piece that came behind it. It is joined to the front when a frame is looked for, so that no piece is lost for want of memory.
     pub(crate) more: Bytes,
     // How much payload of the DATA frame at hand is to come.
     pub(crate) left: u64,
@@ -21,23 +22,12 @@ pub(crate) struct Buffer {
     pub(crate) is_ended: bool,
 }
 
-fn joined(alloc: Global, front: &Bytes, back: &Bytes) -> Result<Bytes, AllocError>
-    ensures { IfOk result (λ all. all ≡ front.now ++ back.now) }
-{
-    let mut all = Vec::from_slice(alloc, front)?;
-    all.extend_from_slice(back)?;
-    match Bytes::from_vec(all) {
-        Ok(all) => Ok(all),
-        Err(_) => Err(AllocError),
-    }
-}
-
 impl Buffer {
     pub(crate) fn new() -> Buffer
         ensures { result ≡ record { front = []; more = []; left = 0; is_ended = false } }
     {
         Buffer {
-            front: Bytes::new(),
+            front: Front::new(),
             more: Bytes::new(),
             left: 0,
             is_ended: false,
@@ -68,14 +58,11 @@ impl Buffer {
         ensures same { held_of self.new ≡ held_of self.old }
         ensures one { OnOk result (self.new.more ≡ []) }
     {
+        self.lift();
         if self.more.is_empty() {
             return Ok(());
         }
-        if self.front.is_empty() {
-            mem::swap(&mut self.front, &mut self.more);
-            return Ok(());
-        }
-        self.front = joined(alloc, &self.front, &self.more)?;
+        self.front.append(alloc, &self.more)?;
         self.more = Bytes::new();
         Ok(())
     }
@@ -104,7 +91,7 @@ impl Buffer {
         ensures front { self.new.front ≡ [] → self.new.more ≡ [] }
     {
         if self.front.is_empty() {
-            mem::swap(&mut self.front, &mut self.more);
+            self.front = Front::of(mem::replace(&mut self.more, Bytes::new()));
         }
     }
 

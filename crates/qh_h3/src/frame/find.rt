@@ -3,7 +3,7 @@ ghost use Rattle.qh_h3.specs.Finding.{IsFound, IsStep, is_passed, is_short as sh
 ghost use Rattle.qh_h3.specs.declared.frame.find.Step.TheVariants as steps;
 
 use crate::FrameStreamError;
-use bytes::Bytes;
+use crate::frame::front::Front;
 use qh_h3wire::{Frame, FrameError};
 use std::alloc::Global;
 
@@ -41,7 +41,7 @@ pub(crate) fn payload_left(frame: &Frame) -> u64
 }
 
 // Reads the frame in front, and uses it up unless it is refused.
-fn next_step(alloc: Global, held: &mut Bytes, of_body: bool) -> Step
+fn next_step(alloc: Global, held: &mut Front, of_body: bool) -> Step
     ensures step { IsStep of_body result held.old held.new }
     ensures shorter { result ≡ steps.Skipped → length held.new < length held.old }
 {
@@ -85,7 +85,7 @@ fn is_short(error: &FrameError) -> bool
 // Finds the next frame that isn't skipped, and uses it up with those before it. None if it isn't whole yet. A frame that is refused stays.
 pub(crate) fn find(
     alloc: Global,
-    held: &mut Bytes,
+    held: &mut Front,
     of_body: bool,
 ) -> Result<Option<Frame>, FrameStreamError>
     ensures { IsFound of_body result held.old held.new }

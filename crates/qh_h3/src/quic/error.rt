@@ -1,3 +1,5 @@
+ghost use Rattle.std.specs.Prelude.{◌≡◌};
+
 use qh_base::Reason;
 use thiserror::Error;
 
@@ -27,6 +29,27 @@ pub enum ConnectionErrorIncoming {
     /// The allocator had no memory. The connection isn't lost by it.
     #[error("out of memory")]
     Memory,
+}
+
+impl ConnectionErrorIncoming {
+    /// The same error again. It takes no memory.
+    pub fn copied(&self) -> ConnectionErrorIncoming
+        ensures { result ≡ self.now }
+    {
+        match self {
+            ConnectionErrorIncoming::ApplicationClose { error_code } => {
+                ConnectionErrorIncoming::ApplicationClose {
+                    error_code: *error_code,
+                }
+            }
+            ConnectionErrorIncoming::Timeout => ConnectionErrorIncoming::Timeout,
+            ConnectionErrorIncoming::InternalError(reason) => {
+                ConnectionErrorIncoming::InternalError(reason.copied())
+            }
+            ConnectionErrorIncoming::Undefined(fault) => ConnectionErrorIncoming::Undefined(*fault),
+            ConnectionErrorIncoming::Memory => ConnectionErrorIncoming::Memory,
+        }
+    }
 }
 
 /// Why a call on a stream failed, as the QUIC implementation tells it.
