@@ -17,7 +17,7 @@ use Rattle.qh_control.specs.declared.items.LogEntry.{LogEntry}
 use Rattle.qh_handles.specs.declared.told.Told.{Told}
 use Rattle.qh_quinn.specs.Acting.{IsTelling}
 use Rattle.qh_quinn.specs.Losses.{lost_items}
-use Rattle.qh_quinn.specs.Readers.{reader_in}
+use Rattle.qh_quinn.specs.Readers.{PlainReaders, reader_in}
 use Rattle.qh_quinn.specs.States.{Shows}
 use Rattle.qh_quinn.specs.Told.{TellsOf}
 use Rattle.qh_quinn.specs.declared.inner.StateInner.{StateInner}
@@ -96,6 +96,13 @@ module _ {S D : Type 0} (knows : S → Bool) (name : S → List ℕ) (name_in : 
   abbrev pub TellsAt : StateInner S → Call → Reply (Told D) → Type 0
   TellsAt s c r = IsTelling c → TellsOf knows name name_in s.connection s.error c r
 
+-- the call ends one of so many handles, of which these hold receiving halves
+abbrev pub EndsOneOf : (handles : ℕ) → PlainReaders → Call → Type 0
+EndsOneOf handles readers (call.EndSend id) = 0 < handles
+EndsOneOf handles readers (call.EndRecv id) = (0 < handles) × (is_some (reader_in readers id.0) ≡ true)
+EndsOneOf handles readers call.EndHandle = 0 < handles
+EndsOneOf handles readers other = ⊥
+
 module _ {S T : Type 0} where
   -- The history is legal, its last book shows the state, and each item that the connection logged is in it.
   pub record IsRecorded (inner : StateInner S) (history : List (PlainEntry T)) : Type 0 where
@@ -116,7 +123,4 @@ module _ {S : Type 0} where
 
   -- the call ends a handle that is there
   abbrev pub EndsOne : StateInner S → Call → Type 0
-  EndsOne s (call.EndSend id) = 0 < s.handles
-  EndsOne s (call.EndRecv id) = (0 < s.handles) × (is_some (reader_in s.readers id.0) ≡ true)
-  EndsOne s call.EndHandle = 0 < s.handles
-  EndsOne s other = ⊥
+  EndsOne s c = EndsOneOf s.handles s.readers c

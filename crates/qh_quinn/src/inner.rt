@@ -1,7 +1,7 @@
 ghost use Rattle.std.specs.Prelude.{◌≡◌, ◌++◌, ◌∷◌, [], false, None, OnErr, OnOk};
 ghost use Rattle.qh_conn.specs.Telling.{IsEndpointTold};
 ghost use Rattle.qh_conn.specs.Whole.{IsWhole};
-ghost use Rattle.qh_quinn.specs.Acting.{IsChanged};
+ghost use Rattle.qh_quinn.specs.Acting.{IsChanged, lost_or_pending};
 ghost use Rattle.qh_quinn.specs.First.{IsFirstState};
 ghost use Rattle.qh_quinn.specs.Recording.{IsUnused};
 ghost use Rattle.qh_quinn.specs.States.{IsState};
@@ -25,6 +25,7 @@ use crate::readers::Readers;
 use crate::waiting::Waiting;
 use futures::task::{Source, Waker};
 use qh_base::{ConnectionError, Memory, Moment, Transmit};
+use qh_book::Reply;
 use qh_conn::{Connection, ConnectionEvent, EndpointEvent};
 use std::alloc::Global;
 use std::collections::VecDeque;
@@ -129,14 +130,24 @@ impl<S> StateInner<S> {
             Some(ConnectionError::Memory)
         )
     }
+}
 
-    // The error that is kept, again.
-    pub(crate) fn kept_error(&self) -> Option<ConnectionError>
-        ensures { result ≡ self.now.error }
-    {
-        match &self.error {
-            Some(error) => Some(error.copied()),
-            None => None,
-        }
+// The error that is kept, again.
+pub(crate) fn kept_error(error: &Option<ConnectionError>) -> Option<ConnectionError>
+    ensures { result ≡ error.now }
+{
+    match error {
+        Some(error) => Some(error.copied()),
+        None => None,
+    }
+}
+
+// The kept error; if there is none the call waits.
+pub(crate) fn closed_or_waits<T>(error: &Option<ConnectionError>) -> Reply<T>
+    ensures { result ≡ lost_or_pending error.now }
+{
+    match error {
+        Some(error) => Reply::ConnectionLost(error.copied()),
+        None => Reply::Pending,
     }
 }

@@ -4,7 +4,7 @@ ghost use Rattle.qh_book.specs.Pages.{SendPage, live_send};
 ghost use Rattle.qh_book.specs.Receiving.{with_recv_ended, without_reader};
 ghost use Rattle.qh_book.specs.Sending.{with_send_ended};
 ghost use Rattle.qh_book.specs.declared.call.Call.TheVariants as call;
-ghost use Rattle.qh_quinn.specs.Acting.{Answers, IsAnswered, IsChanged, KeepsTurns, lost_or_pending, recv_handle_ended};
+ghost use Rattle.qh_quinn.specs.Acting.{Answers, IsAnswered, IsChanged, KeepsTurns, recv_handle_ended};
 ghost use Rattle.qh_quinn.specs.Calls.{CallsOf, IsCallOf, WakesIfChanged, recv_handle_acts, send_handle_acts};
 ghost use Rattle.qh_conn.specs.Whole.{CarriesOn};
 ghost use Rattle.qh_book.specs.declared.reply.Reply.TheVariants as reply;
@@ -12,7 +12,7 @@ ghost use Rattle.qh_quinn.specs.Readers.{reader_in};
 ghost use Rattle.qh_quinn.specs.States.{IsState, Shows};
 ghost use Rattle.qh_quinn.specs.Streaming.{EndsReading, EndsSending, is_stopped_by_end};
 
-use super::StateInner;
+use super::{StateInner, closed_or_waits, kept_error};
 use crate::readers::Reader;
 use qh_base::{ConnectionError, Memory, Moment, Reason, StreamId, VarInt};
 use qh_book::Reply;
@@ -23,7 +23,7 @@ impl<S> StateInner<S> {
         requires { IsState self.now }
         ensures { IsAnswered call.CloseReason result self.now self.now }
     {
-        match self.kept_error() {
+        match kept_error(&self.error) {
             Some(error) => Reply::ConnectionLost(error),
             None => Reply::Done,
         }
@@ -34,17 +34,7 @@ impl<S> StateInner<S> {
         requires { IsState self.now }
         ensures { IsAnswered call.Closed result self.now self.now }
     {
-        self.closed_or_waits()
-    }
-
-    // The kept error; if there is none the call waits.
-    pub(crate) fn closed_or_waits<T>(&self) -> Reply<T>
-        ensures { result ≡ lost_or_pending self.now.error }
-    {
-        match self.kept_error() {
-            Some(error) => Reply::ConnectionLost(error),
-            None => Reply::Pending,
-        }
+        closed_or_waits(&self.error)
     }
 
     // Closes, with a code and a reason of the application's; the moment counts from the driver's last turn at the earliest. No call waits any more.
@@ -86,16 +76,9 @@ impl<S> StateInner<S> {
         ensures rest { KeepsTurns self.old self.new }
     {
         self.handles = self.handles.saturating_sub(1);
-        if self.is_last() {
+        if is_last(self.handles, &self.error) {
             self.close(self.last_turn, VarInt::from_u32(0), Reason::of(&[]));
         }
-    }
-
-    // Whether no handle is left of a connection that isn't lost.
-    fn is_last(&self) -> bool
-        ensures { result ≡ (self.now.handles == 0 && not (is_some self.now.error)) }
-    {
-        self.handles == 0 && self.error.is_none()
     }
 
     // A `SendStream` ends: the stream is finished, or reset with the peer's code if the peer asked to stop it. Once an error is kept nothing of it changes.
@@ -172,16 +155,9 @@ impl<S> StateInner<S> {
         ensures rest { KeepsTurns self.old self.new }
     {
         qh_book::ends_shown::<u8>();
-        if self.is_stopped_by_end(&reader) {
+        if is_stopped_by_end(&self.error, &reader) {
             self.stop_open::<u8>(id, reader, VarInt::from_u32(0));
         }
-    }
-
-    // Whether the end of its handle stops a half: one that is read and gave no error, of a connection that isn't lost.
-    fn is_stopped_by_end(&self, reader: &Reader) -> bool
-        ensures { result ≡ is_stopped_by_end self.now.error reader.now }
-    {
-        self.error.is_none() && reader.is_open && !reader.gave_error
     }
 
     // No handle holds the half any more.
@@ -192,4 +168,18 @@ impl<S> StateInner<S> {
     {
         self.readers.release(id.0);
     }
+}
+
+// Whether no handle is left of a connection that isn't lost.
+fn is_last(handles: u64, error: &Option<ConnectionError>) -> bool
+    ensures { result ≡ (handles == 0 && not (is_some error.now)) }
+{
+    handles == 0 && error.is_none()
+}
+
+// Whether the end of its handle stops a half: one that is read and gave no error, of a connection that isn't lost.
+fn is_stopped_by_end(error: &Option<ConnectionError>, reader: &Reader) -> bool
+    ensures { result ≡ is_stopped_by_end error.now reader.now }
+{
+    error.is_none() && reader.is_open && !reader.gave_error
 }

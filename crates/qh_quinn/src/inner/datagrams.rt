@@ -4,7 +4,7 @@ ghost use Rattle.qh_quinn.specs.Acting.{Answers, IsAnswered, KeepsTurns};
 ghost use Rattle.qh_quinn.specs.Calls.{CallsOf, IsCallOf};
 ghost use Rattle.qh_quinn.specs.States.{IsState};
 
-use super::StateInner;
+use super::{StateInner, closed_or_waits, kept_error};
 use bytes::Bytes;
 use qh_base::Memory;
 use qh_book::Reply;
@@ -21,11 +21,11 @@ impl<S> StateInner<S> {
     {
         qh_book::datagrams_shown::<T>();
         if self.is_emptied() {
-            return self.closed_or_waits();
+            return closed_or_waits(&self.error);
         }
         match self.connection.recv_datagram() {
             Some(payload) => Reply::Datagram(payload),
-            None => self.closed_or_waits(),
+            None => closed_or_waits(&self.error),
         }
     }
 
@@ -43,7 +43,7 @@ impl<S> StateInner<S> {
     {
         qh_book::datagrams_shown::<T>();
         qh_book::datagram_refusals_shown::<T>();
-        if let Some(error) = self.kept_error() {
+        if let Some(error) = kept_error(&self.error) {
             return Ok(Reply::ConnectionLost(error));
         }
         match self.connection.send_datagram(payload, !wait) {

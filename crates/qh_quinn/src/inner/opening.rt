@@ -6,7 +6,7 @@ ghost use Rattle.qh_quinn.specs.Calls.{CallsOf};
 ghost use Rattle.qh_quinn.specs.Readers.{HasRoom, new_reader, reader_in};
 ghost use Rattle.qh_quinn.specs.States.{IsState};
 
-use super::StateInner;
+use super::{StateInner, closed_or_waits, kept_error};
 use crate::readers::Readers;
 use qh_base::{Dir, Memory};
 use qh_book::Reply;
@@ -20,7 +20,7 @@ impl<S> StateInner<S> {
         if self.is_connected {
             return Reply::Done;
         }
-        self.closed_or_waits()
+        closed_or_waits(&self.error)
     }
 
     // Opens a stream: the kept error comes first.
@@ -32,11 +32,11 @@ impl<S> StateInner<S> {
         ensures rest { KeepsTurns self.old self.new }
     {
         qh_book::opens_shown::<T>();
-        if let Some(error) = self.kept_error() {
+        if let Some(error) = kept_error(&self.error) {
             return Ok(Reply::ConnectionLost(error));
         }
         self.readers.reserve()?;
-        let Some(handles) = self.handles_with(dir) else {
+        let Some(handles) = handles_with(self.handles, dir) else {
             return Err(Memory);
         };
         let Some(id) = self.connection.open(dir)? else {
@@ -57,28 +57,28 @@ impl<S> StateInner<S> {
     {
         qh_book::opens_shown::<T>();
         self.readers.reserve()?;
-        let Some(handles) = self.handles_with(dir) else {
+        let Some(handles) = handles_with(self.handles, dir) else {
             return Err(Memory);
         };
         if self.is_emptied() {
-            return Ok(self.closed_or_waits());
+            return Ok(closed_or_waits(&self.error));
         }
         let Some(id) = self.connection.accept(dir) else {
-            return Ok(self.closed_or_waits());
+            return Ok(closed_or_waits(&self.error));
         };
         self.handles = handles;
         self.readers.hold(id.0);
         Ok(Reply::Opened(id))
     }
+}
 
-    // How many handles there are with those of one more stream. None if they can't be counted.
-    fn handles_with(&self, dir: Dir) -> Option<u64>
-        ensures { IfSome result (λ n. n ≡ self.now.handles + handles_of dir) }
-    {
-        match dir {
-            Dir::Bi => self.handles.checked_add(2),
-            Dir::Uni => self.handles.checked_add(1),
-        }
+// How many handles there are with those of one more stream. None if they can't be counted.
+fn handles_with(handles: u64, dir: Dir) -> Option<u64>
+    ensures { IfSome result (λ n. n ≡ handles + handles_of dir) }
+{
+    match dir {
+        Dir::Bi => handles.checked_add(2),
+        Dir::Uni => handles.checked_add(1),
     }
 }
 

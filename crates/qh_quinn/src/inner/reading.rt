@@ -8,7 +8,7 @@ ghost use Rattle.qh_quinn.specs.Readers.{code_of, reader_in, with_reader};
 ghost use Rattle.qh_quinn.specs.States.{IsState};
 ghost use Rattle.qh_shown.specs.Connections.{is_wanting};
 
-use super::StateInner;
+use super::{StateInner, closed_or_waits, kept_error};
 use crate::readers::Reader;
 use bytes::Bytes;
 use qh_base::{Memory, StreamId, VarInt};
@@ -133,7 +133,7 @@ impl<S> StateInner<S> {
         ensures readers { (k : ℕ) → reader_in self.new.readers k ≡ (if k == id.0 then with_reader (if is_some self.old.error then record begun { gave_error = true } else begun) (reader_in self.old.readers k) else reader_in self.old.readers k) }
         ensures rest { self.new ≡ record self.old { readers = self.new.readers } }
     {
-        match self.kept_error() {
+        match kept_error(&self.error) {
             Some(error) => {
                 self.keep(id, begun.failed());
                 Reply::ConnectionLost(error)
@@ -173,7 +173,7 @@ impl<S> StateInner<S> {
             return Reply::IllegalOrderedRead;
         }
         self.keep(id, begun.failed());
-        self.closed_or_waits()
+        closed_or_waits(&self.error)
     }
 
     // Stops a stream that a handle holds.
@@ -256,7 +256,7 @@ impl<S> StateInner<S> {
             return Reply::Code(None);
         }
         if is_emptied {
-            return self.closed_or_waits();
+            return closed_or_waits(&self.error);
         }
         self.reset_open(id, reader)
     }
@@ -305,7 +305,7 @@ impl<S> StateInner<S> {
                 self.wake();
                 Reply::Code(Some(code))
             }
-            Ok(None) => self.closed_or_waits(),
+            Ok(None) => closed_or_waits(&self.error),
             // A half that is read isn't closed.
             Err(ClosedStream) => Reply::Code(None),
         }

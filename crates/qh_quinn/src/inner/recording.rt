@@ -16,7 +16,7 @@ ghost use Rattle.qh_handles.specs.declared.told.Told.{Told as AToldValue};
 ghost use Rattle.qh_quinn.specs.Acting.{IsMade, IsTelling, IsUnmade, KeepsTurns};
 ghost use Rattle.qh_quinn.specs.Kept.{HasHistory, IsLogTaken, IsTurnKeptIn};
 ghost use Rattle.qh_quinn.specs.Losses.{is_newly_lost, lost_items, new_loss};
-ghost use Rattle.qh_quinn.specs.Recording.{EndsOne, HasTold, IsLonger, IsUnused, TellsAt, again, items_kept, payload_of};
+ghost use Rattle.qh_quinn.specs.Recording.{EndsOne, EndsOneOf, HasTold, IsLonger, IsUnused, TellsAt, again, items_kept, payload_of};
 ghost use Rattle.qh_quinn.specs.States.{IsState};
 ghost use Rattle.qh_quinn.specs.Told.{IsValue, TellsOf};
 ghost use Rattle.qh_quinn.specs.Turning.{HasSentAll};
@@ -29,8 +29,9 @@ ghost use Rattle.qh_shown.specs.Connections.{is_wanting};
 ghost use Rattle.qh_shown.specs.Items.{item_of};
 ghost use Rattle.std.specs.Option.{option_map};
 
-use super::StateInner;
+use super::{StateInner, kept_error};
 use crate::history::{History, Room};
+use crate::readers::Readers;
 use futures::task::{Context, Poll};
 use qh_base::{ConnectionError, Memory, Moment};
 use qh_book::{Call, Getter, Reply};
@@ -130,7 +131,7 @@ where
         ensures heard { result ≡ polls.Pending → part.new.keeps_going ≡ false → HearsDriver self.new.driver cx.old cx.new }
         ensures kept_cx { Keeps cx.old cx.new }
     {
-        if self.room_for_turn(history).is_err() {
+        if room_for_turn(self.handles, history).is_err() {
             return Poll::Ready(Err(IoFault::Memory));
         }
         let before = self.standing();
@@ -154,7 +155,7 @@ where
         ensures free { EndsOne self.now call.now → IsOk result }
     {
         let bytes = self.payload_room(call);
-        let Some(more) = self.handles_then(call) else {
+        let Some(more) = handles_then(self.handles, &self.readers, call) else {
             return Err(Memory);
         };
         history.room(self.alloc, call, bytes, more as usize)
@@ -177,30 +178,6 @@ where
                 None => 0,
             },
             _ => 0,
-        }
-    }
-
-    // How many handles there are at most behind a call. None if they can't be counted.
-    fn handles_then(&self, call: &Call) -> Option<u64>
-        ensures ends { EndsOne self.now call.now → result ≡ Some (self.now.handles - 1) }
-        ensures other { (EndsOne self.now call.now → ⊥) → IfSome result (λ n. n ≡ self.now.handles + 2) }
-    {
-        if self.ends_one(call) {
-            return Some(self.handles - 1);
-        }
-        self.handles.checked_add(2)
-    }
-
-    // Whether a call ends a handle that there is.
-    fn ends_one(&self, call: &Call) -> bool
-        ensures yes { result ≡ true → EndsOne self.now call.now }
-        ensures some { result ≡ true → 0 < self.now.handles }
-        ensures no { result ≡ false → EndsOne self.now call.now → ⊥ }
-    {
-        match call {
-            Call::EndSend(_) | Call::EndHandle => self.handles > 0,
-            Call::EndRecv(id) => self.handles > 0 && self.readers.get(id.0).is_some(),
-            _ => false,
         }
     }
 
@@ -229,23 +206,6 @@ where
             Getter::HandshakeData => { Told::HandshakeData(connection.session().handshake_data()) }
             _ => return None,
         })
-    }
-
-    // Room for the entry of a turn, and for those of the ends of the handles that there are.
-    pub(crate) fn room_for_turn(
-        &self,
-        history: &mut History<Told<S::HandshakeData>>,
-    ) -> Result<(), Memory>
-        ensures same { history.new.entries.items ≡ history.old.entries.items }
-        ensures len { vec_len history.new.entries ≡ vec_len history.old.entries }
-        ensures kept { vec_capacity history.old.entries ≤ vec_capacity history.new.entries }
-        ensures room { OnOk result (vec_len history.new.entries + (1 + self.now.handles) ≤ vec_capacity history.new.entries) }
-    {
-        let Some(count) = self.handles.checked_add(1) else {
-            return Err(Memory);
-        };
-        history.entries.reserve(count as usize)?;
-        Ok(())
     }
 
     pub(crate) fn standing(&self) -> Standing
@@ -294,7 +254,7 @@ where
     {
         let has_failed = matches!(answer, Poll::Ready(Err(IoFault::Failed)));
         if has_failed || !before.is_lost || !before.is_emptied && self.is_emptied() {
-            return self.kept_error();
+            return kept_error(&self.error);
         }
         None
     }
@@ -312,8 +272,8 @@ where
         let mut history = History {
             entries: Vec::new(self.alloc),
         };
-        self.room_for_turn(&mut history)?;
-        let lost = self.kept_error();
+        room_for_turn(self.handles, &mut history)?;
+        let lost = kept_error(&self.error);
         let brought = match self.connection.take_log() {
             Some(entries) => entries,
             None => Vec::new(self.alloc),
@@ -333,4 +293,42 @@ fn turn_reply<T>(answer: &Poll<Result<(), IoFault>>) -> Reply<T>
         Poll::Ready(Err(IoFault::Failed)) => Reply::Failed,
         Poll::Ready(Err(_)) => Reply::Memory,
     }
+}
+
+// How many handles there are at most behind a call. None if they can't be counted.
+fn handles_then(handles: u64, readers: &Readers, call: &Call) -> Option<u64>
+    ensures ends { EndsOneOf handles readers.now call.now → result ≡ Some (handles - 1) }
+    ensures other { (EndsOneOf handles readers.now call.now → ⊥) → IfSome result (λ n. n ≡ handles + 2) }
+{
+    if ends_one(handles, readers, call) {
+        return Some(handles - 1);
+    }
+    handles.checked_add(2)
+}
+
+// Whether a call ends a handle that there is.
+fn ends_one(handles: u64, readers: &Readers, call: &Call) -> bool
+    ensures yes { result ≡ true → EndsOneOf handles readers.now call.now }
+    ensures some { result ≡ true → 0 < handles }
+    ensures no { result ≡ false → EndsOneOf handles readers.now call.now → ⊥ }
+{
+    match call {
+        Call::EndSend(_) | Call::EndHandle => handles > 0,
+        Call::EndRecv(id) => handles > 0 && readers.get(id.0).is_some(),
+        _ => false,
+    }
+}
+
+// Room for the entry of a turn, and for those of the ends of the handles that there are.
+fn room_for_turn<T: Drop>(handles: u64, history: &mut History<T>) -> Result<(), Memory>
+    ensures same { history.new.entries.items ≡ history.old.entries.items }
+    ensures len { vec_len history.new.entries ≡ vec_len history.old.entries }
+    ensures kept { vec_capacity history.old.entries ≤ vec_capacity history.new.entries }
+    ensures room { OnOk result (vec_len history.new.entries + (1 + handles) ≤ vec_capacity history.new.entries) }
+{
+    let Some(count) = handles.checked_add(1) else {
+        return Err(Memory);
+    };
+    history.entries.reserve(count as usize)?;
+    Ok(())
 }

@@ -13,7 +13,7 @@ ghost use Rattle.qh_quinn.specs.States.{IsState};
 ghost use Rattle.qh_quinn.specs.Told.{TellsOf};
 ghost use Rattle.qh_shown.specs.Connections.{is_wanting};
 
-use super::StateInner;
+use super::{StateInner, kept_error};
 use qh_base::{Dir, VarInt};
 use qh_book::{Getter, Reply, Setting};
 use qh_handles::Told;
@@ -34,7 +34,7 @@ where
         if data.is_some() {
             return Reply::Told(Told::HandshakeData(data));
         }
-        match self.kept_error() {
+        match kept_error(&self.error) {
             Some(error) => Reply::ConnectionLost(error),
             None => Reply::Pending,
         }

@@ -6,7 +6,7 @@ ghost use Rattle.qh_quinn.specs.Acting.{Answers, IsAnswered, KeepsTurns};
 ghost use Rattle.qh_quinn.specs.Calls.{CallsOf, IsCallOf, WakesIfChanged};
 ghost use Rattle.qh_quinn.specs.States.{IsState};
 
-use super::StateInner;
+use super::{StateInner, closed_or_waits, kept_error};
 use qh_base::{Memory, StreamId, VarInt};
 use qh_book::Reply;
 use qh_conn::{ClosedStream, FinishFault, WriteFault};
@@ -23,7 +23,7 @@ impl<S> StateInner<S> {
         qh_book::writes_shown::<T>();
         qh_book::refusals_shown::<T>();
         qh_book::untold_shown();
-        if let Some(error) = self.kept_error() {
+        if let Some(error) = kept_error(&self.error) {
             return Ok(Reply::ConnectionLost(error));
         }
         match self.connection.write(id, payload) {
@@ -91,10 +91,10 @@ impl<S> StateInner<S> {
     {
         qh_book::sends_told_shown::<T>();
         if self.is_emptied() {
-            return self.closed_or_waits();
+            return closed_or_waits(&self.error);
         }
         match self.connection.stopped(id) {
-            Ok(None) => self.closed_or_waits(),
+            Ok(None) => closed_or_waits(&self.error),
             Ok(Some(code)) => Reply::Code(Some(code)),
             Err(ClosedStream) => Reply::Code(None),
         }
