@@ -4,3 +4,4 @@ pub mod Moving
 pub mod Payload
 pub mod Pieces
 pub mod Skipping
+pub mod Typing

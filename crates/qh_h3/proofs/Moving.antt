@@ -18,7 +18,7 @@ pub or_false : (b : Bool) → b || false ≡ b
 or_false true = refl
 or_false false = refl
 
-or_assoc : (a b c : Bool) → (a || b) || c ≡ a || (b || c)
+pub or_assoc : (a b c : Bool) → (a || b) || c ≡ a || (b || c)
 or_assoc true b c = refl
 or_assoc false b c = refl
 
@@ -26,7 +26,7 @@ pub told_nothing : (t : Option Received) → told (reading nothing) t ≡ t
 told_nothing None = refl
 told_nothing (Some r) = λ i. Some (record r { bytes = append-nil r.bytes i; is_ended = or_false r.is_ended i })
 
-told_then : (t : Option Received) (a b : Taken) → told (reading b) (told (reading a) t) ≡ told (reading (then a b)) t
+pub told_then : (t : Option Received) (a b : Taken) → told (reading b) (told (reading a) t) ≡ told (reading (then a b)) t
 told_then None a b = refl
 told_then (Some r) a b = λ i. Some (record r { bytes = append_assoc r.bytes a.bytes b.bytes i; is_ended = or_assoc r.is_ended a.is_ended b.is_ended i })
 

@@ -1,5 +1,7 @@
 pub mod Buffers
+pub mod Closing
 pub mod Connections
+pub mod Control
 pub mod Counts
 pub mod Errors
 pub mod Faults
@@ -9,6 +11,8 @@ pub mod Framed
 pub mod Frames
 pub mod Front
 pub mod Known
+pub mod OwnErrors
 pub mod Polled
 pub mod Seats
 pub mod Streams
+pub mod Typed

@@ -1,22 +1,35 @@
 //! Errors of connections and of streams (h3, `error`).
-ghost use Rattle.std.specs.Prelude.{◌≡◌, ◌≢◌, None, Some};
+ghost use Rattle.std.specs.Prelude.{◌≡◌, ◌≢◌, ◌<◌, ◌^◌, None, Some};
 ghost use Rattle.qh_h3wire.specs.FrameFault.{code_of};
 ghost use Rattle.qh_h3.specs.Errors.{connection_error, ended_well, stream_ended_well};
 
 use crate::quic::{ConnectionErrorIncoming, OuterFault};
 use qh_base::{Code, Reason};
 use qh_h3wire::{FrameError, SettingsError};
+use std::marker::Model;
 
-/// A connection error that this end found, with the code of RFC 9114, section 8.1, or of RFC 9204, section 6.
+/// A connection error that this end found, with the code of RFC 9114, section 8.1, or of RFC 9204, section 6. The code is below 2^62.
 #[derive(Drop)]
 pub struct InternalConnectionError {
     pub code: Code,
     pub message: Reason,
 }
 
+impl Model for InternalConnectionError {
+    ghost use Rattle.std.specs.Prelude.{◌<◌, ◌^◌};
+    ghost use Rattle.qh_h3.specs.OwnErrors.{OwnError};
+
+    ghost Value = { OwnError };
+
+    ghost view = { λ e. record { code = e.code; message = e.message } };
+
+    ghost invariant = { λ e. e.code.0 < 2 ^ 62 };
+}
+
 impl InternalConnectionError {
     /// A connection error with this code and message.
     pub fn new(code: Code, message: Reason) -> InternalConnectionError
+        requires { code.0 < 2 ^ 62 }
         ensures { result ≡ record { code = code; message = message } }
     {
         InternalConnectionError { code, message }

@@ -1,11 +1,13 @@
 ghost use Rattle.std.specs.Prelude.{◌≡◌, ◌<◌, ◌+◌, ◌↔◌, ◌++◌, [], IfErr, IfOk, IsTrue, OnOk, None, Ok, false, true, length};
 ghost use Rattle.qh_h3.specs.Buffers.{IsLook, held_of, left_by};
+ghost use Rattle.qh_h3.specs.Typed.{IsNumberLook};
 ghost use Rattle.qh_h3.specs.declared.frame.error.FrameStreamError.TheVariants.{Memory as Wanting};
 
 use crate::FrameStreamError;
-use crate::frame::find::{find, payload_left};
+use crate::frame::find::{find, next_number, payload_left};
 use crate::frame::front::Front;
 use bytes::Bytes;
+use qh_base::VarInt;
 use qh_h3wire::Frame;
 use std::alloc::{AllocError, Global};
 use std::mem;
@@ -83,6 +85,17 @@ impl Buffer {
         let found = find(alloc, &mut self.front, of_body)?;
         self.left = left_behind(&found);
         Ok(found)
+    }
+
+    // Reads the number in front of what is held. None if it isn't whole yet.
+    pub(crate) fn number(&mut self, alloc: Global) -> Result<Option<VarInt>, FrameStreamError>
+        ensures look { IsNumberLook result (held_of self.old) (held_of self.new) }
+        ensures one { result ≡ Ok None → self.new.more ≡ [] }
+    {
+        if self.join(alloc).is_err() {
+            return Err(FrameStreamError::Memory);
+        }
+        Ok(next_number(&mut self.front))
     }
 
     // Sees to it that nothing is held behind an empty front.

@@ -1,9 +1,11 @@
 ghost use Rattle.std.specs.Prelude.{◌≡◌, ◌<◌, length};
 ghost use Rattle.qh_h3.specs.Finding.{IsFound, IsStep, is_passed, is_short as short, is_unknown as unknown, left_of};
+ghost use Rattle.qh_h3.specs.Typed.{IsNumber};
 ghost use Rattle.qh_h3.specs.declared.frame.find.Step.TheVariants as steps;
 
 use crate::FrameStreamError;
 use crate::frame::front::Front;
+use qh_base::{VarInt, get_varint};
 use qh_h3wire::{Frame, FrameError};
 use std::alloc::Global;
 
@@ -97,5 +99,18 @@ pub(crate) fn find(
             Step::Short => return Ok(None),
             Step::Halted(error) => return Err(error),
         }
+    }
+}
+
+// Reads the number in front, and uses it up. None if it isn't whole yet.
+pub(crate) fn next_number(held: &mut Front) -> Option<VarInt>
+    ensures { IsNumber result held.old held.new }
+{
+    match get_varint(held.as_slice()) {
+        Some((number, used)) => {
+            held.advance(used);
+            Some(number)
+        }
+        None => None,
     }
 }

@@ -3,12 +3,14 @@ ghost use Rattle.futures.specs.Poll.{OnPending};
 ghost use Rattle.futures.specs.Task.{IsArmed, Keeps};
 ghost use Rattle.qh_h3.specs.Buffers.{IsAtEnd, IsFilled, held_of};
 ghost use Rattle.qh_h3.specs.Frames.{IsData, IsNext, IsPiece};
+ghost use Rattle.qh_h3.specs.Typed.{IsTyped};
 
 use crate::FrameStreamError;
 use crate::frame::buffer::Buffer;
 use crate::quic::RecvStream;
 use bytes::Bytes;
 use futures::task::{Context, Poll};
+use qh_base::VarInt;
 use qh_h3wire::Frame;
 use std::alloc::Global;
 
@@ -55,6 +57,40 @@ fn at_end(buffer: &Buffer) -> Result<Option<Frame>, FrameStreamError>
         Ok(None)
     } else {
         Err(FrameStreamError::UnexpectedEnd)
+    }
+}
+
+// Looks for the number with which a stream begins, and takes at most as many pieces as the budget has, which it lowers by each. None if the stream ends
+// inside of it.
+pub(crate) fn poll_number<R: RecvStream>(
+    stream: &mut R,
+    buffer: &mut Buffer,
+    at: &mut R::At,
+    alloc: Global,
+    budget: &mut u32,
+    cx: &mut Context<'_>,
+) -> Poll<Result<Option<VarInt>, FrameStreamError>>
+    ensures typed { IsTyped result budget.old budget.new (R.received stream.old at.old) (R.received stream.new at.new) (R.counts stream.old at.old) (R.counts stream.new at.new) (held_of buffer.old) (held_of buffer.new) }
+    ensures sent { R.sent stream.new at.new ≡ R.sent stream.old at.old }
+    ensures id { R.id stream.new ≡ R.id stream.old }
+    ensures armed { OnPending result (IsArmed cx.new) }
+    ensures kept { Keeps cx.old cx.new }
+{
+    loop {
+        match buffer.number(alloc) {
+            Err(e) => return Poll::Ready(Err(e)),
+            Ok(Some(number)) => return Poll::Ready(Ok(Some(number))),
+            Ok(None) => {}
+        }
+        if *budget == 0 {
+            return cx.yield_now();
+        }
+        match take_piece(stream, buffer, at, alloc, cx) {
+            Poll::Pending => return Poll::Pending,
+            Poll::Ready(Err(e)) => return Poll::Ready(Err(e)),
+            Poll::Ready(Ok(false)) => return Poll::Ready(Ok(None)),
+            Poll::Ready(Ok(true)) => *budget -= 1,
+        }
     }
 }
 

@@ -1,0 +1,6 @@
+//! The connection of HTTP/3 over any QUIC (h3, `connection.rs`).
+mod closable;
+mod control;
+mod raw;
+
+pub use raw::{close_raw_connection_with_h3_error, handle_quic_error_raw};
