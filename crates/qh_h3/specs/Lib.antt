@@ -3,6 +3,7 @@ pub mod Closing
 pub mod Connections
 pub mod Control
 pub mod Counts
+pub mod Drained
 pub mod Errors
 pub mod Faults
 pub mod Finding
@@ -10,7 +11,9 @@ pub mod Flag
 pub mod Framed
 pub mod Frames
 pub mod Front
+pub mod Goaway
 pub mod Known
+pub mod OneWay
 pub mod OwnErrors
 pub mod Polled
 pub mod Seats

@@ -4,10 +4,11 @@ ghost use Rattle.futures.specs.Task.{IsArmed, Keeps};
 ghost use Rattle.qh_h3.specs.Counts.{counted, counted_poll};
 ghost use Rattle.qh_h3.specs.Frames.{IsData, IsNext};
 ghost use Rattle.qh_h3.specs.Typed.{IsTyped};
+ghost use Rattle.qh_h3.specs.Drained.{IsDrained};
 ghost use Rattle.qh_h3.specs.Streams.{IsReady, WaitsForNothing, finished_by, given_by, if_done, resetting, stopping};
 
 use crate::frame::buffer::Buffer;
-use crate::frame::poll::{poll_frame, poll_number, poll_payload};
+use crate::frame::poll::{poll_drained, poll_frame, poll_number, poll_payload};
 use crate::quic::{BidiStream, RecvStream, SendStream, Stream, StreamErrorIncoming};
 use bytes::Bytes;
 use futures::task::{Context, Poll};
@@ -150,6 +151,23 @@ impl<R: RecvStream> FrameStream<R> {
         ensures kept { Keeps cx.old cx.new }
     {
         poll_number(&mut self.stream, &mut self.buffer, at, alloc, budget, cx)
+    }
+
+    // Drops what comes, up to the end of the stream. The budget is lowered by each piece that is taken.
+    pub(crate) fn poll_end(
+        &mut self,
+        at: &mut R::At,
+        alloc: Global,
+        budget: &mut u32,
+        cx: &mut Context<'_>,
+    ) -> Poll<Result<(), FrameStreamError>>
+        ensures drained { IsDrained result budget.old budget.new (R.received self.old.stream at.old) (R.received self.new.stream at.new) (R.counts self.old.stream at.old) (R.counts self.new.stream at.new) self.old.held self.new.held }
+        ensures sent { R.sent self.new.stream at.new ≡ R.sent self.old.stream at.old }
+        ensures id { R.id self.new.stream ≡ R.id self.old.stream }
+        ensures armed { OnPending result (IsArmed cx.new) }
+        ensures kept { Keeps cx.old cx.new }
+    {
+        poll_drained(&mut self.stream, &mut self.buffer, at, alloc, budget, cx)
     }
 
     /// The next piece of the payload of the DATA frame at hand, of at least one byte, or None if none of it is left.

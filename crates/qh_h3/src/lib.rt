@@ -9,7 +9,7 @@ pub mod quic;
 mod shared_state;
 
 pub use close_stream::CloseStream;
-pub use connection::{close_raw_connection_with_h3_error, handle_quic_error_raw};
+pub use connection::{close_raw_connection_with_h3_error, goaway_id, handle_quic_error_raw};
 pub use error::{ConnectionError, ErrorOrigin, InternalConnectionError, LocalError, StreamError};
 pub use frame::{FrameStream, FrameStreamError};
 pub use shared_state::{ConnectionState, SharedState, StateSeat};

@@ -108,6 +108,15 @@ impl Buffer {
         }
     }
 
+    // Drops what is held.
+    pub(crate) fn clear(&mut self)
+        ensures held { held_of self.new ≡ record { bytes = []; left = self.old.left; is_ended = self.old.is_ended } }
+        ensures more { self.new.more ≡ [] }
+    {
+        self.front = Front::new();
+        self.more = Bytes::new();
+    }
+
     // Hands out what is held of the payload, up to the end of its first piece.
     pub(crate) fn cut(&mut self) -> Result<Bytes, FrameStreamError>
         requires held { 0 < length self.old.front }

@@ -2,6 +2,7 @@ ghost use Rattle.std.specs.Prelude.{◌≡◌, ◌≤◌, [], length};
 ghost use Rattle.futures.specs.Poll.{OnPending};
 ghost use Rattle.futures.specs.Task.{IsArmed, Keeps};
 ghost use Rattle.qh_h3.specs.Buffers.{IsAtEnd, IsFilled, held_of};
+ghost use Rattle.qh_h3.specs.Drained.{IsDrained};
 ghost use Rattle.qh_h3.specs.Frames.{IsData, IsNext, IsPiece};
 ghost use Rattle.qh_h3.specs.Typed.{IsTyped};
 
@@ -90,6 +91,38 @@ pub(crate) fn poll_number<R: RecvStream>(
             Poll::Ready(Err(e)) => return Poll::Ready(Err(e)),
             Poll::Ready(Ok(false)) => return Poll::Ready(Ok(None)),
             Poll::Ready(Ok(true)) => *budget -= 1,
+        }
+    }
+}
+
+// Drops what is held and what comes, up to the end of the stream, and takes at most as many pieces as the budget has, which it lowers by each.
+pub(crate) fn poll_drained<R: RecvStream>(
+    stream: &mut R,
+    buffer: &mut Buffer,
+    at: &mut R::At,
+    alloc: Global,
+    budget: &mut u32,
+    cx: &mut Context<'_>,
+) -> Poll<Result<(), FrameStreamError>>
+    ensures drained { IsDrained result budget.old budget.new (R.received stream.old at.old) (R.received stream.new at.new) (R.counts stream.old at.old) (R.counts stream.new at.new) (held_of buffer.old) (held_of buffer.new) }
+    ensures sent { R.sent stream.new at.new ≡ R.sent stream.old at.old }
+    ensures id { R.id stream.new ≡ R.id stream.old }
+    ensures armed { OnPending result (IsArmed cx.new) }
+    ensures kept { Keeps cx.old cx.new }
+{
+    buffer.clear();
+    loop {
+        if *budget == 0 {
+            return cx.yield_now();
+        }
+        match take_piece(stream, buffer, at, alloc, cx) {
+            Poll::Pending => return Poll::Pending,
+            Poll::Ready(Err(e)) => return Poll::Ready(Err(e)),
+            Poll::Ready(Ok(false)) => return Poll::Ready(Ok(())),
+            Poll::Ready(Ok(true)) => {
+                buffer.clear();
+                *budget -= 1;
+            }
         }
     }
 }
