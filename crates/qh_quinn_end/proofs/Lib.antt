@@ -1,0 +1,4 @@
+mod Bringing
+mod Lost
+mod Segments
+mod Sets

@@ -1,0 +1,3 @@
+pub mod Manual
+pub mod Receiving
+pub mod Sets
