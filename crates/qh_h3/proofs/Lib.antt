@@ -1,3 +1,4 @@
+pub mod Coded
 pub mod Draining
 pub mod Flags
 pub mod Found

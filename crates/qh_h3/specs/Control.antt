@@ -1,5 +1,7 @@
 -- What a control stream may bring (RFC 9114, sections 6.2.1 and 7.2).
 use Rattle.std.specs.Prelude.{◌≡◌, ℕ, Bool, true, false, Option, Some, None, Result, Ok, Err}
+use Rattle.futures.specs.declared.task.Poll.{Poll}
+use Rattle.futures.specs.declared.task.Poll.TheVariants.{Ready, Pending}
 use Rattle.qh_base.specs.declared.code.Code.{Code}
 use Rattle.qh_spec.specs.Codes as codes
 use Rattle.qh_h3wire.specs.FrameFault.{code_of}
@@ -62,3 +64,10 @@ HasItsCode other = Unit {0}
 abbrev pub is_settings : Frame → Bool
 is_settings (frames.Settings s) = true
 is_settings f = false
+
+-- the same of a call that may have to wait
+abbrev pub IsJudged : (had_settings : Bool) → Poll (Result (Option Frame) FrameStreamError) → Poll (Result Frame ErrorOrigin) → Type 0
+IsJudged had_settings (Ready r) (Ready x) = IsControl had_settings r x
+IsJudged had_settings (Ready r) Pending = ⊥
+IsJudged had_settings Pending (Ready x) = ⊥
+IsJudged had_settings Pending Pending = Unit {0}

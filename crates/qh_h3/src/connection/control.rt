@@ -1,12 +1,20 @@
 //! What a control stream may bring (RFC 9114, sections 6.2.1 and 7.2).
-ghost use Rattle.std.specs.Prelude.{◌≡◌, ◌<◌, ◌^◌, Ok, Some};
-ghost use Rattle.qh_h3.specs.Control.{HasCode, HasItsCode, IsControl, IsCritical, is_settings as settings};
+ghost use Rattle.std.specs.Prelude.{◌≡◌, ◌<◌, ◌^◌, ℕ, Option, Result, Ok, Some, false};
+ghost use Rattle.futures.specs.Poll.{OnPending};
+ghost use Rattle.futures.specs.Task.{IsArmed, Keeps};
+ghost use Rattle.futures.specs.declared.task.Poll.{Poll};
+ghost use Rattle.qh_h3wire.specs.declared.frame.Frame.{Frame as AFrame};
+ghost use Rattle.qh_h3.specs.Frames.{IsNext};
+ghost use Rattle.qh_h3.specs.declared.frame.error.FrameStreamError.{FrameStreamError as FrameFault};
+ghost use Rattle.qh_h3.specs.Control.{HasCode, HasItsCode, IsControl, IsCritical, IsJudged, is_settings as settings};
 
 use crate::error::{ErrorOrigin, InternalConnectionError};
-use crate::frame::FrameStreamError;
-use crate::quic::{ConnectionErrorIncoming, StreamErrorIncoming};
+use crate::frame::{FrameStream, FrameStreamError};
+use crate::quic::{ConnectionErrorIncoming, RecvStream, StreamErrorIncoming};
+use futures::task::{Context, Poll};
 use qh_base::{Code, Reason};
 use qh_h3wire::Frame;
+use std::alloc::Global;
 
 // What the next frame of a control stream means: a frame that may come, or why the connection ends. Want of memory ends nothing.
 pub(crate) fn judge(
@@ -28,6 +36,28 @@ pub(crate) fn judge(
         )),
         Err(FrameStreamError::Quic(error)) => Err(critical(error)),
         Err(FrameStreamError::Memory) => { Err(ErrorOrigin::Quic(ConnectionErrorIncoming::Memory)) }
+    }
+}
+
+// The next frame of the peer's control stream, or why the connection ends.
+pub(crate) fn poll_judged<S: RecvStream>(
+    stream: &mut FrameStream<S>,
+    at: &mut S::At,
+    alloc: Global,
+    had_settings: bool,
+    cx: &mut Context<'_>,
+) -> Poll<Result<Frame, ErrorOrigin>>
+    requires { stream.old.held.left ≡ 0 }
+    ensures judged { (found : Poll (Result (Option AFrame) FrameFault)) × (spared : ℕ) × IsJudged had_settings found result
+        × IsNext false found 65536 spared (S.received stream.old.stream at.old) (S.received stream.new.stream at.new) (S.counts stream.old.stream at.old) (S.counts stream.new.stream at.new) stream.old.held stream.new.held }
+    ensures sent { S.sent stream.new.stream at.new ≡ S.sent stream.old.stream at.old }
+    ensures id { S.id stream.new.stream ≡ S.id stream.old.stream }
+    ensures armed { OnPending result (IsArmed cx.new) }
+    ensures kept { Keeps cx.old cx.new }
+{
+    match stream.poll_next(at, alloc, cx) {
+        Poll::Pending => Poll::Pending,
+        Poll::Ready(found) => Poll::Ready(judge(had_settings, found)),
     }
 }
 
