@@ -79,7 +79,7 @@ impl ManualRuntime {
         })
     }
 
-    /// Sets the time, and wakes each task that waits for a timer.
+    /// Sets the time, also to an earlier one, and wakes each task that waits for a timer.
     pub fn set_now(&mut self, now: Moment)
         ensures { self.new ≡ record self.old { now = now } }
     {

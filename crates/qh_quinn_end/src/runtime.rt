@@ -41,7 +41,7 @@ pub trait Runtime: Drop {
         ensures cause { CountsFaults (faults self.old) (faults self.new) (has_failed result) }
         ensures errors { IfErr result IsNeither };
 
-    /// The time now. It never goes back.
+    /// The time now.
     fn now(&mut self) -> Moment
         ensures { faults self.new ≡ faults self.old };
 }
